@@ -1,0 +1,12 @@
+pub mod GraphLines
+pub mod LabelList
+pub mod NearestNode
+pub mod PlantedExactly
+pub mod PlantedNodes
+pub mod SixWords
+pub mod TreeEnds
+pub mod TreeFacts
+pub mod TreeRelax
+pub mod TreeRounds
+pub mod TreeSettle
+pub mod TreeSize

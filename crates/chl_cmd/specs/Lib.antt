@@ -1,0 +1,7 @@
+pub mod GraphReading
+pub mod Outcome
+pub mod PlainGraph
+pub mod PrintedRows
+pub mod Statuses
+pub mod Tree
+pub mod Words

@@ -1,0 +1,62 @@
+use super::*;
+use std::alloc::AllocError;
+use std::test::Fail;
+use std::{fs, process};
+
+/// A feed that keeps what it is handed.
+#[derive(Drop)]
+struct Kept {
+    bytes: Vec<u8>,
+}
+
+impl Feed for Kept {
+    type Fault = AllocError;
+
+    ghost feed_gives = { λ _ _ _ _. Unit {0} };
+
+    fn feed(&mut self, piece: &[u8]) -> Result<(), AllocError> {
+        self.bytes.extend_from_slice(piece)
+    }
+}
+
+#[test]
+fn a_real_file_is_read(rt: HostRuntime) -> Result<(), Fail> {
+    let name = format!(in rt.alloc(); "/tmp/desk_io_{}", process::id(rt.process()))?;
+    fs::write(&rt, name.as_str(), "abc")?;
+    let mut desk = RealDesk::new(&rt, rt.alloc());
+    desk.open_in(name.as_str())?;
+    let mut buf = [0; 8];
+    assert_eq!(rt; desk.read(&mut buf)?, 3);
+    assert_eq!(rt; buf.as_slice(), [97, 98, 99, 0, 0, 0, 0, 0].as_slice());
+    assert_eq!(rt; desk.read(&mut buf)?, 0);
+    fs::remove_file(&rt, name.as_str())?;
+    assert_eq!(rt; desk.open_in(name.as_str()), Err(DeskFault::Failed));
+    assert_eq!(rt; desk.faults(), (1, 0));
+    Ok(())
+}
+
+#[test]
+fn a_desk_in_memory_bites_and_fails(rt: HostRuntime) -> Result<(), Fail> {
+    let alloc = rt.alloc();
+    let fails = [(Call::Read, 7), (Call::Say, 2)].to_vec(alloc)?;
+    let mut desk = MemDesk::new(alloc, 1, fails)?;
+    desk.put_file("a", b"nets")?;
+    let mut kept = Kept {
+        bytes: Vec::new(alloc),
+    };
+    desk.open_in("a")?;
+    assert_eq!(rt; read_all_into(&mut desk, &mut kept), Ok(()));
+    assert_eq!(rt; kept.bytes.as_slice(), b"nets".as_slice());
+    desk.open_in("a")?;
+    assert_eq!(rt; read_all_into(&mut desk, &mut kept), Err(ReadEnd::Failed));
+    assert_eq!(rt; kept.bytes.as_slice(), b"netsn".as_slice());
+    assert_eq!(rt;
+        write_all(&mut desk, Out::Said, b"ok"),
+        Err(DeskFault::Failed)
+    );
+    assert_eq!(rt; desk.said(), b"o".as_slice());
+    assert_eq!(rt; write_all(&mut desk, Out::Said, b"ok"), Ok(()));
+    assert_eq!(rt; desk.said(), b"ook".as_slice());
+    assert_eq!(rt; desk.faults(), (1, 1));
+    Ok(())
+}

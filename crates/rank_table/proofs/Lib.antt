@@ -1,0 +1,3 @@
+pub mod OrderLines
+pub mod SeenNodes
+pub mod WholeText

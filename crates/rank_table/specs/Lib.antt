@@ -1,0 +1,3 @@
+pub mod PlainOrder
+pub mod Reading
+pub mod Table

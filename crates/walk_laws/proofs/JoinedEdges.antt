@@ -1,0 +1,56 @@
+-- What a join tells of its nodes and its weight.
+use Rattle.std.specs.Prelude.{ℕ, ◌<◌, ◌≤◌, ◌↔◌, List, [], ◌∷◌, All, Contains, length}
+use Rattle.std.proofs.Common.{inl, inr, arith, ap, get_or, zero, suc}
+use Rattle.std.proofs.lemmas.List.Elements.{All-contains, All-weaker, Contains-get_or}
+use Rattle.walk_laws.specs.declared.graph.Edge.{Edge}
+use Rattle.walk_laws.specs.declared.graph.Arc.{Arc}
+use Rattle.walk_laws.specs.Graph.{IsEdge, greatest_weight}
+use Rattle.walk_laws.specs.Joined.{Joined}
+
+pub Joined-sym : (edges : List Edge) (x y w : ℕ) → Joined edges x y w → Joined edges y x w
+Joined-sym edges x y w h = elim h [ inl one_way ↦ inr one_way | inr other_way ↦ inl other_way ]
+
+-- both ends of a join are nodes, and its weight is at least 1
+pub IsEdge-joined : (n : ℕ) (edges : List Edge) (x y w : ℕ) → All (IsEdge n) edges → Joined edges x y w → IsEdge n (record { u = x; v = y; w = w })
+IsEdge-joined n edges x y w all h =
+    elim h [
+      | inl one_way ↦ All-contains (IsEdge n) edges (record { u = x; v = y; w = w }) all one_way
+      | inr other_way ↦
+          let back = All-contains (IsEdge n) edges (record { u = y; v = x; w = w }) all other_way in
+          record { from_one = back.to_one; up_to_n = back.to_n; to_one = back.from_one; to_n = back.up_to_n; weight = back.weight }
+    ]
+
+-- no edge is heavier than the heaviest
+le_greatest_weight : (edges : List Edge) (k : ℕ) (d : Edge) → k < length edges → (get_or edges k d).w ≤ greatest_weight edges
+le_greatest_weight [] k d lt = absurd (omega arith)
+le_greatest_weight (e ∷ edges) zero d lt = omega arith
+le_greatest_weight (e ∷ edges) (suc k) d lt = omega (arith, le_greatest_weight edges k d (omega arith))
+
+weight_of_contained : (edges : List Edge) (e : Edge) → Contains edges e → e.w ≤ greatest_weight edges
+weight_of_contained edges e h =
+    omega (arith, le_greatest_weight edges h.0 e h.1, ap (λ (x : Edge). x.w) h.2)
+
+pub Joined-weight : (edges : List Edge) (x y w : ℕ) → Joined edges x y w → w ≤ greatest_weight edges
+Joined-weight edges x y w h =
+    elim h [
+      | inl one_way ↦ weight_of_contained edges (record { u = x; v = y; w = w }) one_way
+      | inr other_way ↦ weight_of_contained edges (record { u = y; v = x; w = w }) other_way
+    ]
+
+-- each arc of a row, by the clause `joined` of `arcs`, is an edge between nodes
+pub All-arcs : (n : ℕ) (edges : List Edge) (v : ℕ) (row : List Arc) → All (IsEdge n) edges → ((t w : ℕ) → Contains row (record { to = t; w = w }) ↔ Joined edges v t w) → All (λ a. IsEdge n (record { u = v; v = a.to; w = a.w })) row
+All-arcs n edges v row all joined k d lt =
+    let a = get_or row k d in
+    IsEdge-joined n edges v a.to a.w all ((joined a.to a.w).0 (Contains-get_or row k d lt))
+
+-- where each edge weighs at least 1, so does each join
+pub Joined-positive : (edges : List Edge) → All (λ e. 1 ≤ e.w) edges → (x y w : ℕ) → Joined edges x y w → 1 ≤ w
+Joined-positive edges all x y w h =
+    elim h [
+      | inl one_way ↦ All-contains (λ e. 1 ≤ e.w) edges (record { u = x; v = y; w = w }) all one_way
+      | inr other_way ↦ All-contains (λ e. 1 ≤ e.w) edges (record { u = y; v = x; w = w }) all other_way
+    ]
+
+-- edges between nodes weigh at least 1
+pub weights_of_edges : (n : ℕ) (edges : List Edge) → All (IsEdge n) edges → All (λ e. 1 ≤ e.w) edges
+weights_of_edges n edges all = All-weaker (IsEdge n) (λ e. 1 ≤ e.w) (λ e h. h.weight) edges all

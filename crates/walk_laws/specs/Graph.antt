@@ -1,0 +1,35 @@
+-- A weighted undirected graph, as the shortest path files of the ninth DIMACS challenge have it.
+use Rattle.std.specs.Prelude.{ℕ, ◌*◌, ◌^◌, ◌<◌, ◌≤◌, ◌==◌, List, [], ◌∷◌, ◌++◌, All, max, if◌then◌else◌}
+use Rattle.walk_laws.specs.declared.graph.Edge.{Edge}
+use Rattle.walk_laws.specs.declared.graph.Arc.{Arc}
+
+-- a number of nodes, which are 1..n, and a list of edges
+pub record WeightedGraph : Type 0 where
+  pub n : ℕ
+  pub edges : List Edge
+
+-- the greatest weight of an edge, 0 without edges
+abbrev pub greatest_weight : List Edge → ℕ
+greatest_weight [] = 0
+greatest_weight (e ∷ edges) = max e.w (greatest_weight edges)
+
+-- both ends of an edge are nodes, and its weight is at least 1
+pub record IsEdge (n : ℕ) (e : Edge) : Type 0 where
+  pub from_one : 1 ≤ e.u
+  pub up_to_n : e.u ≤ n
+  pub to_one : 1 ≤ e.v
+  pub to_n : e.v ≤ n
+  pub weight : 1 ≤ e.w
+
+-- at most 2^30 nodes, edges between nodes, and no shortest walk as long as 2^62
+pub record IsGraph (n : ℕ) (edges : List Edge) : Type 0 where
+  pub small : n ≤ 2 ^ 30
+  pub edge : All (IsEdge n) edges
+  pub fits : n * greatest_weight edges < 2 ^ 62
+
+-- the arcs at a node, in the order of the list: each edge once for each of its ends that is the node
+abbrev pub arcs_at : List Edge → ℕ → List Arc
+arcs_at [] v = []
+arcs_at (e ∷ edges) v =
+    (if e.u == v then record { to = e.v; w = e.w } ∷ [] else [])
+    ++ ((if e.v == v then record { to = e.u; w = e.w } ∷ [] else []) ++ arcs_at edges v)

@@ -1,0 +1,16 @@
+pub mod Graph
+pub mod Joined
+pub mod Ranking
+pub mod Rows
+pub mod Halves
+pub mod Walk
+pub mod Least
+pub mod On
+pub mod Canonical
+pub mod Top
+pub mod Labelling
+pub mod Answer
+pub mod Cover
+pub mod Meet
+pub mod Laws
+pub mod Worked

@@ -1,0 +1,133 @@
+ghost use Rattle.std.specs.Prelude.{◌≡◌, ℕ, ◌≤◌, ◌==◌, filter, map, Contains, ◌↔◌, IfOk};
+ghost use Rattle.std.specs.List.Sorted.{IsNonDecreasing};
+
+use crate::halves::{arcs_of, halves_of, sort_halves, starts_of};
+use std::alloc::{AllocError, Global};
+use std::marker::Model;
+
+/// An edge between the nodes `u` and `v`, which are numbers from 1, of weight `w`. It is walked both ways.
+#[derive(Clone, Copy, Debug, PartialEq, Eq)]
+pub struct Edge {
+    pub u: u32,
+    pub v: u32,
+    pub w: u64,
+}
+
+/// An edge as it is seen from one of its ends: the node at the other, a number from 1, and the weight.
+#[derive(Clone, Copy, Debug, PartialEq, Eq)]
+pub struct Arc {
+    pub to: u32,
+    pub w: u64,
+}
+
+/// A weighted undirected graph with nodes 1..n. It may have parallel edges and self-loops.
+#[derive(Debug, Drop)]
+pub struct Graph {
+    n: u32,
+    edges: Vec<Edge>,
+    /// The arcs of all nodes, by rising node and then by rising neighbour.
+    arcs: Vec<Arc>,
+    /// Where the arcs of each node begin; the arcs of `v` are those from `starts[v - 1]` up to `starts[v]`.
+    starts: Vec<usize>,
+}
+
+impl Model for Graph {
+    ghost use Rattle.std.specs.Prelude.{ℕ};
+    ghost use Rattle.walk_laws.specs.Graph.{WeightedGraph};
+    ghost use Rattle.walk_laws.specs.Rows.{IsStored};
+
+    ghost Value = { WeightedGraph };
+
+    ghost view = { λ g. record { n = g.n; edges = g.edges.items } };
+
+    ghost invariant = { λ g. IsStored g.n g.edges.items g.arcs.items g.starts.items };
+}
+
+impl Graph {
+    ghost use Rattle.walk_laws.specs.Graph.{IsGraph, arcs_at};
+    ghost use Rattle.walk_laws.specs.Joined.{Joined};
+
+    /// The graph with nodes 1..n and these edges. It sorts their halves once, in O(n + m log m) for m edges.
+    /// The only error is that memory ran out.
+    pub fn new(alloc: Global, n: u32, edges: Vec<Edge>) -> Result<Graph, AllocError>
+        requires { IsGraph n edges.items }
+        ensures n { IfOk result (λ g. g.n ≡ n) }
+        ensures edges { IfOk result (λ g. g.edges ≡ edges.items) }
+    {
+        let mut halves = halves_of(alloc, &edges)?;
+        sort_halves(&mut halves)?;
+        let starts = starts_of(alloc, n, &halves)?;
+        let arcs = arcs_of(alloc, &halves)?;
+        Ok(Graph {
+            n,
+            edges,
+            arcs,
+            starts,
+        })
+    }
+
+    /// How many nodes there are.
+    pub fn n(&self) -> u32
+        ensures value { result ≡ self.now.n }
+        ensures graph { IsGraph self.now.n self.now.edges }
+    {
+        self.n
+    }
+
+    /// The arcs at the node `v`, by rising neighbour; parallel ones stand in the order of the edges.
+    /// It is a slice of what `new` sorted, in O(1). A self-loop stands there twice, once for each of its ends.
+    pub fn arcs(&self, v: u32) -> &[Arc]
+        requires node { 1 ≤ v }
+        requires within { v ≤ self.now.n }
+        ensures rising { IsNonDecreasing (map (λ a. a.to) result.now) }
+        ensures each { (t : ℕ) → filter (λ a. a.to == t) result.now ≡ filter (λ a. a.to == t) (arcs_at self.now.edges v) }
+        ensures joined { (t w : ℕ) → Contains result.now (record { to = t; w = w }) ↔ Joined self.now.edges v t w }
+    {
+        let v = v as usize;
+        &self.arcs[self.starts[v - 1]..self.starts[v]]
+    }
+
+    /// The edges, in the order in which they were given.
+    pub fn edges(&self) -> &[Edge]
+        ensures value { result.now ≡ self.now.edges }
+        ensures graph { IsGraph self.now.n self.now.edges }
+    {
+        self.edges.as_slice()
+    }
+}
+
+#[cfg(test)]
+mod tests {
+    use super::*;
+    use std::test::Fail;
+
+    #[test]
+    fn arcs_of_a_small_graph(rt: HostRuntime) -> Result<(), Fail> {
+        let edges = vec![in rt.alloc();
+            Edge { u: 1, v: 2, w: 5 },
+            Edge { u: 2, v: 1, w: 3 },
+            Edge { u: 2, v: 2, w: 7 },
+            Edge { u: 3, v: 2, w: 1 },
+        ]?;
+        let graph = Graph::new(rt.alloc(), 3, edges)?;
+        assert_eq!(rt; graph.n(), 3);
+        assert_eq!(rt; graph.edges().len(), 4);
+        assert_eq!(rt;
+            graph.arcs(1),
+            [Arc { to: 2, w: 5 }, Arc { to: 2, w: 3 }].as_slice()
+        );
+        assert_eq!(rt;
+            graph.arcs(2),
+            [
+                Arc { to: 1, w: 5 },
+                Arc { to: 1, w: 3 },
+                Arc { to: 2, w: 7 },
+                Arc { to: 2, w: 7 },
+                Arc { to: 3, w: 1 }
+            ]
+            .as_slice()
+        );
+        assert_eq!(rt; graph.arcs(3), [Arc { to: 2, w: 1 }].as_slice());
+        Ok(())
+    }
+}

@@ -1,0 +1,81 @@
+ghost use Rattle.std.specs.Prelude.{map, ◌≡◌, ℕ, ◌+◌, ◌<◌, ◌≤◌, IfOk, OnOk, length, slice_index, vec_len, ◌^◌};
+ghost use Rattle.std.specs.List.{AllWithin};
+ghost use Rattle.std.specs.List.Sorted.{IsNonDecreasingBy};
+ghost use Rattle.walk_laws.specs.Graph.{arcs_at};
+ghost use Rattle.walk_laws.specs.Halves.{row_of, IsFirstFrom};
+ghost use Rattle.walk_laws.specs.Rows.{IsRowOf};
+
+use crate::graph::{Arc, Edge};
+use std::alloc::{AllocError, Global};
+
+/// An edge as it leaves one of its ends.
+#[derive(Clone, Copy, Debug, PartialEq, Eq)]
+pub struct Half {
+    pub from: u32,
+    pub arc: Arc,
+}
+
+/// Both halves of each edge, in the order of the list.
+pub fn halves_of(alloc: Global, edges: &[Edge]) -> Result<Vec<Half>, AllocError>
+    ensures { IfOk result (λ halves. (v : ℕ) → row_of halves.items v ≡ arcs_at edges.now v) }
+{
+    let mut halves = Vec::with_capacity(alloc, 2 * edges.len())?;
+    for e in edges {
+        halves.push(Half {
+            from: e.u,
+            arc: Arc { to: e.v, w: e.w },
+        })?;
+        halves.push(Half {
+            from: e.v,
+            arc: Arc { to: e.u, w: e.w },
+        })?;
+    }
+    Ok(halves)
+}
+
+/// Sorts by rising node and then by rising neighbour; ties keep their order.
+pub fn sort_halves(halves: &mut Vec<Half>) -> Result<(), AllocError>
+    ensures by_node { OnOk result (IsNonDecreasingBy (λ h. h.from) halves.new.items) }
+    ensures rows { OnOk result ((v : ℕ) → IsRowOf (row_of halves.old.items v) (row_of halves.new.items v)) }
+{
+    halves.sort_by_key(|h| (h.from, h.arc.to))?;
+    Ok(())
+}
+
+/// The first place whose half leaves `v` or a later node, where those before `at` leave earlier ones.
+fn first_from(halves: &[Half], at: usize, v: u32) -> usize
+    requires rising { IsNonDecreasingBy (λ h. h.from) halves.now }
+    requires within { at ≤ length halves.now }
+    requires passed { AllWithin (λ h. h.from < v) halves.now 0 at }
+    ensures first { IsFirstFrom halves.now v result }
+{
+    for place in at..halves.len() {
+        if halves[place].from >= v {
+            return place;
+        }
+    }
+    halves.len()
+}
+
+/// Where the halves of each node begin: one place for each of 1..n, and the end.
+pub fn starts_of(alloc: Global, n: u32, halves: &[Half]) -> Result<Vec<usize>, AllocError>
+    requires rising { IsNonDecreasingBy (λ h. h.from) halves.now }
+    requires small { n ≤ 2 ^ 30 }
+    ensures len { IfOk result (λ starts. vec_len starts ≡ n + 1) }
+    ensures starts { IfOk result (λ starts. (k : ℕ) → k ≤ n → IsFirstFrom halves.now (k + 1) (slice_index starts.items k)) }
+{
+    let mut starts = Vec::with_capacity(alloc, n as usize + 1)?;
+    let mut at = 0;
+    for k in 0..n + 1 {
+        at = first_from(halves, at, k + 1);
+        starts.push(at)?;
+    }
+    Ok(starts)
+}
+
+/// The arcs of the halves.
+pub fn arcs_of(alloc: Global, halves: &[Half]) -> Result<Vec<Arc>, AllocError>
+    ensures { IfOk result (λ arcs. arcs.items ≡ map (λ h. h.arc) halves.now) }
+{
+    halves.iter().map(|h| h.arc).collect(alloc)
+}
