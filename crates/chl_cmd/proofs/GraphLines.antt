@@ -1,11 +1,11 @@
 -- The lines of a plain graph text can be read in one way only.
-use Rattle.std.proofs.Common.{◌≡◌, ℕ, zero, suc, ◌+◌, ◌*◌, ◌^◌, ◌<◌, ◌≤◌, max, length, All, List, [], ◌∷◌, ◌++◌, sym, ap, ◌∙◌, arith}
+use Rattle.std.proofs.Common.{◌≡◌, ℕ, suc, ◌^◌, ◌<◌, length, All, List, [], ◌∷◌, ◌++◌, sym, ap, ◌∙◌, arith}
 use Rattle.std.specs.Prelude.{codes, flat_map}
 use Rattle.std.specs.Fmt.{decimal}
 use Rattle.std.proofs.Math.Nat.{mul-le-mul}
 use Rattle.std.proofs.lemmas.List.{append_assoc}
 use Rattle.walk_laws.specs.declared.graph.Edge.{Edge}
-use Rattle.walk_laws.specs.Graph.{IsEdge, IsGraph, greatest_weight}
+use Rattle.walk_laws.specs.Graph.{IsGraph, greatest_weight}
 use Rattle.desk_io.proofs.Numbers.{one_number}
 use Rattle.desk_io.proofs.FrontLines.{TellsApart}
 use Rattle.chl_cmd.specs.PlainGraph.{edge_line, HasSmallNumbers, IsPlainGraph, FitsPlain}

@@ -1,14 +1,14 @@
 -- The list of labels that is read off a tree: which ones are there, and that their nodes rise.
-use Rattle.std.proofs.Common.{◌≡◌, ◌⊎◌, inl, inr, ℕ, zero, suc, ◌+◌, ◌<◌, ◌≤◌, Bool, true, false, cond, List, [], ◌∷◌, map, length, All, get_or, refl, sym, ap, subst, ◌∙◌, arith, add-zero}
-use Rattle.std.specs.Prelude.{◌↔◌, ◌==◌, Contains, slice_index}
+use Rattle.std.proofs.Common.{◌≡◌, inl, inr, ℕ, zero, suc, ◌+◌, ◌<◌, true, false, cond, List, [], ◌∷◌, map, length, All, get_or, refl, sym, ap, subst, ◌∙◌, arith, add-zero}
+use Rattle.std.specs.Prelude.{◌==◌, Contains}
 use Rattle.std.specs.List.Sorted.{IsStrictlyIncreasing}
-use Rattle.std.proofs.lemmas.Bool.{eqb-true, eq-eqb, false≢true}
+use Rattle.std.proofs.lemmas.Bool.{eqb-true, eq-eqb}
 use Rattle.walk_laws.proofs.Members.{Contains-first, Contains-next, Contains-cons_cases, Contains-empty}
 use Rattle.chl_cmd.specs.Tree.{labels}
 use Rattle.chl_cmd.specs.declared.plant_tree.reach.Found.{Found}
 use Rattle.chl_cmd.specs.declared.plant_tree.reach.Reach.{Reach}
 use Rattle.chl_cmd.specs.declared.plant_tree.reach.Reach.TheVariants.{Unreached, Queued, Settled}
-use Rattle.chl_cmd.proofs.PlantedNodes.{IsFrom, labels-within}
+use Rattle.chl_cmd.proofs.PlantedNodes.{labels-within}
 
 -- the node at place k is settled at d, and its highest-ranked node has the position p
 pub record IsLabel (p : ℕ) (nodes : List Reach) (k d : ℕ) : Type 0 where

@@ -1,8 +1,10 @@
 pub mod GraphLines
 pub mod LabelList
+pub mod ListedFiles
 pub mod NearestNode
 pub mod PlantedExactly
 pub mod PlantedNodes
+pub mod PlantedRows
 pub mod SixWords
 pub mod TreeEnds
 pub mod TreeFacts

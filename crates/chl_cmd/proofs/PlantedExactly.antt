@@ -1,5 +1,5 @@
 -- The planted tree of an undirected graph is exact: its labels are the nodes for which its root is canonical.
-use Rattle.std.proofs.Common.{◌≡◌, ◌≢◌, ℕ, ◌+◌, ◌<◌, ◌≤◌, List, length, All, get_or, sym, ◌∙◌, zero-add, arith}
+use Rattle.std.proofs.Common.{◌≡◌, ◌≢◌, ℕ, ◌+◌, ◌≤◌, List, length, get_or, sym, ◌∙◌, zero-add, arith}
 use Rattle.std.specs.Prelude.{◌↔◌, Contains}
 use Rattle.std.proofs.Math.ListN.{set}
 use Rattle.std.proofs.lemmas.List.Elements.{Contains-get_or}
@@ -14,9 +14,9 @@ use Rattle.chl_cmd.specs.Tree.{labels, relaxed_all}
 use Rattle.chl_cmd.specs.declared.plant_tree.reach.Found.{Found}
 use Rattle.chl_cmd.specs.declared.plant_tree.reach.Reach.{Reach}
 use Rattle.chl_cmd.specs.declared.plant_tree.reach.Reach.TheVariants.{Unreached, Queued, Settled}
-use Rattle.chl_cmd.proofs.LabelList.{IsLabel, ReadOff, label_from_list, list_from_label}
-use Rattle.chl_cmd.proofs.TreeEnds.{IsLabelled, tree_is_exact}
-use Rattle.chl_cmd.proofs.TreeFacts.{reach_of, IsTree}
+use Rattle.chl_cmd.proofs.LabelList.{label_from_list, list_from_label}
+use Rattle.chl_cmd.proofs.TreeEnds.{tree_is_exact}
+use Rattle.chl_cmd.proofs.TreeFacts.{IsTree}
 use Rattle.chl_cmd.proofs.TreeRounds.{round_tree}
 
 -- a round over the arcs of a graph

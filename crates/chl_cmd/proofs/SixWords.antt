@@ -1,5 +1,5 @@
 -- A list of six words, word by word.
-use Rattle.std.proofs.Common.{◌≡◌, ℕ, ◌<◌, ◌≤◌, List, [], ◌∷◌, length, map, get_or, ap, sym, ◌∙◌, arith, Global}
+use Rattle.std.proofs.Common.{◌≡◌, ℕ, ◌<◌, ◌≤◌, List, [], ◌∷◌, length, map, get_or, sym, ◌∙◌, arith, Global}
 use Rattle.std.specs.Prelude.{String, string_bytes, codes}
 use Rattle.chl_cmd.specs.Words.{IsCommand, IsPlainValue}
 use Rattle.chl_cmd.specs.declared.words.asked.Asked.{Asked}

@@ -1,21 +1,20 @@
 -- How the tree begins, and what it says of canonical hubs once no node is queued.
-use Rattle.std.proofs.Common.{◌≡◌, ◌≢◌, ◌⊎◌, inl, inr, ℕ, ◌+◌, ◌<◌, ◌≤◌, Bool, true, false, List, length, get_or, replicate, get_or-set_other, get_or-set_same, refl, sym, ap, subst, ◌∙◌, arith}
+use Rattle.std.proofs.Common.{◌≡◌, ◌≢◌, inl, inr, ℕ, ◌+◌, ◌≤◌, true, List, length, get_or, replicate, get_or-set_other, get_or-set_same, sym, ap, ◌∙◌, arith}
 use Rattle.std.specs.Prelude.{◌↔◌}
 use Rattle.std.proofs.Math.ListN.{set, get_or-eq_default}
 use Rattle.std.proofs.lemmas.Bool.{cases_eq, cases_lt, false≢true}
 use Rattle.std.proofs.lemmas.List.{get_or-replicate, length-replicate}
 use Rattle.walk_laws.specs.Walk.{HasWalk}
-use Rattle.walk_laws.specs.Least.{IsLeast}
 use Rattle.walk_laws.specs.On.{IsOn}
 use Rattle.walk_laws.specs.Canonical.{IsCanonical}
-use Rattle.walk_laws.specs.Ranking.{position_of, RanksAbove}
+use Rattle.walk_laws.specs.Ranking.{position_of}
 use Rattle.walk_laws.proofs.Walks.{HasWalk-stays}
 use Rattle.walk_laws.proofs.LeastWalks.{IsLeast-unique, IsLeast-same}
 use Rattle.walk_laws.proofs.OnWalks.{IsOn-start}
 use Rattle.chl_cmd.specs.declared.plant_tree.reach.Found.{Found}
 use Rattle.chl_cmd.specs.declared.plant_tree.reach.Reach.{Reach}
 use Rattle.chl_cmd.specs.declared.plant_tree.reach.Reach.TheVariants.{Unreached, Queued, Settled}
-use Rattle.chl_cmd.proofs.TreeFacts.{reach_of, From, IsTree, is_settled, ReachCases, reach_cases, at_none, at_queued, at_settled}
+use Rattle.chl_cmd.proofs.TreeFacts.{reach_of, IsTree, is_settled, reach_cases, at_none, at_queued, at_settled}
 use Rattle.chl_cmd.proofs.TreeSettle.{not_both, not_none, not_none_settled}
 
 -- the root alone is queued, at distance 0

@@ -1,13 +1,13 @@
 -- What a shortest-path tree knows of its nodes at each moment, and why the nearest queued node can be settled.
-use Rattle.std.proofs.Common.{◌≡◌, ◌≢◌, ◌⊎◌, inl, inr, ℕ, ◌+◌, ◌<◌, ◌≤◌, Bool, true, false, List, length, get_or, refl, sym, ap, subst, ◌∙◌, arith}
-use Rattle.std.proofs.lemmas.Bool.{cases_eq, cases_lt, false≢true}
+use Rattle.std.proofs.Common.{◌≡◌, ◌≢◌, ◌⊎◌, inl, inr, ℕ, ◌+◌, ◌<◌, ◌≤◌, Bool, true, false, List, get_or, refl, sym, ap, ◌∙◌, arith}
+use Rattle.std.proofs.lemmas.Bool.{false≢true}
 use Rattle.walk_laws.specs.Walk.{HasWalk}
 use Rattle.walk_laws.specs.Least.{IsLeast}
 use Rattle.walk_laws.specs.On.{IsOn}
 use Rattle.walk_laws.specs.Ranking.{position_of}
 use Rattle.walk_laws.proofs.Walks.{HasWalk-none_to, HasWalk-same, HasWalk-behind, HasWalk-leaves, Leaving}
 use Rattle.walk_laws.proofs.LeastWalks.{IsLeast-unique, IsLeast-same}
-use Rattle.walk_laws.proofs.OnWalks.{IsOn-end, IsOn-last, IsOn-step, OnPredecessor}
+use Rattle.walk_laws.proofs.OnWalks.{IsOn-end, IsOn-last, IsOn-step}
 use Rattle.chl_cmd.specs.declared.plant_tree.reach.Found.{Found}
 use Rattle.chl_cmd.specs.declared.plant_tree.reach.Reach.{Reach}
 use Rattle.chl_cmd.specs.declared.plant_tree.reach.Reach.TheVariants.{Unreached, Queued, Settled}

@@ -1,7 +1,6 @@
 -- An arc of a settled node is gone along: the tree stays a tree, over that arc too.
-use Rattle.std.proofs.Common.{◌≡◌, ◌≢◌, ◌⊎◌, inl, inr, ℕ, ◌+◌, ◌<◌, ◌≤◌, Bool, true, false, cond, min, List, length, get_or, get_or-set_other, get_or-set_same, refl, sym, ap, subst, ◌∙◌, arith}
+use Rattle.std.proofs.Common.{◌≡◌, ◌≢◌, ◌⊎◌, inl, inr, ℕ, ◌+◌, ◌<◌, ◌≤◌, true, false, min, List, length, get_or-set_other, get_or-set_same, refl, sym, ap, subst, ◌∙◌, arith}
 use Rattle.std.specs.Prelude.{nat_lt, ◌==◌}
-use Rattle.std.proofs.Math.ListN.{set}
 use Rattle.std.proofs.lemmas.Bool.{cases_eq, cases_lt, ltb-true, lt-ltb, eqb-true, eq-eqb}
 use Rattle.walk_laws.specs.declared.graph.Arc.{Arc}
 use Rattle.walk_laws.specs.Ranking.{position_of}
@@ -9,8 +8,8 @@ use Rattle.chl_cmd.specs.Tree.{better, offered, offer_of, relaxed}
 use Rattle.chl_cmd.specs.declared.plant_tree.reach.Found.{Found}
 use Rattle.chl_cmd.specs.declared.plant_tree.reach.Reach.{Reach}
 use Rattle.chl_cmd.specs.declared.plant_tree.reach.Reach.TheVariants.{Unreached, Queued, Settled}
-use Rattle.chl_cmd.proofs.TreeFacts.{reach_of, From, IsHighest, IsQueued, IsTree, ReachCases, reach_cases, at_none, at_queued, at_settled}
-use Rattle.chl_cmd.proofs.TreeSettle.{settled_once, not_both, not_none, not_none_settled}
+use Rattle.chl_cmd.proofs.TreeFacts.{reach_of, From, IsQueued, IsTree, reach_cases, at_none, at_queued, at_settled}
+use Rattle.chl_cmd.proofs.TreeSettle.{settled_once, not_both}
 
 -- the arcs K, and the arc a of v
 abbrev pub and_arc : ℕ → Arc → (ℕ → ℕ → ℕ → Type 0) → ℕ → ℕ → ℕ → Type 0

@@ -1,5 +1,5 @@
 -- A round of the tree: the nearest queued node is settled, and all its arcs are gone along.
-use Rattle.std.proofs.Common.{◌≡◌, ◌≢◌, ◌⊎◌, inl, inr, ℕ, suc, ◌+◌, ◌<◌, ◌≤◌, List, [], ◌∷◌, All, length, get_or, refl, sym, ap, subst, ◌∙◌, arith}
+use Rattle.std.proofs.Common.{◌≡◌, ◌≢◌, ◌⊎◌, inl, inr, ℕ, suc, ◌<◌, ◌≤◌, List, [], ◌∷◌, All, length, sym, ap, subst, arith}
 use Rattle.std.specs.Prelude.{◌↔◌, Contains}
 use Rattle.std.proofs.Math.ListN.{set, length-set}
 use Rattle.std.proofs.lemmas.Bool.{cases_eq}
@@ -8,7 +8,7 @@ use Rattle.walk_laws.proofs.Members.{Contains-first, Contains-next, Contains-con
 use Rattle.chl_cmd.specs.Tree.{relaxed, relaxed_all}
 use Rattle.chl_cmd.specs.declared.plant_tree.reach.Found.{Found}
 use Rattle.chl_cmd.specs.declared.plant_tree.reach.Reach.{Reach}
-use Rattle.chl_cmd.specs.declared.plant_tree.reach.Reach.TheVariants.{Unreached, Queued, Settled}
+use Rattle.chl_cmd.specs.declared.plant_tree.reach.Reach.TheVariants.{Queued, Settled}
 use Rattle.chl_cmd.proofs.TreeFacts.{reach_of, From, IsQueued, IsTree, next_is_least, next_is_highest}
 use Rattle.chl_cmd.proofs.TreeSettle.{but_from, settled_tree, settled_before, root_settled, v_settled}
 use Rattle.chl_cmd.proofs.TreeRelax.{and_arc, relaxed_tree, stays_settled, was_settled, root_stays}

@@ -1,12 +1,12 @@
 -- The nearest queued node is settled: the tree stays a tree, over the arcs of the nodes settled before.
-use Rattle.std.proofs.Common.{◌≡◌, ◌≢◌, ◌⊎◌, inl, inr, ℕ, ◌+◌, ◌<◌, ◌≤◌, List, length, get_or, get_or-set_other, get_or-set_same, refl, sym, ap, subst, ◌∙◌, arith}
+use Rattle.std.proofs.Common.{◌≡◌, ◌≢◌, inl, inr, ℕ, ◌≤◌, List, get_or-set_other, get_or-set_same, sym, ap, subst, ◌∙◌, arith}
 use Rattle.std.proofs.Math.ListN.{set}
 use Rattle.std.proofs.lemmas.Bool.{cases_eq}
 use Rattle.walk_laws.specs.Least.{IsLeast}
 use Rattle.chl_cmd.specs.declared.plant_tree.reach.Found.{Found}
 use Rattle.chl_cmd.specs.declared.plant_tree.reach.Reach.{Reach}
 use Rattle.chl_cmd.specs.declared.plant_tree.reach.Reach.TheVariants.{Unreached, Queued, Settled}
-use Rattle.chl_cmd.proofs.TreeFacts.{reach_of, From, IsHighest, IsQueued, IsTree, ReachCases, reach_cases, at_none, at_queued, at_settled}
+use Rattle.chl_cmd.proofs.TreeFacts.{reach_of, From, IsHighest, IsQueued, IsTree}
 use Rattle.chl_cmd.proofs.TreeSize.{queued_inside}
 
 -- the arcs that do not leave v

@@ -1,4 +1,5 @@
 pub mod GraphReading
+pub mod Listing
 pub mod Outcome
 pub mod PlainGraph
 pub mod PrintedRows

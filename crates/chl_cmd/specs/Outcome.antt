@@ -39,15 +39,35 @@ IsSilent ReadFault = Unit {0}
 IsSilent WriteFault = ⊥
 IsSilent NoMemory = ⊥
 
--- a status with which reading can fail
-abbrev pub IsOfReading : Status → Type 0
-IsOfReading Done = ⊥
-IsOfReading Usage = ⊥
-IsOfReading (GraphText fault) = Unit {0}
-IsOfReading (OrderText fault) = Unit {0}
-IsOfReading ReadFault = Unit {0}
-IsOfReading WriteFault = ⊥
-IsOfReading NoMemory = Unit {0}
+-- a status with which the reading of a graph can fail
+abbrev pub IsOfGraphReading : Status → Type 0
+IsOfGraphReading Done = ⊥
+IsOfGraphReading Usage = ⊥
+IsOfGraphReading (GraphText fault) = Unit {0}
+IsOfGraphReading (OrderText fault) = ⊥
+IsOfGraphReading ReadFault = Unit {0}
+IsOfGraphReading WriteFault = ⊥
+IsOfGraphReading NoMemory = Unit {0}
+
+-- a status with which the reading of an order can fail
+abbrev pub IsOfOrderReading : Status → Type 0
+IsOfOrderReading Done = ⊥
+IsOfOrderReading Usage = ⊥
+IsOfOrderReading (GraphText fault) = ⊥
+IsOfOrderReading (OrderText fault) = Unit {0}
+IsOfOrderReading ReadFault = Unit {0}
+IsOfOrderReading WriteFault = ⊥
+IsOfOrderReading NoMemory = Unit {0}
+
+-- a status with which the opening of a file can fail
+abbrev pub IsOfOpening : Status → Type 0
+IsOfOpening Done = ⊥
+IsOfOpening Usage = ⊥
+IsOfOpening (GraphText fault) = ⊥
+IsOfOpening (OrderText fault) = ⊥
+IsOfOpening ReadFault = Unit {0}
+IsOfOpening WriteFault = ⊥
+IsOfOpening NoMemory = Unit {0}
 
 -- a status with which writing can fail
 abbrev pub IsOfWriting : Status → Type 0

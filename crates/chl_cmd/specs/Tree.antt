@@ -1,5 +1,5 @@
 -- A shortest-path tree that carries the highest-ranked node on the shortest walks (Planting Trees, PVLDB 2019).
-use Rattle.std.specs.Prelude.{◌≡◌, ℕ, ◌+◌, ◌==◌, List, [], ◌∷◌, nat_lt, nat_le, min, Option, Some, None, slice_index_or, slice_set, if◌then◌else◌}
+use Rattle.std.specs.Prelude.{ℕ, ◌+◌, ◌==◌, List, [], ◌∷◌, nat_lt, nat_le, min, Option, Some, None, slice_index_or, slice_set, if◌then◌else◌}
 use Rattle.walk_laws.specs.declared.graph.Arc.{Arc}
 use Rattle.walk_laws.specs.Ranking.{position_of}
 use Rattle.chl_cmd.specs.declared.plant_tree.reach.Found.{Found}

@@ -1,5 +1,8 @@
-//! The command of the program, over any desk: words are read, texts become a graph and a ranking, planted trees
-//! become rows, rows become lines, and lines are said.
+//! The command of the program, over any desk: `words` are read, `gr_reader` makes a graph of a text, `plant_tree` finds
+//! the hub entries of one root, `rows` makes rows and then lines of all of them, and `command` says the lines.
+//! It stands on walk_laws, rank_table and desk_io. Its callers use [`run`] and [`Status`], with the words `IsCommand`
+//! (specs/Words), `Lists` (specs/Listing), `IsListing` (specs/PrintedRows), `IsPlainGraph` (specs/PlainGraph), and
+//! `Counts`, `IsQuiet`, `OnlySays` (specs/Outcome). specs/Tree is private to `plant_tree`.
 #![tactic(auto)]
 
 mod command;

@@ -1,5 +1,5 @@
 -- The front of a plain text: where the first number ends, and that no other number begins it.
-use Rattle.std.proofs.Common.{◌≡◌, inl, inr, ℕ, ◌+◌, ◌^◌, ◌<◌, ◌≤◌, false, true, List, ◌∷◌, ◌++◌, length, take, drop, get_or, eqb, refl, ap, sym, ◌∙◌, arith}
+use Rattle.std.proofs.Common.{◌≡◌, inl, inr, ℕ, ◌^◌, ◌<◌, false, List, ◌∷◌, ◌++◌, length, take, drop, eqb, refl, ap, sym, ◌∙◌, arith}
 use Rattle.std.specs.Prelude.{Some, position}
 use Rattle.std.specs.Fmt.{decimal}
 use Rattle.std.specs.Int.{IsInRange}

@@ -1,8 +1,8 @@
 //! The outside of the program: reading a named input, and writing to standard output.
 //! A [`Desk`] is the outside as a trait, [`RealDesk`] the files and standard output, [`MemDesk`] one in memory, for tests.
-//! Every fault is counted: an answer `Failed` comes only where a count rose. [`plain`] takes plain texts apart.
-//! Callers use the words `Contents`, `Tells` (specs/Contents), `Rises`, `CountsFailure` (specs/Counts), `TakesAll`
-//! (specs/Feed), those of a whole reading (specs/Reading), and `Memory` with what calls do to it (specs/Memory).
+//! Every fault is counted: an answer `Failed` comes only where a count rose, or stands at its type's last value.
+//! [`plain`] takes plain texts apart. Callers use the words `Contents`, `Tells` (specs/Contents), `Rises`, `CountsFailure`
+//! (specs/Counts), `TakesAll` (specs/Feed), `Gathers` (specs/Gathered), a whole reading (specs/Reading), `Memory` (specs/Memory).
 #![tactic(auto)]
 
 mod desk;

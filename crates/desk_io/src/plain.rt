@@ -13,8 +13,8 @@ pub fn word<'a>(text: &'a [u8], word: &[u8]) -> Option<&'a [u8]>
 }
 
 /// The front of a plain text: a number below 2^32 in decimal digits without needless zeros, and the byte that
-/// ends it, which is no digit. Answers the number and the text after that byte; None where the text begins with
-/// no such number.
+/// ends it, which stands before the digits in ASCII (a space or an LF). Answers the number and the text after that
+/// byte; None where the text begins with no such number.
 pub fn number(text: &[u8], end: u8) -> Option<(u32, &[u8])>
     requires { end < 48 }
     ensures found { IfSome result (λ r. text.now ≡ decimal r.0 ++ end ∷ r.1.now) }

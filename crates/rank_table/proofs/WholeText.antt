@@ -1,6 +1,6 @@
 -- A reader that has taken pieces has their text, and its number of nodes.
-use Rattle.std.proofs.Common.{◌≡◌, ℕ, List, [], ◌∷◌, ◌++◌, refl, sym, ap, subst, ◌∙◌}
-use Rattle.std.specs.Prelude.{Option, Some, Result, Ok}
+use Rattle.std.proofs.Common.{◌≡◌, ℕ, List, [], ◌∷◌, ap, subst, ◌∙◌}
+use Rattle.std.specs.Prelude.{Option, Some}
 use Rattle.std.specs.List.{concat}
 use Rattle.desk_io.specs.Feed.{TakesAll}
 use Rattle.desk_io.specs.Gathered.{Gathers}

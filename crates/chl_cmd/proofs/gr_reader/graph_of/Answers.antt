@@ -1,11 +1,7 @@
-use Rattle.std.proofs.Common.{◌≡◌, ℕ, ◌+◌, ◌*◌, ◌^◌, ◌<◌, ◌≤◌, true, false, List, [], ◌∷◌, ◌++◌, length, All, get_or, max, sym, ap, ◌∙◌, arith, lit<, lit≤}
-use Rattle.std.specs.Prelude.{codes, flat_map}
-use Rattle.std.specs.Fmt.{decimal}
+use Rattle.std.proofs.Common.{◌≡◌, sym, ◌∙◌}
 use Rattle.std.proofs.lemmas.Bool.{false≢true}
-use Rattle.walk_laws.specs.declared.graph.Edge.{Edge}
-use Rattle.walk_laws.specs.Graph.{IsEdge, IsGraph, greatest_weight}
 use Rattle.desk_io.proofs.FrontLines.{same_values}
-use Rattle.chl_cmd.specs.PlainGraph.{edge_line, HasSmallNumbers, IsPlainGraph, FitsPlain}
+use Rattle.chl_cmd.specs.PlainGraph.{edge_line, HasSmallNumbers, FitsPlain}
 use Rattle.chl_cmd.proofs.GraphLines.{edges_told_apart, read_front, small_numbers, light_fits}
 use Rattle.chl_cmd.proofs.gr_reader.graph_of.Goals as goal
 

@@ -6,7 +6,7 @@ use Rattle.chl_cmd.specs.declared.plant_tree.reach.Reach.{Reach}
 use Rattle.chl_cmd.specs.declared.plant_tree.reach.Reach.TheVariants.{Unreached, Queued, Settled}
 use Rattle.chl_cmd.specs.PrintedRows.{AreOfNodes}
 use Rattle.chl_cmd.specs.Tree.{relaxed_all, labels}
-use Rattle.chl_cmd.proofs.TreeSize.{IsSized, unsettled, IsSized-start, IsSized-round, room_of_next, node_of_queued, fits_64}
+use Rattle.chl_cmd.proofs.TreeSize.{unsettled, IsSized-start, IsSized-round, room_of_next, node_of_queued, fits_64}
 use Rattle.std.proofs.lemmas.Result.{IfOk-weaker}
 use Rattle.chl_cmd.proofs.PlantedNodes.{labels-of_nodes}
 use Rattle.std.specs.Prelude.{◌↔◌, ◌≢◌, Some, Contains, IfOk, map, slice_get}

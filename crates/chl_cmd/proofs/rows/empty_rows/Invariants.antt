@@ -1,6 +1,7 @@
-use Rattle.std.proofs.Common.{◌≡◌, vec_len}
+use Rattle.std.proofs.Common.{◌≡◌, [], replicate}
+use Rattle.chl_cmd.specs.PrintedRows.{items_of}
 use Rattle.chl_cmd.proofs.rows.empty_rows.Given as goal
 
--- a row for each round
+-- an empty row for each round
 abbrev pub invariant-loop : goal.invariant-loop
-invariant-loop l = vec_len l.rows ≡ l.counter
+invariant-loop l = items_of l.rows.items ≡ replicate l.counter []

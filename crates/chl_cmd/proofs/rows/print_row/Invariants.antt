@@ -5,5 +5,6 @@ use Rattle.chl_cmd.specs.PrintedRows.{entry_words}
 use Rattle.chl_cmd.proofs.rows.print_row.Given as goal
 
 -- the node, and the words of the entries so far
-abbrev pub invariant-loop-hub : goal.invariant-loop-hub
-invariant-loop-hub l = l.text.items ≡ l.fn.text.items ++ (codes "l " ++ (decimal l.v ++ flat_map entry_words (take l.hub-index l.row)))
+abbrev pub invariant-loop-entry : goal.invariant-loop-entry
+invariant-loop-entry l =
+    l.text.items ≡ l.fn.text.items ++ (codes "l " ++ (decimal l.v ++ flat_map (entry_words l.ranking) (take l.entry-index l.row)))

@@ -1,9 +1,5 @@
-use Rattle.std.proofs.Common.{◌≡◌, ℕ, List, map, length, sym, ◌∙◌}
-use Rattle.std.specs.Prelude.{string_bytes}
+use Rattle.std.proofs.Common.{sym, ◌∙◌}
 use Rattle.std.proofs.lemmas.Bool.{false≢true}
-use Rattle.chl_cmd.specs.Words.{IsCommand, IsPlainValue}
-use Rattle.chl_cmd.specs.declared.words.asked.Asked.{Asked}
-use Rattle.chl_cmd.specs.declared.words.asked.Asked.TheVariants.{List as ListRows}
 use Rattle.chl_cmd.proofs.SixWords.{six_words, listed, to_list}
 use Rattle.chl_cmd.proofs.words.read_words.Goals as goal
 

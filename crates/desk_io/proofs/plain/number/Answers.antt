@@ -1,18 +1,9 @@
-use Rattle.std.proofs.Common.{rules, ◌≡◌, ◌≢◌, inl, inr, ℕ, suc, add-one, ◌+◌, ◌-◌, ◌^◌, ◌<◌, ◌≤◌, false, true, List, [], ◌∷◌, ◌++◌, length, take, drop, get_or, eqb, ap, sym, refl, ◌∙◌, arith}
-use Rattle.std.specs.Prelude.{Option, Some, position}
+use Rattle.std.proofs.Common.{◌≡◌, suc, add-one, ◌+◌, ◌∷◌, ◌++◌, length, take, drop, get_or, eqb, ap, sym, ◌∙◌}
 use Rattle.std.specs.Fmt.{decimal}
-use Rattle.std.specs.Char.{digit_value}
-use Rattle.std.specs.Str.Parse.{AllDigits}
-use Rattle.std.proofs.Math.Seq.{split_at, get_or-append_seam, take-append_seam}
+use Rattle.std.proofs.Math.Seq.{split_at, take-append_seam}
 use Rattle.std.proofs.lemmas.List.Quantifiers.{position-Some}
-use Rattle.std.proofs.lemmas.List.Sums.{position_or_len_is}
-use Rattle.std.proofs.lemmas.Fmt.{digits_decimal}
-use Rattle.std.proofs.lemmas.Str.Parse.{digit_at, tells_digits, numerals_by_value}
-use Rattle.std.proofs.lemmas.Bool.{eqb-true, eq-eqb, lt-ltb}
-use Rattle.std.proofs.lemmas.Bool.Decides.{eqb_tells}
-use Rattle.std.specs.Int.{IsInRange}
-use Rattle.std.specs.List.{position_or_len}
-use Rattle.std.proofs.lemmas.List.{length-append, get_or_append_left, take_rest}
+use Rattle.std.proofs.lemmas.Bool.{eqb-true}
+use Rattle.std.proofs.lemmas.List.{take_rest}
 use Rattle.desk_io.proofs.Numbers.{place_of_end}
 use Rattle.desk_io.proofs.plain.number.Goals as goal
 

@@ -1,6 +1,5 @@
-use Rattle.std.proofs.Common.{◌^◌, Bool, false, eqb, ◌≡◌, ℕ, ◌<◌, List, [], ◌∷◌, ◌++◌, length, sym, ◌∙◌, arith}
+use Rattle.std.proofs.Common.{◌^◌, Bool, false, eqb, ◌≡◌, ℕ, ◌<◌, List, [], ◌∷◌, length, sym, ◌∙◌, arith}
 use Rattle.std.specs.Fmt.{decimal}
-use Rattle.rank_table.specs.PlainOrder.{order_text}
 use Rattle.std.proofs.lemmas.List.{append_assoc}
 use Rattle.desk_io.proofs.FrontLines.{lines_first, line_first}
 use Rattle.rank_table.proofs.OrderLines.{node_line, nodes_told_apart}

@@ -1,4 +1,4 @@
-use Rattle.std.proofs.Common.{◌≡◌, ℕ, ◌^◌, ◌<◌, ◌++◌, All, length}
+use Rattle.std.proofs.Common.{◌≡◌, ◌^◌, ◌<◌, ◌++◌, All, length}
 use Rattle.rank_table.specs.PlainOrder.{order_text}
 use Rattle.rank_table.proofs.order_reader.nodes_of.Given as goal
 

@@ -1,5 +1,4 @@
-use Rattle.std.proofs.Common.{◌≡◌, ℕ, ◌^◌, ◌<◌, true, List, length, get_or, sym, ◌∙◌, arith}
-use Rattle.rank_table.specs.PlainOrder.{IsPlainOrder, order_text}
+use Rattle.std.proofs.Common.{◌≡◌, ℕ, ◌^◌, ◌<◌, true, length, get_or, sym, ◌∙◌, arith}
 use Rattle.std.proofs.lemmas.Bool.{false≢true}
 use Rattle.desk_io.proofs.FrontLines.{same_values}
 use Rattle.rank_table.proofs.OrderLines.{node_line, nodes_told_apart}

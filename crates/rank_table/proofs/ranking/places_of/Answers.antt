@@ -1,4 +1,4 @@
-use Rattle.std.proofs.Common.{◌≡◌, ◌≢◌, ℕ, ◌+◌, ◌^◌, ◌<◌, ◌≤◌, false, eqb, List, length, get_or, arith, rules, Fits, w32, below_more, get_or-set_other, get_or-set_same, sym, ap, ◌∙◌, lit<}
+use Rattle.std.proofs.Common.{◌≡◌, ◌≢◌, ℕ, ◌+◌, ◌^◌, ◌<◌, ◌≤◌, false, eqb, List, length, get_or, arith, rules, Fits, w32, below_more, get_or-set_other, get_or-set_same, lit<}
 use Rattle.std.proofs.Math.ListN.{set}
 use Rattle.std.specs.List.{IsDistinct}
 use Rattle.std.proofs.lemmas.Bool.{eq-eqb}

@@ -1,8 +1,7 @@
-use Rattle.std.proofs.Common.{◌≡◌, ℕ, ◌<◌, Bool, false, eqb, List, [], ◌∷◌, ◌++◌, length, All, sym, ap, ◌∙◌, arith}
+use Rattle.std.proofs.Common.{◌≡◌, ℕ, ◌<◌, Bool, false, eqb, List, [], ◌∷◌, ◌++◌, length, sym, ap, ◌∙◌, arith}
 use Rattle.std.specs.Prelude.{flat_map}
 use Rattle.std.proofs.lemmas.List.{append_assoc}
 use Rattle.std.proofs.lemmas.List.Elements.{All-push}
-use Rattle.walk_laws.specs.declared.graph.Edge.{Edge}
 use Rattle.desk_io.proofs.FrontLines.{lines_first, line_first, flat_map-push}
 use Rattle.chl_cmd.specs.PlainGraph.{edge_line, HasSmallNumbers}
 use Rattle.chl_cmd.proofs.GraphLines.{edges_told_apart}

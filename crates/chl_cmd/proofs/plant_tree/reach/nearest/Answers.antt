@@ -1,5 +1,3 @@
-use Rattle.std.proofs.Common.{◌≡◌, ◌≢◌, ℕ, ◌≤◌, List, length, get_or}
-use Rattle.std.proofs.Common.{arith}
 use Rattle.chl_cmd.proofs.NearestNode.{least_of_all, none_of_all}
 use Rattle.chl_cmd.proofs.plant_tree.reach.nearest.Goals as goal
 

@@ -1,4 +1,4 @@
-use Rattle.std.proofs.Common.{◌≡◌, ℕ, ◌+◌, ◌^◌, ◌<◌, ◌≤◌, List, length, get_or, arith}
+use Rattle.std.proofs.Common.{get_or, arith}
 use Rattle.std.proofs.lemmas.List.Elements.{Contains-get_or}
 use Rattle.walk_laws.specs.declared.graph.Arc.{Arc}
 use Rattle.walk_laws.proofs.JoinedEdges.{IsEdge-joined, Joined-weight}

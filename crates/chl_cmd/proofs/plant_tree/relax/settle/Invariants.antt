@@ -1,4 +1,4 @@
-use Rattle.std.proofs.Common.{◌≡◌, ◌+◌, drop, length}
+use Rattle.std.proofs.Common.{◌≡◌, drop}
 use Rattle.std.proofs.Math.ListN.{set}
 use Rattle.chl_cmd.specs.Tree.{relaxed_all}
 use Rattle.chl_cmd.specs.declared.plant_tree.reach.Reach.TheVariants.{Settled}

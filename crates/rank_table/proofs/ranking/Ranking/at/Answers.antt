@@ -1,4 +1,4 @@
-use Rattle.std.proofs.Common.{◌≡◌, ℕ, List, get_or, sym, ◌∙◌, ap}
+use Rattle.std.proofs.Common.{◌∙◌, ap}
 use Rattle.walk_laws.specs.Ranking.{position_of}
 use Rattle.walk_laws.proofs.Positions.{position-get_or}
 use Rattle.rank_table.proofs.ranking.Ranking.at.Goals as goal

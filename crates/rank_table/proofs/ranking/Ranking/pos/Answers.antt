@@ -1,7 +1,6 @@
-use Rattle.std.proofs.Common.{◌≡◌, ℕ, ◌<◌, ◌≤◌, List, Some, length, get_or, arith, ap, ◌∙◌, sym}
-use Rattle.std.specs.Prelude.{slice_get}
+use Rattle.std.proofs.Common.{◌≡◌, ℕ, ◌<◌, ◌≤◌, List, length, get_or, arith, ◌∙◌}
 use Rattle.std.proofs.lemmas.List.{get_or_default}
-use Rattle.walk_laws.specs.Ranking.{IsRanking, position_of}
+use Rattle.walk_laws.specs.Ranking.{position_of}
 use Rattle.walk_laws.proofs.Positions.{position-lt, slice_get-position}
 use Rattle.rank_table.specs.Table.{IsTable}
 use Rattle.rank_table.proofs.ranking.Ranking.pos.Goals as goal
