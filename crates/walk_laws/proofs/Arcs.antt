@@ -1,14 +1,14 @@
 -- The arcs at a node are the edges that end there.
-use Rattle.std.specs.Prelude.{◌≡◌, ◌↔◌, ℕ, ◌+◌, ◌-◌, ◌≤◌, ◌==◌, Bool, true, false, List, [], ◌∷◌, ◌++◌, Contains, slice_index, slice_range, if◌then◌else◌, refl}
+use Rattle.std.specs.Prelude.{◌≡◌, ◌↔◌, ℕ, ◌-◌, ◌≤◌, ◌==◌, Bool, true, false, List, [], ◌∷◌, ◌++◌, Contains, slice_range, if◌then◌else◌, refl}
 use Rattle.std.proofs.Common.{◌∙◌, ap, sym, subst, inl, inr, arith, cond, append_assoc, zero, suc, get_or}
 use Rattle.std.proofs.lemmas.Bool.{eqb-true, eq-eqb}
 use Rattle.std.proofs.lemmas.List.{get_or_read}
 use Rattle.std.proofs.lemmas.List.Elements.{Contains-append_left, Contains-append_right, Contains-append_cases}
 use Rattle.walk_laws.specs.declared.graph.Edge.{Edge}
 use Rattle.walk_laws.specs.declared.graph.Arc.{Arc}
-use Rattle.walk_laws.specs.Graph.{arcs_at}
+use Rattle.walk_laws.specs.Graph.{IsRowOf, arcs_at}
 use Rattle.walk_laws.specs.Joined.{Joined}
-use Rattle.walk_laws.specs.Rows.{IsRowOf, IsStored}
+use Rattle.walk_laws.proofs.StoredRows.{IsStored}
 use Rattle.walk_laws.proofs.Members.{Contains-first, Contains-next, Contains-cons_cases}
 use Rattle.walk_laws.proofs.Filters.{Contains-filter, Contains-from_filter}
 
@@ -109,13 +109,10 @@ Joined-row edges v row r t w =
     let same = Contains-row (arcs_at edges v) row (arc t w) r in
     (λ h. Joined-from_arcs_at edges v t w (same.0 h), λ h. same.1 (Contains-arcs_at edges v t w h))
 
--- the same of what stands between two starts
-pub Joined-between : (n : ℕ) (edges : List Edge) (arcs : List Arc) (starts : List ℕ) → IsStored n edges arcs starts → (v a b : ℕ) → 1 ≤ v → v ≤ n → a ≡ get_or starts (v - 1) a → b ≡ get_or starts v b → (t w : ℕ) → Contains (slice_range arcs a b) (record { to = t; w = w }) ↔ Joined edges v t w
-Joined-between n edges arcs starts stored v a b low high from up_to t w =
-    let here = stored.rows (v - 1) (omega arith) in
-    let known = stored.one_more in
+-- between two starts stands a row
+pub IsRowOf-between : (n : ℕ) (edges : List Edge) (arcs : List Arc) (starts : List ℕ) → IsStored n edges arcs starts → (v a b : ℕ) → 1 ≤ v → v ≤ n → a ≡ get_or starts (v - 1) a → b ≡ get_or starts v b → IsRowOf (arcs_at edges v) (slice_range arcs a b)
+IsRowOf-between n edges arcs starts stored v a b low high from up_to =
+    let known = stored.1 in
     let from_is = get_or_read starts (v - 1) a (omega arith) from 0 in
     let to_is = get_or_read starts v b (omega arith) up_to 0 in
-    let next : v - 1 + 1 ≡ v = omega arith in
-    let row = subst (λ k. IsRowOf (arcs_at edges k) (slice_range arcs (slice_index starts (v - 1)) (slice_index starts k))) next here.row in
-    Joined-row edges v (slice_range arcs a b) (rw (from_is, to_is) row) t w
+    rw (from_is, to_is) (stored.4 v low high)

@@ -3,6 +3,7 @@ pub mod Arcs
 pub mod JoinedEdges
 pub mod Halving
 pub mod Sorting
+pub mod StoredRows
 pub mod Storing
 pub mod Positions
 pub mod Walks

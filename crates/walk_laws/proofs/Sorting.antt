@@ -12,8 +12,8 @@ use Rattle.std.proofs.lemmas.List.Elements.{filter_agree, filter_passes}
 use Rattle.std.proofs.lemmas.List.Kept.{IsSortedBy-filter}
 use Rattle.std.proofs.lemmas.List.Sorted.{ranks_by, IsNonDecreasingBy-from_all_adjacent}
 use Rattle.walk_laws.specs.declared.halves.Half.{Half}
+use Rattle.walk_laws.specs.Graph.{IsRowOf}
 use Rattle.walk_laws.specs.Halves.{row_of}
-use Rattle.walk_laws.specs.Rows.{IsRowOf}
 use Rattle.walk_laws.proofs.Filters.{filter-map, filter-filter}
 
 -- the order that the sort's keys give

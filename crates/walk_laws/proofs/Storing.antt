@@ -1,16 +1,17 @@
 -- Sorted halves, cut where the halves of each node begin, are the rows of the nodes.
 use Rattle.std.specs.Prelude.{◌≡◌, ℕ, ◌+◌, ◌-◌, ◌≤◌, ◌<◌, ◌==◌, Bool, true, false, List, ◌++◌, All, length, filter, map, slice_index, slice_range}
 use Rattle.std.specs.List.{AllWithin}
-use Rattle.std.specs.List.Sorted.{IsNonDecreasingBy}
+use Rattle.std.specs.List.Sorted.{IsNonDecreasing, IsNonDecreasingBy}
 use Rattle.std.proofs.Common.{◌∙◌, ap, sym, subst, inl, inr, arith, take, drop, get_or}
 use Rattle.std.proofs.lemmas.Bool.{ne_eqb, eq-eqb, cases_lt}
 use Rattle.std.proofs.lemmas.List.{length-map, take-map, drop-map, take-append-drop, get_or-take, get_or-drop, length-take, length-drop, drop-drop, append-nil, get_or_default}
 use Rattle.std.proofs.lemmas.List.Elements.{filter-append}
+use Rattle.std.proofs.lemmas.List.Sorted.{IsNonDecreasingBy-from_all_adjacent}
 use Rattle.walk_laws.specs.declared.graph.Edge.{Edge}
 use Rattle.walk_laws.specs.declared.halves.Half.{Half}
-use Rattle.walk_laws.specs.Graph.{IsGraph, arcs_at}
-use Rattle.walk_laws.specs.Halves.{row_of, IsFirstFrom}
-use Rattle.walk_laws.specs.Rows.{IsRowOf, IsStoredAt, IsStored}
+use Rattle.walk_laws.specs.Graph.{IsGraph, IsRowOf, arcs_at}
+use Rattle.walk_laws.specs.Halves.{row_of}
+use Rattle.walk_laws.proofs.StoredRows.{IsFirstFrom, IsStored}
 use Rattle.walk_laws.proofs.Filters.{filter_none, filter_all}
 use Rattle.walk_laws.proofs.Sorting.{nowhere}
 
@@ -58,19 +59,25 @@ slice_range-row xs v a b f g =
     let past : drop (b - a) (drop a xs) ≡ drop b xs = drop-drop (b - a) a xs ∙ ap (λ n. drop n xs) (omega (arith, first_rises xs v a b f g)) in
     sym (filter_parts leaves a xs ∙ ap (λ l. l ++ filter leaves (drop a xs)) before ∙ filter_parts leaves (b - a) (drop a xs) ∙ ap (λ l. l ++ filter leaves (drop (b - a) (drop a xs))) row ∙ ap (λ l. slice_range xs a b ++ l) (ap (filter leaves) past ∙ after) ∙ append-nil (slice_range xs a b))
 
-IsStoredAt-sorted : (edges : List Edge) (old xs : List Half) (v a b : ℕ) → row_of old v ≡ arcs_at edges v → IsRowOf (row_of old v) (row_of xs v) → IsFirstFrom xs v a → IsFirstFrom xs (v + 1) b → IsStoredAt edges (map (λ h. h.arc) xs) v a b
-IsStoredAt-sorted edges old xs v a b halved sorted f g =
+row_between : (edges : List Edge) (old xs : List Half) (v a b : ℕ) → row_of old v ≡ arcs_at edges v → IsRowOf (row_of old v) (row_of xs v) → IsFirstFrom xs v a → IsFirstFrom xs (v + 1) b → IsRowOf (arcs_at edges v) (slice_range (map (λ h. h.arc) xs) a b)
+row_between edges old xs v a b halved sorted f g =
     let stands : row_of xs v ≡ slice_range (map (λ h. h.arc) xs) a b =
     ap (map (λ h. h.arc)) (sym (slice_range-row xs v a b f g)) ∙ sym (ap (take (b - a)) (drop-map (λ h. h.arc) a xs) ∙ take-map (λ h. h.arc) (b - a) (drop a xs)) in
-    record {
-      rising = first_rises xs v a b f g;
-      within = omega (arith, g.within, length-map xs (λ h. h.arc));
-      row = subst (λ l. IsRowOf (arcs_at edges v) l) stands (subst (λ l. IsRowOf l (row_of xs v)) halved sorted);
-    }
+    subst (λ l. IsRowOf (arcs_at edges v) l) stands (subst (λ l. IsRowOf l (row_of xs v)) halved sorted)
+
+first_of_node : (xs : List Half) (n : ℕ) (starts : List ℕ) → ((k : ℕ) → k ≤ n → IsFirstFrom xs (k + 1) (slice_index starts k)) → (v : ℕ) → 1 ≤ v → v ≤ n → IsFirstFrom xs v (slice_index starts (v - 1))
+first_of_node xs n starts first v low high =
+    let next : v - 1 + 1 ≡ v = omega arith in
+    subst (λ k. IsFirstFrom xs k (slice_index starts (v - 1))) next (first (v - 1) (omega arith))
 
 pub IsStored-sorted : (n : ℕ) (edges : List Edge) (old xs : List Half) (starts : List ℕ) → IsGraph n edges → ((v : ℕ) → row_of old v ≡ arcs_at edges v) → ((v : ℕ) → IsRowOf (row_of old v) (row_of xs v)) → length starts ≡ n + 1 → ((k : ℕ) → k ≤ n → IsFirstFrom xs (k + 1) (slice_index starts k)) → IsStored n edges (map (λ h. h.arc) xs) starts
-IsStored-sorted n edges old xs starts graph halved sorted one_more first = record {
-  graph = graph;
-  one_more = one_more;
-  rows = λ k lt. IsStoredAt-sorted edges old xs (k + 1) (slice_index starts k) (slice_index starts (k + 1)) (halved (k + 1)) (sorted (k + 1)) (first k (omega arith)) (first (k + 1) (omega arith));
-}
+IsStored-sorted n edges old xs starts graph halved sorted one_more first =
+    let rises : (k : ℕ) → k < n → slice_index starts k ≤ slice_index starts (k + 1) =
+    λ k lt. first_rises xs (k + 1) (slice_index starts k) (slice_index starts (k + 1)) (first k (omega arith)) (first (k + 1) (omega arith)) in
+    let rising : IsNonDecreasing starts =
+    IsNonDecreasingBy-from_all_adjacent (λ at. at) starts (λ k d lt. omega (arith, rises k (omega arith), get_or_default starts k d 0 (omega arith), get_or_default starts (k + 1) d 0 (omega arith))) in
+    let within : All (λ at. at ≤ length (map (λ (h : Half). h.arc) xs)) starts =
+    λ k d lt. omega (arith, get_or_default starts k d 0 lt, (first k (omega arith)).within, length-map xs (λ h. h.arc)) in
+    let rows : (v : ℕ) → 1 ≤ v → v ≤ n → IsRowOf (arcs_at edges v) (slice_range (map (λ h. h.arc) xs) (slice_index starts (v - 1)) (slice_index starts v)) =
+    λ v low high. row_between edges old xs v (slice_index starts (v - 1)) (slice_index starts v) (halved v) (sorted v) (first_of_node xs n starts first v low high) (first v high) in
+    (graph, one_more, rising, within, rows)

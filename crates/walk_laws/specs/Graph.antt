@@ -1,5 +1,6 @@
 -- A weighted undirected graph, as the shortest path files of the ninth DIMACS challenge have it.
-use Rattle.std.specs.Prelude.{ℕ, ◌*◌, ◌^◌, ◌<◌, ◌≤◌, ◌==◌, List, [], ◌∷◌, ◌++◌, All, max, if◌then◌else◌}
+use Rattle.std.specs.Prelude.{◌≡◌, ℕ, ◌*◌, ◌^◌, ◌<◌, ◌≤◌, ◌==◌, List, [], ◌∷◌, ◌++◌, All, filter, map, max, if◌then◌else◌}
+use Rattle.std.specs.List.Sorted.{IsNonDecreasing}
 use Rattle.walk_laws.specs.declared.graph.Edge.{Edge}
 use Rattle.walk_laws.specs.declared.graph.Arc.{Arc}
 
@@ -33,3 +34,8 @@ arcs_at [] v = []
 arcs_at (e ∷ edges) v =
     (if e.u == v then record { to = e.v; w = e.w } ∷ [] else [])
     ++ ((if e.v == v then record { to = e.u; w = e.w } ∷ [] else []) ++ arcs_at edges v)
+
+-- the row has these arcs by rising neighbour, and those to one neighbour in their order
+pub record IsRowOf (arcs row : List Arc) : Type 0 where
+  pub rising : IsNonDecreasing (map (λ a. a.to) row)
+  pub each : (t : ℕ) → filter (λ a. a.to == t) row ≡ filter (λ a. a.to == t) arcs

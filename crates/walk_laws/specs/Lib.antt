@@ -1,7 +1,6 @@
 pub mod Graph
 pub mod Joined
 pub mod Ranking
-pub mod Rows
 pub mod Halves
 pub mod Walk
 pub mod Least

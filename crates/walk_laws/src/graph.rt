@@ -32,15 +32,22 @@ pub struct Graph {
 }
 
 impl Model for Graph {
-    ghost use Rattle.std.specs.Prelude.{ℕ};
-    ghost use Rattle.walk_laws.specs.Graph.{WeightedGraph};
-    ghost use Rattle.walk_laws.specs.Rows.{IsStored};
+    ghost use Rattle.std.specs.Prelude.{◌≡◌, ℕ, ◌+◌, ◌-◌, ◌≤◌, All, length, slice_index, slice_range};
+    ghost use Rattle.std.specs.List.Sorted.{IsNonDecreasing};
+    ghost use Rattle.walk_laws.specs.Graph.{WeightedGraph, IsGraph, IsRowOf, arcs_at};
 
     ghost Value = { WeightedGraph };
 
     ghost view = { λ g. record { n = g.n; edges = g.edges.items } };
 
-    ghost invariant = { λ g. IsStored g.n g.edges.items g.arcs.items g.starts.items };
+    // a graph; the starts rise within the arcs, and between that of a node and the next lies the node's row
+    ghost invariant = { λ g.
+        let starts = g.starts.items in
+        IsGraph g.n g.edges.items
+        × (length starts ≡ g.n + 1)
+        × IsNonDecreasing starts
+        × All (λ at. at ≤ length g.arcs.items) starts
+        × ((v : ℕ) → 1 ≤ v → v ≤ g.n → IsRowOf (arcs_at g.edges.items v) (slice_range g.arcs.items (slice_index starts (v - 1)) (slice_index starts v))) };
 }
 
 impl Graph {

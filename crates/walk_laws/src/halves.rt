@@ -1,9 +1,8 @@
 ghost use Rattle.std.specs.Prelude.{map, ◌≡◌, ℕ, ◌+◌, ◌<◌, ◌≤◌, IfOk, OnOk, length, slice_index, vec_len, ◌^◌};
 ghost use Rattle.std.specs.List.{AllWithin};
 ghost use Rattle.std.specs.List.Sorted.{IsNonDecreasingBy};
-ghost use Rattle.walk_laws.specs.Graph.{arcs_at};
-ghost use Rattle.walk_laws.specs.Halves.{row_of, IsFirstFrom};
-ghost use Rattle.walk_laws.specs.Rows.{IsRowOf};
+ghost use Rattle.walk_laws.specs.Graph.{IsRowOf, arcs_at};
+ghost use Rattle.walk_laws.specs.Halves.{row_of};
 
 use crate::graph::{Arc, Edge};
 use std::alloc::{AllocError, Global};
@@ -47,7 +46,9 @@ fn first_from(halves: &[Half], at: usize, v: u32) -> usize
     requires rising { IsNonDecreasingBy (λ h. h.from) halves.now }
     requires within { at ≤ length halves.now }
     requires passed { AllWithin (λ h. h.from < v) halves.now 0 at }
-    ensures first { IsFirstFrom halves.now v result }
+    ensures within { result ≤ length halves.now }
+    ensures before { AllWithin (λ h. h.from < v) halves.now 0 result }
+    ensures after { AllWithin (λ h. v ≤ h.from) halves.now result (length halves.now) }
 {
     for place in at..halves.len() {
         if halves[place].from >= v {
@@ -62,7 +63,9 @@ pub fn starts_of(alloc: Global, n: u32, halves: &[Half]) -> Result<Vec<usize>, A
     requires rising { IsNonDecreasingBy (λ h. h.from) halves.now }
     requires small { n ≤ 2 ^ 30 }
     ensures len { IfOk result (λ starts. vec_len starts ≡ n + 1) }
-    ensures starts { IfOk result (λ starts. (k : ℕ) → k ≤ n → IsFirstFrom halves.now (k + 1) (slice_index starts.items k)) }
+    ensures within { IfOk result (λ starts. (k : ℕ) → k ≤ n → slice_index starts.items k ≤ length halves.now) }
+    ensures before { IfOk result (λ starts. (k : ℕ) → k ≤ n → AllWithin (λ h. h.from < k + 1) halves.now 0 (slice_index starts.items k)) }
+    ensures after { IfOk result (λ starts. (k : ℕ) → k ≤ n → AllWithin (λ h. k + 1 ≤ h.from) halves.now (slice_index starts.items k) (length halves.now)) }
 {
     let mut starts = Vec::with_capacity(alloc, n as usize + 1)?;
     let mut at = 0;

@@ -5,4 +5,5 @@ use Rattle.walk_laws.proofs.halves.first_from.Goals as goal
 
 pub returns-then-halves-place : goal.returns-then-halves-place
 returns-then-halves-place c =
-    record { first = IsFirstFrom-found c.args.halves.now c.args.v c.loop-place.place c.requires.rising (omega arith) c.loop-place.invariant nowhere (λ _. c.if-halves-place.true) }
+    let found = IsFirstFrom-found c.args.halves.now c.args.v c.loop-place.place c.requires.rising (omega arith) c.loop-place.invariant nowhere (λ _. c.if-halves-place.true) in
+    record { within = found.within; before = found.before; after = found.after }

@@ -1,7 +1,7 @@
 use Rattle.std.proofs.Common.{◌≡◌, ℕ, ◌+◌, ◌<◌, ◌≤◌, length, vec_len}
 use Rattle.std.specs.Prelude.{slice_index}
 use Rattle.std.specs.List.{AllWithin}
-use Rattle.walk_laws.specs.Halves.{IsFirstFrom}
+use Rattle.walk_laws.proofs.StoredRows.{IsFirstFrom}
 use Rattle.walk_laws.proofs.halves.starts_of.Given as goal
 
 abbrev pub invariant-loop-k : goal.invariant-loop-k
