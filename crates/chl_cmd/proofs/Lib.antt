@@ -3,7 +3,6 @@ pub mod LabelList
 pub mod ListedFiles
 pub mod NearestNode
 pub mod PlantedExactly
-pub mod PlantedNodes
 pub mod PlantedRows
 pub mod SixWords
 pub mod TreeEnds
@@ -12,3 +11,4 @@ pub mod TreeRelax
 pub mod TreeRounds
 pub mod TreeSettle
 pub mod TreeSize
+pub mod TreeSteps

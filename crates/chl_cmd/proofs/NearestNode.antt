@@ -1,9 +1,8 @@
 -- The nearest queued node among the first ones.
-use Rattle.std.proofs.Common.{◌≡◌, ◌≢◌, inl, inr, ℕ, ◌+◌, ◌<◌, ◌≤◌, true, false, List, length, get_or, cond, below_more, refl, arith}
-use Rattle.std.specs.Prelude.{Option, Some, None, IfSome, IfNone, nat_le}
-use Rattle.std.proofs.lemmas.Bool.{cases_lt, leb-true, leb-false}
+use Rattle.std.proofs.Common.{◌≡◌, ◌≢◌, inl, inr, ℕ, ◌+◌, ◌<◌, ◌≤◌, List, length, get_or, below_more, arith}
+use Rattle.std.specs.Prelude.{Option, Some, None, IfSome, IfNone}
+use Rattle.std.proofs.lemmas.Bool.{cases_lt}
 use Rattle.std.proofs.Math.ListN.{get_or-eq_default}
-use Rattle.chl_cmd.specs.Tree.{nearer_of}
 use Rattle.chl_cmd.specs.declared.plant_tree.reach.Found.{Found}
 use Rattle.chl_cmd.specs.declared.plant_tree.reach.Reach.{Reach}
 use Rattle.chl_cmd.specs.declared.plant_tree.reach.Reach.TheVariants.{Unreached, Queued}
@@ -26,25 +25,26 @@ IsBest-other nodes n (Some b) other best = record {
   least = below_more _ _ best.least (λ g is. absurd (other g is));
 }
 
--- a queued node may be nearer
-pub IsBest-queued : (nodes : List Reach) (n : ℕ) (found : Found) (best : Option (ℕ × Found)) → get_or nodes n Unreached ≡ Queued found → IsBest nodes n best → IsBest nodes (n + 1) (nearer_of best n found)
-IsBest-queued nodes n found None is best = record {
+-- a queued node that is no nearer changes nothing
+pub IsBest-kept : (nodes : List Reach) (n : ℕ) (found : Found) (best : Option (ℕ × Found)) (b : ℕ × Found) → get_or nodes n Unreached ≡ Queued found → best ≡ Some b → b.1.dist ≤ found.dist → IsBest nodes n best → IsBest nodes (n + 1) best
+IsBest-kept nodes n found None b is some far best = absurd cc
+IsBest-kept nodes n found (Some kept) b is some far best = record {
+  queued = best.queued;
+  least = below_more _ _ best.least (λ g queued. let same : found ≡ g = cc in let one : kept ≡ b = cc in rw (← same, one) far);
+}
+
+-- a queued node that is nearer is the best from now on
+pub IsBest-taken : (nodes : List Reach) (n : ℕ) (found : Found) (best : Option (ℕ × Found)) → get_or nodes n Unreached ≡ Queued found → IfSome best (λ b. found.dist ≤ b.1.dist) → IsBest nodes n best → IsBest nodes (n + 1) (Some (n, found))
+IsBest-taken nodes n found None is near best = record {
   queued = is;
   least = below_more _ _ (λ x h g queued. absurd (best x h g queued)) (λ g queued. let same : found ≡ g = cc in rw same (omega arith));
 }
-IsBest-queued nodes n found (Some b) is best =
-    elim (nat_le b.1.dist found.dist) as (λ t. nat_le b.1.dist found.dist ≡ t → IsBest nodes (n + 1) (cond t (Some b) (Some (n, found)))) [
-      | true ↦ λ e. record {
-        queued = best.queued;
-        least = below_more _ _ best.least (λ g queued. let same : found ≡ g = cc in rw (← same) (leb-true _ _ e));
-      }
-      | false ↦ λ e. record {
-        queued = is;
-        least = below_more _ _
-            (λ x h g queued. let far = leb-false _ _ e in omega (arith, best.least x h g queued, far))
-            (λ g queued. let same : found ≡ g = cc in rw same (omega arith));
-      }
-    ] refl
+IsBest-taken nodes n found (Some b) is near best = record {
+  queued = is;
+  least = below_more _ _
+      (λ x h g queued. omega (arith, best.least x h g queued, near))
+      (λ g queued. let same : found ≡ g = cc in rw same (omega arith));
+}
 
 -- the best of all nodes
 nothing_behind : (nodes : List Reach) (n x : ℕ) (g : Found) → length nodes ≤ n → get_or nodes x Unreached ≡ Queued g → x < n

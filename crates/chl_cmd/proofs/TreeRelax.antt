@@ -1,10 +1,9 @@
 -- An arc of a settled node is gone along: the tree stays a tree, over that arc too.
-use Rattle.std.proofs.Common.{◌≡◌, ◌≢◌, ◌⊎◌, inl, inr, ℕ, ◌+◌, ◌<◌, ◌≤◌, true, false, min, List, length, get_or-set_other, get_or-set_same, refl, sym, ap, subst, ◌∙◌, arith}
-use Rattle.std.specs.Prelude.{nat_lt, ◌==◌}
-use Rattle.std.proofs.lemmas.Bool.{cases_eq, cases_lt, ltb-true, lt-ltb, eqb-true, eq-eqb}
+use Rattle.std.proofs.Common.{◌≡◌, ◌≢◌, ◌⊎◌, inl, inr, ℕ, ◌+◌, ◌<◌, ◌≤◌, min, List, length, get_or-set_other, get_or-set_same, refl, sym, ap, subst, ◌∙◌, arith}
+use Rattle.std.proofs.lemmas.Bool.{cases_eq, cases_lt}
 use Rattle.walk_laws.specs.declared.graph.Arc.{Arc}
 use Rattle.walk_laws.specs.Ranking.{position_of}
-use Rattle.chl_cmd.specs.Tree.{better, offered, offer_of, relaxed}
+use Rattle.chl_cmd.proofs.TreeSteps.{better, better_cases, shorter, as_long, longer, offered, offer_of, relaxed}
 use Rattle.chl_cmd.specs.declared.plant_tree.reach.Found.{Found}
 use Rattle.chl_cmd.specs.declared.plant_tree.reach.Reach.{Reach}
 use Rattle.chl_cmd.specs.declared.plant_tree.reach.Reach.TheVariants.{Unreached, Queued, Settled}
@@ -14,27 +13,6 @@ use Rattle.chl_cmd.proofs.TreeSettle.{settled_once, not_both}
 -- the arcs K, and the arc a of v
 abbrev pub and_arc : ℕ → Arc → (ℕ → ℕ → ℕ → Type 0) → ℕ → ℕ → ℕ → Type 0
 and_arc v a K y x w = K y x w ⊎ ((y ≡ v) × (x ≡ a.to) × (w ≡ a.w))
-
--- which of two walks is the better one
-data BetterCases (q o : Found) : Type 0 where
-  shorter : o.dist < q.dist → better q o ≡ o → BetterCases q o
-  as_long : o.dist ≡ q.dist → better q o ≡ record { dist = q.dist; highest = min q.highest o.highest } → BetterCases q o
-  longer : q.dist < o.dist → better q o ≡ q → BetterCases q o
-
-better_cases : (q o : Found) → BetterCases q o
-better_cases q o = elim (cases_lt o.dist q.dist) [
-  | inl less ↦ shorter less (rw (lt-ltb o.dist q.dist less) refl)
-  | inr more ↦ elim (cases_eq o.dist q.dist) [
-    | inl same ↦ as_long same (rw (ltb-from_le o.dist q.dist more, eq-eqb o.dist q.dist same) refl)
-    | inr differ ↦ longer (omega arith) (rw (ltb-from_le o.dist q.dist more, eqb-from_ne o.dist q.dist differ) refl)
-  ]
-]
-  where
-    ltb-from_le : (a b : ℕ) → b ≤ a → nat_lt a b ≡ false
-    ltb-from_le a b le = elim (nat_lt a b) as (λ t. nat_lt a b ≡ t → t ≡ false) [ true ↦ λ e. absurd (omega (arith, ltb-true a b e)) | false ↦ λ e. refl ] refl
-
-    eqb-from_ne : (a b : ℕ) → a ≢ b → (a == b) ≡ false
-    eqb-from_ne a b ne = elim (a == b) as (λ t. (a == b) ≡ t → t ≡ false) [ true ↦ λ e. absurd (ne (eqb-true a b e)) | false ↦ λ e. refl ] refl
 
 -- the less of two numbers is one of them
 min_cases : (a b : ℕ) → (min a b ≡ a) ⊎ (min a b ≡ b)

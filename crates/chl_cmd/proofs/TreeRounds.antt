@@ -5,7 +5,7 @@ use Rattle.std.proofs.Math.ListN.{set, length-set}
 use Rattle.std.proofs.lemmas.Bool.{cases_eq}
 use Rattle.walk_laws.specs.declared.graph.Arc.{Arc}
 use Rattle.walk_laws.proofs.Members.{Contains-first, Contains-next, Contains-cons_cases, Contains-empty}
-use Rattle.chl_cmd.specs.Tree.{relaxed, relaxed_all}
+use Rattle.chl_cmd.proofs.TreeSteps.{relaxed, relaxed_all}
 use Rattle.chl_cmd.specs.declared.plant_tree.reach.Found.{Found}
 use Rattle.chl_cmd.specs.declared.plant_tree.reach.Reach.{Reach}
 use Rattle.chl_cmd.specs.declared.plant_tree.reach.Reach.TheVariants.{Queued, Settled}

@@ -12,7 +12,7 @@ use Rattle.walk_laws.specs.declared.graph.Edge.{Edge}
 use Rattle.walk_laws.specs.Graph.{IsGraph, greatest_weight}
 use Rattle.walk_laws.specs.Joined.{Joined}
 use Rattle.walk_laws.proofs.JoinedEdges.{IsEdge-joined, Joined-weight}
-use Rattle.chl_cmd.specs.Tree.{better, offered, offer_of, relaxed, relaxed_all}
+use Rattle.chl_cmd.proofs.TreeSteps.{better, offered, offer_of, relaxed, relaxed_all}
 use Rattle.chl_cmd.specs.declared.plant_tree.reach.Found.{Found}
 use Rattle.chl_cmd.specs.declared.plant_tree.reach.Reach.{Reach}
 use Rattle.chl_cmd.specs.declared.plant_tree.reach.Reach.TheVariants.{Unreached, Queued, Settled}
@@ -235,17 +235,21 @@ fits_64 n edges dist more graph some room =
     let one : 1 * greatest_weight edges ≤ n * greatest_weight edges = mul-le-mul_right (greatest_weight edges) some in
     omega (arith, graph.fits)
 
+-- the arcs of a node of a graph
+pub arcs_of_row : (n : ℕ) (edges : List Edge) (v : ℕ) (row : List Arc) → IsGraph n edges → ((t w : ℕ) → Contains row (record { to = t; w = w }) ↔ Joined edges v t w) → All (IsArc n (greatest_weight edges)) row
+arcs_of_row n edges v row graph joined k d h =
+    let a = get_or row k d in
+    let join : Joined edges v a.to a.w = (joined a.to a.w).0 (Contains-get_or row k d h) in
+    let edge = IsEdge-joined n edges v a.to a.w graph.edge join in
+    record { from_one = edge.to_one; up_to_n = edge.to_n; light = Joined-weight edges v a.to a.w join }
+
 -- a round: the next node is settled, and the arcs of its row are gone along
 pub IsSized-round : (n : ℕ) (edges : List Edge) (at : List ℕ) (nodes : List Reach) (v : ℕ) (f : Found) (row : List Arc) → IsGraph n edges → IsSized n (greatest_weight edges) ((n + 1) * greatest_weight edges) nodes → get_or nodes v Unreached ≡ Queued f → ((t w : ℕ) → Contains row (record { to = t; w = w }) ↔ Joined edges v t w) → IsSized n (greatest_weight edges) ((n + 1) * greatest_weight edges) (relaxed_all at f row (set nodes v (Settled f))) × (unsettled (relaxed_all at f row (set nodes v (Settled f))) + 1 ≡ unsettled nodes)
 IsSized-round n edges at nodes v f row graph sized queued joined =
     let heaviest = greatest_weight edges in
     let total = (n + 1) * greatest_weight edges in
     let node = node_of_queued n (greatest_weight edges) ((n + 1) * greatest_weight edges) nodes v f sized queued in
-    let arcs : All (IsArc n (greatest_weight edges)) row = λ k d h.
-    let a = get_or row k d in
-    let join : Joined edges v a.to a.w = (joined a.to a.w).0 (Contains-get_or row k d h) in
-    let edge = IsEdge-joined n edges v a.to a.w graph.edge join in
-    record { from_one = edge.to_one; up_to_n = edge.to_n; light = Joined-weight edges v a.to a.w join } in
+    let arcs = arcs_of_row n edges v row graph joined in
     let settled : IsSized n (greatest_weight edges) ((n + 1) * greatest_weight edges) (set nodes v (Settled f)) = record {
       size = length-set nodes v (Settled f) ∙ sized.size;
       no_node = get_or-set_other nodes v 0 _ Unreached (λ is. omega (arith, node.0)) ∙ sized.no_node;

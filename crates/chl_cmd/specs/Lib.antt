@@ -4,5 +4,4 @@ pub mod Outcome
 pub mod PlainGraph
 pub mod PrintedRows
 pub mod Statuses
-pub mod Tree
 pub mod Words

@@ -2,7 +2,7 @@
 //! the hub entries of one root, `rows` makes rows and then lines of all of them, and `command` says the lines.
 //! It stands on walk_laws, rank_table and desk_io. Its callers use [`run`] and [`Status`], with the words `IsCommand`
 //! (specs/Words), `Lists` (specs/Listing), `IsListing` (specs/PrintedRows), `IsPlainGraph` (specs/PlainGraph), and
-//! `Counts`, `IsQuiet`, `OnlySays` (specs/Outcome). specs/Tree is private to `plant_tree`.
+//! `Counts`, `IsQuiet`, `OnlySays` (specs/Outcome).
 #![tactic(auto)]
 
 mod command;

@@ -5,13 +5,11 @@ ghost use Rattle.walk_laws.specs.Joined.{Joined};
 ghost use Rattle.chl_cmd.specs.PrintedRows.{AreOfNodes};
 
 mod reach;
-mod relax;
 #[cfg(test)]
 mod tests;
 
 use rank_table::Ranking;
 use reach::{Found, Reach, labelled, nearest};
-use relax::settle;
 use std::alloc::{AllocError, Global};
 use walk_laws::Graph;
 
@@ -20,7 +18,8 @@ pub type Planted = Vec<(u32, u64)>;
 
 /// The planted tree of the node at the position `p`, which counts from 0: by rising node, the nodes for which that
 /// node is canonical, with their distances. Each round settles the nearest node that isn't settled yet, found by
-/// going through all nodes; a node carries the highest-ranked node over all its shortest walks from the root.
+/// going through all nodes, and offers its neighbours the walks by way of it. Of the walks that a node is offered
+/// the shortest ones count, and it carries the highest-ranked node on any of these.
 /// (Planting Trees, PVLDB 2019.)
 pub fn plant(alloc: Global, graph: &Graph, ranking: &Ranking, p: u32) -> Result<Planted, AllocError>
     requires nodes { length ranking.now ≡ graph.now.n }
@@ -37,7 +36,25 @@ pub fn plant(alloc: Global, graph: &Graph, ranking: &Ranking, p: u32) -> Result<
     };
     nodes[ranking.at(p) as usize] = Reach::Queued(root);
     while let Some((v, found)) = nearest(&nodes) {
-        settle(graph, ranking, &mut nodes, v, found);
+        nodes[v as usize] = Reach::Settled(found);
+        for arc in graph.arcs(v) {
+            let offer = Found {
+                dist: found.dist + arc.w,
+                highest: found.highest.min(ranking.pos(arc.to)),
+            };
+            let to = arc.to as usize;
+            let reach = match nodes[to] {
+                Reach::Unreached => Reach::Queued(offer),
+                Reach::Queued(best) if offer.dist < best.dist => Reach::Queued(offer),
+                Reach::Queued(best) if offer.dist == best.dist => Reach::Queued(Found {
+                    dist: best.dist,
+                    highest: best.highest.min(offer.highest),
+                }),
+                Reach::Queued(best) => Reach::Queued(best),
+                Reach::Settled(known) => Reach::Settled(known),
+            };
+            nodes[to] = reach;
+        }
     }
     labelled(alloc, &nodes, p)
 }

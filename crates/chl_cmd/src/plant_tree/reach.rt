@@ -1,7 +1,7 @@
-ghost use Rattle.std.specs.Prelude.{◌≡◌, ℕ, ◌≢◌, ◌^◌, ◌<◌, ◌≤◌, length, slice_index_or, IfOk, IfSome, IfNone};
+ghost use Rattle.std.specs.Prelude.{◌≡◌, ◌↔◌, ℕ, ◌≢◌, ◌^◌, ◌<◌, ◌≤◌, length, map, slice_index_or, Contains, IfOk, IfSome, IfNone};
+ghost use Rattle.std.specs.List.Sorted.{IsStrictlyIncreasing};
 ghost use Rattle.chl_cmd.specs.declared.plant_tree.reach.Found.{Found};
 ghost use Rattle.chl_cmd.specs.declared.plant_tree.reach.Reach.TheVariants.{Unreached, Queued, Settled};
-ghost use Rattle.chl_cmd.specs.Tree.{labels, nearer_of};
 
 use std::alloc::{AllocError, Global};
 
@@ -33,34 +33,29 @@ pub fn nearest(nodes: &[Reach]) -> Option<(u32, Found)>
     let mut best: Option<(u32, Found)> = None;
     for (v, reach) in nodes.iter().enumerate() {
         if let Reach::Queued(found) = reach {
-            best = nearer(best, v as u32, *found);
+            match best {
+                Some((_, least)) if least.dist <= found.dist => {}
+                _ => best = Some((v as u32, *found)),
+            }
         }
     }
     best
 }
 
-/// The nearer one of two queued nodes, and the first where they are as near.
-fn nearer(best: Option<(u32, Found)>, v: u32, found: Found) -> Option<(u32, Found)>
-    ensures { result ≡ nearer_of best v found }
-{
-    match best {
-        Some((_, least)) if least.dist <= found.dist => best,
-        _ => Some((v, found)),
-    }
-}
-
 /// The settled nodes whose highest-ranked node has the position `p`, with their distances, by rising node.
 pub fn labelled(alloc: Global, nodes: &[Reach], p: u32) -> Result<Vec<(u32, u64)>, AllocError>
     requires { length nodes.now < 2 ^ 32 }
-    ensures { IfOk result (λ planted. planted.items ≡ labels p 0 nodes.now) }
+    ensures rising { IfOk result (λ labels. IsStrictlyIncreasing (map (λ e. e.0) labels.items)) }
+    ensures each { IfOk result (λ labels. (v d : ℕ) → Contains labels.items (v, d)
+        ↔ slice_index_or nodes.now v Unreached ≡ Settled (record { dist = d; highest = p })) }
 {
-    let mut planted = Vec::new(alloc);
+    let mut labels = Vec::new(alloc);
     for (v, reach) in nodes.iter().enumerate() {
         if let Reach::Settled(found) = reach {
             if found.highest == p {
-                planted.push((v as u32, found.dist))?;
+                labels.push((v as u32, found.dist))?;
             }
         }
     }
-    Ok(planted)
+    Ok(labels)
 }
