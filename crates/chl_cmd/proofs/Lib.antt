@@ -1,10 +1,14 @@
+pub mod EndingFacts
+pub mod GatheredText
 pub mod GraphLines
 pub mod LabelList
 pub mod ListedFiles
 pub mod NearestNode
 pub mod PlantedExactly
 pub mod PlantedRows
+pub mod RowItems
 pub mod SixWords
+pub mod TextLengths
 pub mod TreeEnds
 pub mod TreeFacts
 pub mod TreeRelax

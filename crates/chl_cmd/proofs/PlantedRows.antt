@@ -14,7 +14,8 @@ use Rattle.walk_laws.proofs.Members.{Contains-first, Contains-next, Contains-con
 use Rattle.walk_laws.specs.declared.entry.Entry.{Entry}
 use Rattle.walk_laws.specs.Canonical.{IsCanonical}
 use Rattle.walk_laws.specs.Labelling.{IsHubEntry, IsRow, IsChl, label_row}
-use Rattle.chl_cmd.specs.PrintedRows.{HasPositions, items_of, entries_of}
+use Rattle.chl_cmd.specs.PrintedRows.{HasPositions, entries_of}
+use Rattle.chl_cmd.proofs.RowItems.{items_of}
 
 -- the row holds exactly the hubs of v at positions below p, by rising position
 pub record IsRowBelow (J : ℕ → ℕ → ℕ → Type 0) (at : List ℕ) (p v : ℕ) (row : List Entry) : Type 0 where

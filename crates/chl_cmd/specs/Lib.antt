@@ -1,3 +1,4 @@
+pub mod Ending
 pub mod GraphReading
 pub mod Listing
 pub mod Outcome

@@ -1,35 +1,43 @@
 -- What a run does to its desk, by how it ends.
-use Rattle.std.specs.Prelude.{◌≡◌, ℕ, List, ◌++◌, Result, Ok, Err}
+use Rattle.std.specs.Prelude.{◌≡◌, ℕ, List, ◌++◌}
 use Rattle.desk_io.specs.Contents.{Contents}
 use Rattle.desk_io.specs.Counts.{Rises}
 use Rattle.chl_cmd.specs.declared.status.Status.{Status}
 use Rattle.chl_cmd.specs.declared.status.Status.TheVariants.{Done, Usage, GraphText, OrderText, ReadFault, WriteFault, NoMemory}
 
--- the two counts of faults: a read fault comes only where the input count has risen, a write fault only where the
--- output count has, and no count rises otherwise
+-- what a status says of the count of failed calls of the input: it has risen with a read fault, and else stays
+abbrev pub CountsInput : Status → ℕ → ℕ → Type 0
+CountsInput Done old new = new ≡ old
+CountsInput Usage old new = new ≡ old
+CountsInput (GraphText fault) old new = new ≡ old
+CountsInput (OrderText fault) old new = new ≡ old
+CountsInput ReadFault old new = Rises old new
+CountsInput WriteFault old new = new ≡ old
+CountsInput NoMemory old new = new ≡ old
+
+-- and of the count of failed calls of the output: it has risen with a write fault, and else stays
+abbrev pub CountsOutput : Status → ℕ → ℕ → Type 0
+CountsOutput Done old new = new ≡ old
+CountsOutput Usage old new = new ≡ old
+CountsOutput (GraphText fault) old new = new ≡ old
+CountsOutput (OrderText fault) old new = new ≡ old
+CountsOutput ReadFault old new = new ≡ old
+CountsOutput WriteFault old new = Rises old new
+CountsOutput NoMemory old new = new ≡ old
+
+-- both
 abbrev pub Counts : Status → ℕ → ℕ → ℕ → ℕ → Type 0
-Counts Done in_old in_new out_old out_new = (in_new ≡ in_old) × (out_new ≡ out_old)
-Counts Usage in_old in_new out_old out_new = (in_new ≡ in_old) × (out_new ≡ out_old)
-Counts (GraphText fault) in_old in_new out_old out_new = (in_new ≡ in_old) × (out_new ≡ out_old)
-Counts (OrderText fault) in_old in_new out_old out_new = (in_new ≡ in_old) × (out_new ≡ out_old)
-Counts ReadFault in_old in_new out_old out_new = Rises in_old in_new × (out_new ≡ out_old)
-Counts WriteFault in_old in_new out_old out_new = (in_new ≡ in_old) × Rises out_old out_new
-Counts NoMemory in_old in_new out_old out_new = (in_new ≡ in_old) × (out_new ≡ out_old)
+Counts status in_old in_new out_old out_new = CountsInput status in_old in_new × CountsOutput status out_old out_new
 
--- the same of a step that ends with a status where it fails
-abbrev pub CountsOf : {T : Type 0} → Result T Status → ℕ → ℕ → ℕ → ℕ → Type 0
-CountsOf (Ok x) in_old in_new out_old out_new = Counts Done in_old in_new out_old out_new
-CountsOf (Err status) in_old in_new out_old out_new = Counts status in_old in_new out_old out_new
-
--- neither files nor standard output change
+-- neither files nor standard output change, and a steady desk stays steady
 abbrev pub IsQuiet : Contents → Contents → Type 0
-IsQuiet a b = (b.files ≡ a.files) × (b.said ≡ a.said)
+IsQuiet a b = (b.files ≡ a.files) × (b.said ≡ a.said) × (b.steady ≡ a.steady)
 
--- no file changes, and standard output only grows
+-- no file changes, standard output only grows, and a steady desk stays steady
 abbrev pub OnlySays : Contents → Contents → Type 0
-OnlySays a b = (b.files ≡ a.files) × ((more : List ℕ) × (b.said ≡ a.said ++ more))
+OnlySays a b = (b.files ≡ a.files) × ((more : List ℕ) × (b.said ≡ a.said ++ more)) × (b.steady ≡ a.steady)
 
--- a status with which nothing was said
+-- the statuses with which nothing is said; of the others this word says nothing
 abbrev pub IsSilent : Status → Type 0
 IsSilent Done = ⊥
 IsSilent Usage = Unit {0}

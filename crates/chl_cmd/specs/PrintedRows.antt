@@ -1,7 +1,6 @@
 -- The printed rows of a labelling.
-use Rattle.std.specs.Prelude.{◌≡◌, ℕ, ◌+◌, ◌<◌, ◌≤◌, ◌==◌, List, [], ◌∷◌, ◌++◌, All, Vec, codes, filter, flat_map, map, slice_index}
+use Rattle.std.specs.Prelude.{◌≡◌, ℕ, ◌+◌, ◌<◌, ◌≤◌, ◌==◌, List, [], ◌∷◌, ◌++◌, All, codes, filter, flat_map, map, slice_index}
 use Rattle.std.specs.Fmt.{decimal}
-use Rattle.std.proofs.Common.{Global}
 use Rattle.walk_laws.specs.declared.entry.Entry.{Entry}
 use Rattle.walk_laws.specs.declared.graph.Edge.{Edge}
 use Rattle.walk_laws.specs.Joined.{Joined}
@@ -26,10 +25,6 @@ pub record IsListing (edges : List Edge) (at text : List ℕ) : Type 0 where
   pub labelling : IsChl (Joined edges) at rows
   pub spelled : text ≡ lines_from at 1 rows
 
--- rows without where they lie in memory
-abbrev pub items_of : List (Vec Entry Global) → List (List Entry)
-items_of rows = map (λ row. row.items) rows
-
 -- each entry has a position of the ranking
 abbrev pub HasPositions : ℕ → List Entry → Type 0
 HasPositions n row = All (λ e. e.pos < n) row
@@ -38,6 +33,6 @@ HasPositions n row = All (λ e. e.pos < n) row
 abbrev pub AreOfNodes : ℕ → List (ℕ × ℕ) → Type 0
 AreOfNodes n entries = All (λ e. (1 ≤ e.0) × (e.0 ≤ n)) entries
 
--- what a list of nodes with distances gives to the row of v, for a hub at the position p
+-- the distances of node v among nodes with distances, as entries of the hub at the position p
 abbrev pub entries_of : ℕ → ℕ → List (ℕ × ℕ) → List Entry
 entries_of p v planted = map (λ e. record { pos = p; dist = e.1 }) (filter (λ e. e.0 == v) planted)

@@ -15,3 +15,11 @@ IsCommand words (ListRows graph order) =
     × (words ≡ program ∷ codes "list" ∷ codes "--graph" ∷ graph ∷ codes "--order" ∷ order ∷ [])
     × IsPlainValue graph
     × IsPlainValue order
+
+-- the words are no command
+abbrev pub IsNoCommand : List (List ℕ) → Type 0
+IsNoCommand words = (asked : Asked) → ¬ (IsCommand words asked)
+
+-- the words are the command `list` with these names
+abbrev pub IsList : List (List ℕ) → List ℕ → List ℕ → Type 0
+IsList words graph order = IsCommand words (ListRows graph order)

@@ -1,8 +1,8 @@
 //! The command of the program, over any desk: `words` are read, `gr_reader` makes a graph of a text, `plant_tree` finds
 //! the hub entries of one root, `rows` makes rows and then lines of all of them, and `command` says the lines.
-//! It stands on walk_laws, rank_table and desk_io. Its callers use [`run`] and [`Status`], with the words `IsCommand`
-//! (specs/Words), `Lists` (specs/Listing), `IsListing` (specs/PrintedRows), `IsPlainGraph` (specs/PlainGraph), and
-//! `Counts`, `IsQuiet`, `OnlySays` (specs/Outcome).
+//! It stands on walk_laws, rank_table and desk_io. Its callers use [`run`] and [`Status`], with the words `IsList`,
+//! `IsNoCommand` (specs/Words), `SaysLines` and the like (specs/Listing), `IsListing` (specs/PrintedRows), `IsPlainGraph`
+//! (specs/PlainGraph), and `CountsInput`, `IsQuiet`, `OnlySays` (specs/Outcome). specs/Ending is private to `command`.
 #![tactic(auto)]
 
 mod command;

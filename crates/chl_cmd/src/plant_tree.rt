@@ -27,7 +27,7 @@ pub fn plant(alloc: Global, graph: &Graph, ranking: &Ranking, p: u32) -> Result<
     ensures nodes { IfOk result (λ planted. AreOfNodes graph.now.n planted.items) }
     ensures rising { IfOk result (λ planted. IsStrictlyIncreasing (map (λ e. e.0) planted.items)) }
     ensures each { IfOk result (λ planted. (h v d : ℕ) → slice_get ranking.now p ≡ Some h
-        → Contains planted.items (v, d) ↔ IsCanonical (Joined graph.now.edges) ranking.now h v d) }
+        → (Contains planted.items (v, d) ↔ IsCanonical (Joined graph.now.edges) ranking.now h v d)) }
 {
     let mut nodes = vec![in alloc; Reach::Unreached; graph.n() as usize + 1]?;
     let root = Found {

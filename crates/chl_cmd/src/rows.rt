@@ -1,7 +1,7 @@
 ghost use Rattle.std.specs.Prelude.{◌≡◌, ℕ, ◌+◌, ◌<◌, ◌≤◌, ◌∷◌, ◌++◌, [], All, map, length, replicate, slice_index, IfOk, OnOk};
 ghost use Rattle.walk_laws.specs.Joined.{Joined};
 ghost use Rattle.walk_laws.specs.Labelling.{IsChl, label_row};
-ghost use Rattle.chl_cmd.specs.PrintedRows.{entry_words, row_line, lines_from, AreOfNodes, HasPositions, IsListing, items_of, entries_of};
+ghost use Rattle.chl_cmd.specs.PrintedRows.{entry_words, row_line, lines_from, AreOfNodes, HasPositions, IsListing, entries_of};
 
 use crate::plant_tree::plant;
 use itoa::Buffer;
@@ -25,7 +25,7 @@ pub fn rows_text(alloc: Global, graph: &Graph, ranking: &Ranking) -> Result<Vec<
 /// The row of each node, the row of node v at place v - 1.
 fn planted_rows(alloc: Global, graph: &Graph, ranking: &Ranking) -> Result<Vec<Row>, AllocError>
     requires { length ranking.now ≡ graph.now.n }
-    ensures { IfOk result (λ rows. IsChl (Joined graph.now.edges) ranking.now (items_of rows.items)) }
+    ensures { IfOk result (λ rows. IsChl (Joined graph.now.edges) ranking.now (map (λ row. row.items) rows.items)) }
 {
     let n = graph.n();
     let mut rows = empty_rows(alloc, n)?;
@@ -38,7 +38,7 @@ fn planted_rows(alloc: Global, graph: &Graph, ranking: &Ranking) -> Result<Vec<R
 
 /// As many empty rows.
 fn empty_rows(alloc: Global, n: u32) -> Result<Vec<Row>, AllocError>
-    ensures { IfOk result (λ rows. items_of rows.items ≡ replicate n []) }
+    ensures { IfOk result (λ rows. map (λ row. row.items) rows.items ≡ replicate n []) }
 {
     let mut rows = Vec::new(alloc);
     for _ in 0..n {
@@ -51,7 +51,7 @@ fn empty_rows(alloc: Global, n: u32) -> Result<Vec<Row>, AllocError>
 fn add_tree(rows: &mut [Row], p: u32, planted: &[(u32, u64)]) -> Result<(), AllocError>
     requires { AreOfNodes (length rows.old) planted.now }
     ensures { OnOk result ((v : ℕ) → 1 ≤ v → v ≤ length rows.old
-        → label_row (items_of rows.new) v ≡ label_row (items_of rows.old) v ++ entries_of p v planted.now) }
+        → label_row (map (λ row. row.items) rows.new) v ≡ label_row (map (λ row. row.items) rows.old) v ++ entries_of p v planted.now) }
 {
     for (v, dist) in planted {
         rows[(*v - 1) as usize].push(Entry {
@@ -65,7 +65,7 @@ fn add_tree(rows: &mut [Row], p: u32, planted: &[(u32, u64)]) -> Result<(), Allo
 /// The lines of the rows.
 fn print_rows(alloc: Global, ranking: &Ranking, rows: &[Row]) -> Result<Vec<u8>, AllocError>
     requires { All (λ row. HasPositions (length ranking.now) row.items) rows.now }
-    ensures { IfOk result (λ text. text.items ≡ lines_from ranking.now 1 (items_of rows.now)) }
+    ensures { IfOk result (λ text. text.items ≡ lines_from ranking.now 1 (map (λ row. row.items) rows.now)) }
 {
     let mut text = Vec::new(alloc);
     for (place, row) in rows.iter().enumerate() {

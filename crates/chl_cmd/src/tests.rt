@@ -2,7 +2,9 @@ ghost use Rattle.std.specs.Prelude.{◌<◌};
 
 use super::*;
 use desk_io::{Call, FreeGate, MemDesk};
+use rank_table::OrderFault;
 use std::alloc::{AllocError, Global};
+use std::process::Abort;
 use std::test::Fail;
 
 /// A run over a desk that has the files `g` and `o`, and what it is to come to.
@@ -189,19 +191,65 @@ fn words_of(alloc: Global, line: &str) -> Result<Vec<String>, AllocError> {
     Ok(words)
 }
 
+/// Runs a case over a desk of which one call moves at most `bite` bytes, and compares how it ends and what it says.
+fn compare<R: Abort + AllocGlobal>(rt: &R, case: &Case, bite: u32, title: &str) -> Result<(), Fail>
+    requires { 0 < bite }
+{
+    let mut desk = desk_of(rt.alloc(), case, bite)?;
+    let words = words_of(rt.alloc(), case.words)?;
+    let said = Vec::from_slice(rt.alloc(), case.said.as_bytes())?;
+    let status = run(rt, rt.alloc(), &words, &mut desk, &FreeGate);
+    assert_eq!(rt; status.number(), case.number, "{title}");
+    assert_eq!(rt; desk.said(), said.as_slice(), "{title}");
+    Ok(())
+}
+
 #[test]
 fn runs_end_and_say_as_the_table_tells(rt: HostRuntime) -> Result<(), Fail> {
     for case in table(rt.alloc())? {
         for bite in case.bites {
             assert!(rt; 0 < bite);
             let title = format!(in rt.alloc(); "{case:?} by {bite}")?;
-            let mut desk = desk_of(rt.alloc(), &case, bite)?;
-            let words = words_of(rt.alloc(), case.words)?;
-            let said = Vec::from_slice(rt.alloc(), case.said.as_bytes())?;
-            let status = run(&rt, rt.alloc(), &words, &mut desk, &FreeGate);
-            assert_eq!(rt; status.number(), case.number, "{title}");
-            assert_eq!(rt; desk.said(), said.as_slice(), "{title}");
+            compare(&rt, &case, bite, &title)?;
         }
     }
     Ok(())
+}
+
+/// The line of each status on standard error.
+fn lines() -> [(Status, &'static str); 7] {
+    [
+        (Status::Done, "chl: done"),
+        (Status::Usage, "chl: usage"),
+        (
+            Status::GraphText(TextFault {
+                line: 1,
+                kind: TextKind::BadField,
+            }),
+            "chl: graph line 1: bad field",
+        ),
+        (
+            Status::OrderText(OrderFault::BadField { line: 1 }),
+            "chl: order line 1: bad field",
+        ),
+        (Status::ReadFault, "chl: read failed"),
+        (Status::WriteFault, "chl: write failed"),
+        (Status::NoMemory, "chl: out of memory"),
+    ]
+}
+
+#[test]
+fn each_status_has_its_line(rt: HostRuntime) -> Result<(), Fail> {
+    for (status, line) in lines() {
+        let text = format!(in rt.alloc(); "{status}")?;
+        assert_eq!(rt; text.as_str(), line);
+    }
+    Ok(())
+}
+
+/// With ample memory the path of three does not end for want of it. Its allocations can be made to fail in turn.
+#[test]
+fn a_path_of_three_is_listed(rt: HostRuntime) -> Result<(), Fail> {
+    let rows = "l 1 2 1 1 0\nl 2 2 0\nl 3 2 1 3 0\n";
+    compare(&rt, &listed(PATH, "2\n1\n3\n", rows), 4096, "path")
 }

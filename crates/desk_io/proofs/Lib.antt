@@ -4,4 +4,3 @@ pub mod FileLemmas
 pub mod InputLemmas
 pub mod Numbers
 pub mod FrontLines
-pub mod GatheredText

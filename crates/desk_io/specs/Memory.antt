@@ -1,8 +1,8 @@
 -- A desk in memory, and what its calls do.
-use Rattle.std.specs.Prelude.{◌≡◌, ℕ, zero, suc, Bool, true, false, ◌+◌, ◌++◌, [], drop, ◌⊎◌, List, None, Contains, min, refl}
+use Rattle.std.specs.Prelude.{◌≡◌, ℕ, zero, suc, Bool, true, false, ◌+◌, ◌++◌, [], ◌∷◌, drop, ◌⊎◌, List, None, Contains, min, refl}
 use Rattle.std.specs.FinMap as map
 use Rattle.std.specs.Coded.{Coded, code_by, coded×, coded_ℕ, coded_bool, coded_list}
-use Rattle.desk_io.specs.Contents.{Contents}
+use Rattle.desk_io.specs.Contents.{Contents, opened}
 use Rattle.desk_io.specs.Counts.{last_count}
 use Rattle.desk_io.specs.declared.desk.DeskFault.{DeskFault}
 use Rattle.desk_io.specs.declared.desk.DeskFault.TheVariants.{Failed, NoMemory}
@@ -31,10 +31,15 @@ abbrev pub count_after : DeskFault → ℕ → ℕ
 count_after Failed count = next count
 count_after NoMemory count = count
 
+-- whether no call is among the failing ones
+abbrev pub has_none : List (Call × ℕ) → Bool
+has_none [] = true
+has_none (call ∷ calls) = false
+
 -- a desk on which nothing was done yet
 abbrev pub empty_memory : ℕ → List (Call × ℕ) → Memory
 empty_memory bite failing = record {
-  contents = record { files = map.empty; rest = []; said = [] };
+  contents = record { files = map.empty; steady = has_none failing; input = []; rest = []; earlier = []; said = [] };
   is_open = false;
   input_faults = 0;
   output_faults = 0;
@@ -49,9 +54,13 @@ empty_memory bite failing = record {
 abbrev pub with_file : Memory → List ℕ → List ℕ → Memory
 with_file m name bytes = record m { contents = record m.contents { files = map.insert m.contents.files name bytes } }
 
--- m, after a call of `open_in` that opened an input of these bytes, and after one that failed
-abbrev pub with_input : Memory → List ℕ → Memory
-with_input m bytes = record m { contents = record m.contents { rest = bytes }; is_open = true; opens = next m.opens }
+-- m, with the opened input behind those before it
+abbrev pub with_input_kept : Memory → Memory
+with_input_kept m = record m { contents = record m.contents { earlier = m.contents.earlier ++ (m.contents.input, m.contents.rest) ∷ [] } }
+
+-- m, after a call of `open_in` that opened the named input of these bytes, and after one that failed
+abbrev pub with_input : Memory → List ℕ → List ℕ → Memory
+with_input m name bytes = record m { contents = opened name bytes m.contents; is_open = true; opens = next m.opens }
 
 abbrev pub with_open_fault : Memory → DeskFault → Memory
 with_open_fault m fault = record m { input_faults = count_after fault m.input_faults; opens = next m.opens }
@@ -101,18 +110,19 @@ same_call Say = refl
 -- and a desk as the tuple of its fields
 abbrev pub memory_code : Coded Memory
 memory_code = code_by _
-    (coded× (map.code (coded_list coded_ℕ) (coded_list coded_ℕ)) (coded× (coded_list coded_ℕ) (coded× (coded_list coded_ℕ) (coded× coded_bool (coded× coded_ℕ (coded× coded_ℕ (coded× coded_ℕ (coded×
-    (coded_list (coded× (code_by ℕ coded_ℕ call_place call_at same_call) coded_ℕ)) (coded× coded_ℕ (coded× coded_ℕ coded_ℕ))))))))))
-    (λ (m : Memory). (m.contents.files, (m.contents.rest, (m.contents.said, (m.is_open, (m.input_faults, (m.output_faults, (m.bite, (m.failing, (m.opens, (m.reads, m.says)))))))))))
+    (coded× (map.code (coded_list coded_ℕ) (coded_list coded_ℕ)) (coded× coded_bool (coded× (coded_list coded_ℕ) (coded× (coded_list coded_ℕ) (coded× (coded_list (coded× (coded_list coded_ℕ) (coded_list coded_ℕ))) (coded× (coded_list coded_ℕ)
+    (coded× coded_bool (coded× coded_ℕ (coded× coded_ℕ (coded× coded_ℕ (coded×
+    (coded_list (coded× (code_by ℕ coded_ℕ call_place call_at same_call) coded_ℕ)) (coded× coded_ℕ (coded× coded_ℕ coded_ℕ)))))))))))))
+    (λ (m : Memory). (m.contents.files, (m.contents.steady, (m.contents.input, (m.contents.rest, (m.contents.earlier, (m.contents.said, (m.is_open, (m.input_faults, (m.output_faults, (m.bite, (m.failing, (m.opens, (m.reads, m.says))))))))))))))
     (λ t. record {
-      contents = record { files = t.0; rest = t.1.0; said = t.1.1.0 };
-      is_open = t.1.1.1.0;
-      input_faults = t.1.1.1.1.0;
-      output_faults = t.1.1.1.1.1.0;
-      bite = t.1.1.1.1.1.1.0;
-      failing = t.1.1.1.1.1.1.1.0;
-      opens = t.1.1.1.1.1.1.1.1.0;
-      reads = t.1.1.1.1.1.1.1.1.1.0;
-      says = t.1.1.1.1.1.1.1.1.1.1;
+      contents = record { files = t.0; steady = t.1.0; input = t.1.1.0; rest = t.1.1.1.0; earlier = t.1.1.1.1.0; said = t.1.1.1.1.1.0 };
+      is_open = t.1.1.1.1.1.1.0;
+      input_faults = t.1.1.1.1.1.1.1.0;
+      output_faults = t.1.1.1.1.1.1.1.1.0;
+      bite = t.1.1.1.1.1.1.1.1.1.0;
+      failing = t.1.1.1.1.1.1.1.1.1.1.0;
+      opens = t.1.1.1.1.1.1.1.1.1.1.1.0;
+      reads = t.1.1.1.1.1.1.1.1.1.1.1.1.0;
+      says = t.1.1.1.1.1.1.1.1.1.1.1.1.1;
     })
     (λ _. refl)

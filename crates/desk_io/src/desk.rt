@@ -1,6 +1,6 @@
-ghost use Rattle.std.specs.Prelude.{◌≡◌, ℕ, Bool, true, ◌+◌, ◌<◌, ◌≤◌, ◌++◌, length, take, [], Option, Some, IsTrue, OnOk, OnErr, IfOk, IfSome};
+ghost use Rattle.std.specs.Prelude.{◌≡◌, ◌≢◌, ◌↔◌, ℕ, Bool, true, ◌+◌, ◌<◌, ◌≤◌, ◌++◌, length, take, [], Option, Some, Err, IsTrue, OnOk, OnErr, IfOk, IfSome};
 ghost use Rattle.std.specs.FinMap as map;
-ghost use Rattle.desk_io.specs.Contents.{Contents, Tells};
+ghost use Rattle.desk_io.specs.Contents.{Contents, Tells, IsSteady, Lacks, opened};
 ghost use Rattle.desk_io.specs.Counts.{CountsFailure};
 
 use thiserror::Error;
@@ -18,7 +18,8 @@ pub enum DeskFault {
 
 /// The outside: one input at a time, and standard output.
 pub trait Desk {
-    /// What it tells of its bytes; a real desk tells nothing.
+    /// What it tells of its bytes; a real desk tells nothing. A desk that tells them may be steady: then no call fails
+    /// but the opening of a name that no file has.
     ghost told: { Self → Option Contents };
 
     /// Whether an input was opened.
@@ -34,7 +35,8 @@ pub trait Desk {
     fn open_in(&mut self, name: &str) -> Result<(), DeskFault>
         ensures opened { OnOk result (IsTrue (is_open self.new)) }
         ensures found { OnOk result (Tells (told self.old) (told self.new)
-            (λ a b. (map.get a.files name.now ≡ Some b.rest) × (b ≡ record a { rest = b.rest }))) }
+            (λ a b. (map.get a.files name.now ≡ Some b.rest) × (b ≡ opened name.now b.rest a))) }
+        ensures steady { IsSteady (told self.old) → ((result ≡ Err DeskFault.Failed) ↔ Lacks (told self.old) name.now) }
         ensures refused { OnErr result ((told self.new ≡ told self.old) × (is_open self.new ≡ is_open self.old)) }
         ensures input_count { CountsFailure result (input_faults self.old) (input_faults self.new) }
         ensures output_count { output_faults self.new ≡ output_faults self.old };
@@ -48,6 +50,7 @@ pub trait Desk {
         ensures moved { IfOk result (λ n. Tells (told self.old) (told self.new)
             (λ a b. (a.rest ≡ take n buf.new ++ b.rest) × (b ≡ record a { rest = b.rest }))) }
         ensures end { IfOk result (λ n. n ≡ 0 → 0 < length buf.old → IfSome (told self.old) (λ a. a.rest ≡ [])) }
+        ensures steady { IsSteady (told self.old) → result ≢ Err DeskFault.Failed }
         ensures refused { OnErr result (told self.new ≡ told self.old) }
         ensures input_count { CountsFailure result (input_faults self.old) (input_faults self.new) }
         ensures output_count { output_faults self.new ≡ output_faults self.old };
@@ -59,6 +62,7 @@ pub trait Desk {
         ensures some { IfOk result (λ n. 0 < length piece.now → 0 < n) }
         ensures said { IfOk result (λ n. Tells (told self.old) (told self.new)
             (λ a b. b ≡ record a { said = a.said ++ take n piece.now })) }
+        ensures steady { IsSteady (told self.old) → result ≢ Err DeskFault.Failed }
         ensures refused { OnErr result (told self.new ≡ told self.old) }
         ensures input_count { input_faults self.new ≡ input_faults self.old }
         ensures output_count { CountsFailure result (output_faults self.old) (output_faults self.new) };

@@ -1,8 +1,8 @@
-ghost use Rattle.std.specs.Prelude.{◌≡◌, ℕ, ◌++◌, ◌<◌, ◌≤◌, ◌↔◌, [], length, take, drop, min, Bool, true, false, IsTrue, IfOk, OnOk, IfErr, OnErr, Contains, Some};
+ghost use Rattle.std.specs.Prelude.{◌≡◌, ◌≢◌, ℕ, ◌++◌, ◌<◌, ◌≤◌, ◌↔◌, [], length, take, drop, min, Bool, true, false, IsTrue, IfOk, OnOk, IfErr, OnErr, Contains, Some, None, Err};
 ghost use Rattle.std.specs.FinMap as map;
 ghost use Rattle.std.specs.Option.{option_copied};
 ghost use Rattle.desk_io.specs.Counts.{CountsFailure};
-ghost use Rattle.desk_io.specs.Memory.{next, with_file, with_input, with_open_fault, with_read, with_read_fault, with_said, with_say_fault, FailsToOpen, FailsToRead, FailsToSay};
+ghost use Rattle.desk_io.specs.Memory.{next, with_file, with_input, with_input_kept, with_open_fault, with_read, with_read_fault, with_said, with_say_fault, FailsToOpen, FailsToRead, FailsToSay};
 
 use crate::desk::{Desk, DeskFault};
 use std::alloc::{AllocError, Global};
@@ -25,8 +25,12 @@ pub enum Call {
 pub struct MemDesk {
     alloc: Global,
     files: BTreeMap<String, Vec<u8>>,
+    /// The name of the input that was opened last, its bytes, and how many of these were read.
+    name: String,
     input: Vec<u8>,
     at: usize,
+    /// The inputs before it, each with what was left of it.
+    earlier: Vec<(String, Vec<u8>)>,
     is_open: bool,
     said: Vec<u8>,
     bite: u32,
@@ -41,7 +45,7 @@ pub struct MemDesk {
 impl Model for MemDesk {
     ghost use Rattle.std.specs.Prelude.{ℕ, ◌<◌, ◌≤◌, drop, map, vec_len, string_bytes};
     ghost use Rattle.std.specs.FinMap.{from_entries};
-    ghost use Rattle.desk_io.specs.Memory.{Memory, memory_code};
+    ghost use Rattle.desk_io.specs.Memory.{Memory, has_none, memory_code};
 
     ghost Value = { Memory };
 
@@ -50,7 +54,10 @@ impl Model for MemDesk {
     ghost view = { λ d. record {
       contents = record {
         files = from_entries (map (λ e. (string_bytes e.0, e.1.items)) d.files.entries);
+        steady = has_none d.fails.items;
+        input = string_bytes d.name;
         rest = drop d.at d.input.items;
+        earlier = map (λ e. (string_bytes e.0, e.1.items)) d.earlier.items;
         said = d.said.items;
       };
       is_open = d.is_open;
@@ -78,8 +85,10 @@ impl MemDesk {
         Ok(MemDesk {
             alloc,
             files: BTreeMap::new(alloc),
+            name: String::new(alloc),
             input: Vec::new(alloc),
             at: 0,
+            earlier: Vec::new(alloc),
             is_open: false,
             said: Vec::new(alloc),
             bite,
@@ -127,6 +136,17 @@ impl MemDesk {
     {
         (self.input_faults, self.output_faults)
     }
+
+    /// Puts the opened input, with what is left of it, behind the inputs before it.
+    fn keep_input(&mut self) -> Result<(), AllocError>
+        ensures ok { OnOk result (self.new ≡ with_input_kept self.old) }
+        ensures err { OnErr result (self.new ≡ self.old) }
+    {
+        let name = String::from_str(self.alloc, self.name.as_str())?;
+        let rest = Vec::from_slice(self.alloc, &self.input.as_slice()[self.at..])?;
+        self.earlier.push((name, rest))?;
+        Ok(())
+    }
 }
 
 /// Whether this call, by its kind and number, is among the failing ones.
@@ -157,8 +177,10 @@ impl Desk for MemDesk {
     fn open_in(&mut self, name: &str) -> Result<(), DeskFault>
         ensures opened { OnOk result (IsTrue self.new.is_open) }
         ensures found { OnOk result (map.get self.old.contents.files name.now ≡ Some self.new.contents.rest) }
+        ensures steady { IsTrue self.old.contents.steady
+            → ((result ≡ Err DeskFault.Failed) ↔ (map.get self.old.contents.files name.now ≡ None)) }
         ensures refused { OnErr result (self.new.contents ≡ self.old.contents) }
-        ensures ok { OnOk result (self.new ≡ with_input self.old self.new.contents.rest) }
+        ensures ok { OnOk result (self.new ≡ with_input self.old name.now self.new.contents.rest) }
         ensures err { IfErr result (λ fault. self.new ≡ with_open_fault self.old fault) }
         ensures input_count { CountsFailure result self.old.input_faults self.new.input_faults }
         ensures output_count { self.new.output_faults ≡ self.old.output_faults }
@@ -176,6 +198,13 @@ impl Desk for MemDesk {
         let Ok(input) = Vec::from_slice(self.alloc, bytes) else {
             return Err(DeskFault::NoMemory);
         };
+        let Ok(name) = String::from_str(self.alloc, name) else {
+            return Err(DeskFault::NoMemory);
+        };
+        if self.keep_input().is_err() {
+            return Err(DeskFault::NoMemory);
+        }
+        self.name = name;
         self.input = input;
         self.at = 0;
         self.is_open = true;
@@ -188,6 +217,7 @@ impl Desk for MemDesk {
         ensures within { IfOk result (λ n. n ≤ length buf.old) }
         ensures moved { IfOk result (λ n. self.old.contents.rest ≡ take n buf.new ++ self.new.contents.rest) }
         ensures end { IfOk result (λ n. n ≡ 0 → 0 < length buf.old → self.old.contents.rest ≡ []) }
+        ensures steady { IsTrue self.old.contents.steady → result ≢ Err DeskFault.Failed }
         ensures refused { OnErr result (self.new.contents ≡ self.old.contents) }
         ensures input_count { CountsFailure result self.old.input_faults self.new.input_faults }
         ensures output_count { self.new.output_faults ≡ self.old.output_faults }
@@ -214,6 +244,7 @@ impl Desk for MemDesk {
         ensures within { IfOk result (λ n. n ≤ length piece.now) }
         ensures some { IfOk result (λ n. 0 < length piece.now → 0 < n) }
         ensures said { IfOk result (λ n. self.new.contents.said ≡ self.old.contents.said ++ take n piece.now) }
+        ensures steady { IsTrue self.old.contents.steady → result ≢ Err DeskFault.Failed }
         ensures refused { OnErr result (self.new.contents ≡ self.old.contents) }
         ensures input_count { self.new.input_faults ≡ self.old.input_faults }
         ensures output_count { CountsFailure result self.old.output_faults self.new.output_faults }

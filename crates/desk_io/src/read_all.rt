@@ -1,5 +1,5 @@
 ghost use Rattle.std.specs.Prelude.{◌≡◌, ℕ, ◌<◌, ◌≤◌, [], ◌∷◌, length, IsTrue, OnOk, IfOk, IfSome};
-ghost use Rattle.desk_io.specs.Contents.{Tells};
+ghost use Rattle.desk_io.specs.Contents.{Tells, IsSteady};
 ghost use Rattle.desk_io.specs.HandOn.{Moves, RefusesNext};
 ghost use Rattle.desk_io.specs.Reading.{Reads, ReadsToEnd, HandsOn, HandsOnAll, PassesLimit, HandsOnUntil, OnFailed, OnTooLong, OnNoMemory, IfRefused, CountsReadFailure};
 
@@ -36,6 +36,7 @@ pub fn read_all_into<D: Desk, F: Feed>(desk: &mut D, feed: &mut F) -> Result<(),
         HandsOnUntil F.feed_gives fault feed.old feed.new (D.told desk.old) (D.told desk.new)) }
     ensures failed { OnFailed result (HandsOn F.feed_gives feed.old feed.new (D.told desk.old) (D.told desk.new)) }
     ensures no_memory { OnNoMemory result (HandsOn F.feed_gives feed.old feed.new (D.told desk.old) (D.told desk.new)) }
+    ensures steady { IsSteady (D.told desk.old) → OnFailed result ⊥ }
     ensures input_count { CountsReadFailure result (D.input_faults desk.old) (D.input_faults desk.new) }
     ensures output_count { D.output_faults desk.new ≡ D.output_faults desk.old }
 {
@@ -69,6 +70,7 @@ fn hand_on<D: Desk, F: Feed>(
         RefusesNext F.feed_gives fault feed.old feed.new (D.told desk.old) (D.told desk.new) (length buf.old)) }
     ensures failed { OnFailed result (Moves F.feed_gives feed.old feed.new (D.told desk.old) (D.told desk.new) 0) }
     ensures no_memory { OnNoMemory result (Moves F.feed_gives feed.old feed.new (D.told desk.old) (D.told desk.new) 0) }
+    ensures steady { IsSteady (D.told desk.old) → OnFailed result ⊥ }
     ensures input_count { CountsReadFailure result (D.input_faults desk.old) (D.input_faults desk.new) }
     ensures output_count { D.output_faults desk.new ≡ D.output_faults desk.old }
 {
@@ -92,6 +94,7 @@ fn expect_end<D: Desk, E>(desk: &mut D) -> Result<(), ReadEnd<E>>
     ensures refused { IfRefused result (λ _. ⊥) }
     ensures failed { OnFailed result (D.told desk.new ≡ D.told desk.old) }
     ensures no_memory { OnNoMemory result (D.told desk.new ≡ D.told desk.old) }
+    ensures steady { IsSteady (D.told desk.old) → OnFailed result ⊥ }
     ensures input_count { CountsReadFailure result (D.input_faults desk.old) (D.input_faults desk.new) }
     ensures output_count { D.output_faults desk.new ≡ D.output_faults desk.old }
 {

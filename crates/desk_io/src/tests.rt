@@ -29,6 +29,12 @@ fn a_real_file_is_read(rt: HostRuntime) -> Result<(), Fail> {
     assert_eq!(rt; desk.read(&mut buf)?, 3);
     assert_eq!(rt; buf.as_slice(), [97, 98, 99, 0, 0, 0, 0, 0].as_slice());
     assert_eq!(rt; desk.read(&mut buf)?, 0);
+    let next = format!(in rt.alloc(); "{name}.next")?;
+    fs::write(&rt, next.as_str(), "de")?;
+    desk.open_in(next.as_str())?;
+    assert_eq!(rt; desk.read(&mut buf)?, 2);
+    assert_eq!(rt; buf.as_slice(), [100, 101, 99, 0, 0, 0, 0, 0].as_slice());
+    fs::remove_file(&rt, next.as_str())?;
     fs::remove_file(&rt, name.as_str())?;
     assert_eq!(rt; desk.open_in(name.as_str()), Err(DeskFault::Failed));
     assert_eq!(rt; desk.faults(), (1, 0));

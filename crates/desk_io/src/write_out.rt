@@ -1,5 +1,5 @@
-ghost use Rattle.std.specs.Prelude.{◌≡◌, ℕ, ◌++◌, take, OnOk, OnErr};
-ghost use Rattle.desk_io.specs.Contents.{Tells};
+ghost use Rattle.std.specs.Prelude.{◌≡◌, ◌≢◌, ℕ, ◌++◌, take, Err, OnOk, OnErr};
+ghost use Rattle.desk_io.specs.Contents.{Tells, IsSteady};
 ghost use Rattle.desk_io.specs.Counts.{CountsFailure};
 
 use crate::desk::{Desk, DeskFault};
@@ -17,6 +17,7 @@ pub fn write_all<D: Desk>(desk: &mut D, out: Out, piece: &[u8]) -> Result<(), De
     ensures ok { OnOk result (Tells (D.told desk.old) (D.told desk.new) (λ a b. b ≡ record a { said = a.said ++ piece.now })) }
     ensures err { OnErr result (Tells (D.told desk.old) (D.told desk.new)
         (λ a b. (k : ℕ) × (b ≡ record a { said = a.said ++ take k piece.now }))) }
+    ensures steady { IsSteady (D.told desk.old) → result ≢ Err DeskFault.Failed }
     ensures input_count { D.input_faults desk.new ≡ D.input_faults desk.old }
     ensures output_count { CountsFailure result (D.output_faults desk.old) (D.output_faults desk.new) }
 {

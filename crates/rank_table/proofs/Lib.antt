@@ -1,3 +1,2 @@
 pub mod OrderLines
 pub mod SeenNodes
-pub mod WholeText

@@ -1,3 +1,2 @@
 pub mod PlainOrder
 pub mod Reading
-pub mod Table

@@ -14,14 +14,18 @@ pub struct Ranking {
 }
 
 impl Model for Ranking {
-    ghost use Rattle.std.specs.Prelude.{ℕ, List};
-    ghost use Rattle.rank_table.specs.Table.{IsTable};
+    ghost use Rattle.std.specs.Prelude.{◌≡◌, ℕ, ◌+◌, ◌^◌, ◌<◌, ◌≤◌, List, length, slice_index};
+    ghost use Rattle.walk_laws.specs.Ranking.{IsRanking, position_of};
 
     ghost Value = { List ℕ };
 
     ghost view = { λ r. r.at.items };
 
-    ghost invariant = { λ r. IsTable r.at.items r.places.items };
+    ghost invariant = { λ r.
+        IsRanking r.at.items
+        × (length r.at.items < 2 ^ 32)
+        × (length r.places.items ≡ length r.at.items + 1)
+        × ((v : ℕ) → 1 ≤ v → v ≤ length r.at.items → slice_index r.places.items v ≡ position_of r.at.items v) };
 }
 
 impl Ranking {

@@ -1,7 +1,8 @@
 use Rattle.std.proofs.Common.{get_or, take, sym, ap, ◌∙◌, arith, rules, ◌≡◌, ℕ, ◌∷◌, ◌++◌, [], length, ◌-◌}
 use Rattle.std.proofs.lemmas.List.{append_assoc, get_or-map}
 use Rattle.walk_laws.specs.Labelling.{label_row}
-use Rattle.chl_cmd.specs.PrintedRows.{items_of, entries_of}
+use Rattle.chl_cmd.specs.PrintedRows.{entries_of}
+use Rattle.chl_cmd.proofs.RowItems.{items_of}
 use Rattle.chl_cmd.proofs.PlantedRows.{row_gain, entries_more}
 use Rattle.chl_cmd.proofs.rows.add_tree.Goals as goal
 

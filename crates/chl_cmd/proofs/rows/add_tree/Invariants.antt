@@ -1,6 +1,7 @@
 use Rattle.std.proofs.Common.{◌≡◌, ℕ, ◌≤◌, ◌++◌, take, length}
 use Rattle.walk_laws.specs.Labelling.{label_row}
-use Rattle.chl_cmd.specs.PrintedRows.{items_of, entries_of}
+use Rattle.chl_cmd.specs.PrintedRows.{entries_of}
+use Rattle.chl_cmd.proofs.RowItems.{items_of}
 use Rattle.chl_cmd.proofs.rows.add_tree.Given as goal
 
 -- each row has gained what the nodes so far give it

@@ -1,5 +1,5 @@
 use Rattle.std.proofs.Common.{◌≡◌, [], replicate}
-use Rattle.chl_cmd.specs.PrintedRows.{items_of}
+use Rattle.chl_cmd.proofs.RowItems.{items_of}
 use Rattle.chl_cmd.proofs.rows.empty_rows.Given as goal
 
 -- an empty row for each round

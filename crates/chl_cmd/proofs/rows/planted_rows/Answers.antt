@@ -6,7 +6,8 @@ use Rattle.std.proofs.lemmas.Option.{slice_get-get_or}
 use Rattle.walk_laws.specs.declared.entry.Entry.{Entry}
 use Rattle.walk_laws.specs.Joined.{Joined}
 use Rattle.walk_laws.specs.Labelling.{label_row}
-use Rattle.chl_cmd.specs.PrintedRows.{items_of, entries_of}
+use Rattle.chl_cmd.specs.PrintedRows.{entries_of}
+use Rattle.chl_cmd.proofs.RowItems.{items_of}
 use Rattle.chl_cmd.proofs.PlantedRows.{row_more, row_whole}
 use Rattle.chl_cmd.proofs.rows.planted_rows.Goals as goal
 

@@ -1,7 +1,7 @@
 use Rattle.std.proofs.Common.{◌≡◌, ℕ, ◌≤◌, length}
 use Rattle.walk_laws.specs.Joined.{Joined}
 use Rattle.walk_laws.specs.Labelling.{label_row}
-use Rattle.chl_cmd.specs.PrintedRows.{items_of}
+use Rattle.chl_cmd.proofs.RowItems.{items_of}
 use Rattle.chl_cmd.proofs.PlantedRows.{IsRowBelow}
 use Rattle.chl_cmd.proofs.rows.planted_rows.Given as goal
 

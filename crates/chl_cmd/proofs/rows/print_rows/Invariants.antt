@@ -1,5 +1,6 @@
 use Rattle.std.proofs.Common.{◌≡◌, ◌+◌, ◌++◌, drop}
-use Rattle.chl_cmd.specs.PrintedRows.{lines_from, items_of}
+use Rattle.chl_cmd.specs.PrintedRows.{lines_from}
+use Rattle.chl_cmd.proofs.RowItems.{items_of}
 use Rattle.chl_cmd.proofs.rows.print_rows.Given as goal
 
 -- the lines so far, and then those of the other rows
