@@ -14,12 +14,12 @@ gathered : (E : Type 0) (text : List ℕ) (pieces : List (List ℕ)) (after : Op
 gathered E text [] after taken = taken ∙ ap Some (sym (append-nil text))
 gathered E text (piece ∷ pieces) after taken =
     let P : Option (List ℕ) → Type 0 = λ next. TakesAll (Gathers {T = Unit {0}} {E = E}) next pieces after in
-    gathered E (text ++ piece) pieces after (subst P taken.1 taken.2)
+    gathered E (text ++ piece) pieces after (subst P taken.2 taken.3)
     ∙ ap Some (append_assoc text piece (concat pieces))
 
 graph_gathered : (before : Option (List ℕ)) (pieces : List (List ℕ)) (after : Option (List ℕ)) → TakesAll FeedsGraph before pieces after → TakesAll (Gathers {T = Unit {0}} {E = GrFault}) before pieces after
 graph_gathered before [] after taken = taken
-graph_gathered before (piece ∷ pieces) after taken = (taken.0, taken.1.0, graph_gathered taken.0 pieces after taken.2)
+graph_gathered before (piece ∷ pieces) after taken = (taken.0, taken.1, taken.2.0, graph_gathered taken.0 pieces after taken.3)
 
 -- a reader of a graph that has taken pieces has their text
 pub whole_graph : (before : Option (List ℕ)) (pieces : List (List ℕ)) (after : Option (List ℕ)) → before ≡ Some [] → TakesAll FeedsGraph before pieces after → after ≡ Some (concat pieces)
@@ -31,8 +31,8 @@ whole_graph before pieces after empty taken =
 order_gathered : (before : Reading) (pieces : List (List ℕ)) (after : Reading) → TakesAll FeedsOrder before pieces after → (after.n ≡ before.n) × TakesAll (Gathers {T = Unit {0}} {E = OrderFault}) before.text pieces after.text
 order_gathered before [] after taken = (ap (λ (r : Reading). r.n) taken, ap (λ (r : Reading). r.text) taken)
 order_gathered before (piece ∷ pieces) after taken =
-    let rest = order_gathered taken.0 pieces after taken.2 in
-    (rest.0 ∙ taken.1.0, (taken.0.text, taken.1.1, rest.1))
+    let rest = order_gathered taken.0 pieces after taken.3 in
+    (rest.0 ∙ taken.2.0, (taken.0.text, taken.1, taken.2.1, rest.1))
 
 pub whole_order : (before : Reading) (pieces : List (List ℕ)) (after : Reading) → before.text ≡ Some [] → TakesAll FeedsOrder before pieces after → (after.n ≡ before.n) × (after.text ≡ Some (concat pieces))
 whole_order before pieces after empty taken =

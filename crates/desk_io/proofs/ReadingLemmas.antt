@@ -1,5 +1,5 @@
 -- How the steps of a reading join.
-use Rattle.std.proofs.Common.{◌≡◌, ℕ, ◌+◌, ◌≤◌, ◌≢◌, zero, suc, get_or, take, List, [], ◌∷◌, ◌++◌, length, Option, Some, None, Result, Ok, Err, IfSome, refl, sym, ◌∙◌, ap, subst, append_assoc, length-append, arith}
+use Rattle.std.proofs.Common.{◌≡◌, ℕ, ◌+◌, ◌<◌, ◌≤◌, ◌≢◌, zero, suc, get_or, take, List, [], ◌∷◌, ◌++◌, length, Option, Some, None, Result, Ok, Err, IfSome, refl, sym, ◌∙◌, ap, subst, append_assoc, length-append, arith}
 use Rattle.std.specs.List.{concat}
 use Rattle.std.proofs.lemmas.List.Folds.{concat-append}
 use Rattle.std.proofs.lemmas.List.{append-nil}
@@ -53,13 +53,13 @@ module _ {F E : Type 0} (gives : F → List ℕ → Result (Unit {0}) E → F �
   -- the feed takes some pieces, and then others
   TakesAll-append : (ps qs : List (List ℕ)) (f m l : F) → TakesAll gives f ps m → TakesAll gives m qs l → TakesAll gives f (ps ++ qs) l
   TakesAll-append [] qs f m l first next = subst (λ x. TakesAll gives x qs l) first next
-  TakesAll-append (p ∷ ps) qs f m l first next = (first.0, first.1, TakesAll-append ps qs first.0 m l first.2 next)
+  TakesAll-append (p ∷ ps) qs f m l first next = (first.0, first.1, first.2, TakesAll-append ps qs first.0 m l first.3 next)
 
   -- one piece
-  pub one_piece : (f l : F) (old new : Option Contents) (piece : List ℕ) (size : ℕ) → length piece ≡ size → (answer : Result (Unit {0}) E) → answer ≡ Ok tt → gives f piece answer l → Tells old new (Reads piece) → Moves gives f l old new size
-  one_piece f l old new piece size size_is answer is_ok taken read = record {
+  pub one_piece : (f l : F) (old new : Option Contents) (piece : List ℕ) (size : ℕ) → 0 < size → length piece ≡ size → (answer : Result (Unit {0}) E) → answer ≡ Ok tt → gives f piece answer l → Tells old new (Reads piece) → Moves gives f l old new size
+  one_piece f l old new piece size some size_is answer is_ok taken read = record {
     pieces = piece ∷ [];
-    taken = (l, subst (λ r. gives f piece r l) is_ok taken, refl);
+    taken = (l, omega (arith, some, size_is), subst (λ r. gives f piece r l) is_ok taken, refl);
     size_is = ap length (append-nil piece) ∙ size_is;
     read = same_bytes old new (sym (append-nil piece)) read;
   }
