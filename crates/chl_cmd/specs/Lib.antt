@@ -1,8 +1,8 @@
-pub mod Ending
-pub mod GraphReading
-pub mod Listing
-pub mod Outcome
-pub mod PlainGraph
-pub mod PrintedRows
-pub mod Statuses
 pub mod Words
+pub mod Inputs
+pub mod Stops
+pub mod Statuses
+pub mod PrintedRows
+pub mod Decides
+pub mod Outcome
+pub mod Laws

@@ -1,88 +1,55 @@
--- What a run does to its desk, by how it ends.
-use Rattle.std.specs.Prelude.{◌≡◌, ℕ, List, ◌++◌}
+-- What a run does to its desk.
+use Rattle.std.specs.Prelude.{◌≡◌, ◌≢◌, ◌⊎◌, ◌++◌, ℕ, IsTrue, List, take, Option, Some, None, Ok, Err}
+use Rattle.std.specs.FinMap as finite_map
 use Rattle.desk_io.specs.Contents.{Contents}
-use Rattle.desk_io.specs.Counts.{Rises}
+use Rattle.chl_cmd.specs.Decides.{Decides, inputs_of, place_of}
+use Rattle.chl_cmd.specs.Inputs.{OpensInOrder, read_all}
+use Rattle.chl_cmd.specs.Statuses.{status_of}
+use Rattle.chl_cmd.specs.Stops.{MayStop}
 use Rattle.chl_cmd.specs.declared.status.Status.{Status}
-use Rattle.chl_cmd.specs.declared.status.Status.TheVariants.{Done, Usage, GraphText, OrderText, ReadFault, WriteFault, NoMemory}
+use Rattle.chl_cmd.specs.declared.status.Status.TheVariants.{Done, WriteFault, NoMemory}
+use Rattle.chl_cmd.specs.declared.stop.Stop.{Stop}
+use Rattle.chl_cmd.specs.declared.words.asked.Asked.{Asked}
 
--- what a status says of the count of failed calls of the input: it has risen with a read fault, and else stays
-abbrev pub CountsInput : Status → ℕ → ℕ → Type 0
-CountsInput Done old new = new ≡ old
-CountsInput Usage old new = new ≡ old
-CountsInput (GraphText fault) old new = new ≡ old
-CountsInput (OrderText fault) old new = new ≡ old
-CountsInput ReadFault old new = Rises old new
-CountsInput WriteFault old new = new ≡ old
-CountsInput NoMemory old new = new ≡ old
+-- the desk after these bytes were said, or a file was created that has them
+abbrev pub given : Option (List ℕ) → List ℕ → Contents → Contents
+given None bytes a = record a { said = a.said ++ bytes }
+given (Some out) bytes a = record a { files = finite_map.insert a.files out bytes; out = out }
 
--- and of the count of failed calls of the output: it has risen with a write fault, and else stays
-abbrev pub CountsOutput : Status → ℕ → ℕ → Type 0
-CountsOutput Done old new = new ≡ old
-CountsOutput Usage old new = new ≡ old
-CountsOutput (GraphText fault) old new = new ≡ old
-CountsOutput (OrderText fault) old new = new ≡ old
-CountsOutput ReadFault old new = new ≡ old
-CountsOutput WriteFault old new = Rises old new
-CountsOutput NoMemory old new = new ≡ old
+-- a front of the bytes was given, or nothing, not even a file
+abbrev pub GivesFront : Option (List ℕ) → List ℕ → Contents → Contents → Type 0
+GivesFront place bytes a b = (b ≡ a) ⊎ ((k : ℕ) × (b ≡ given place (take k bytes) a))
 
--- both
-abbrev pub Counts : Status → ℕ → ℕ → ℕ → ℕ → Type 0
-Counts status in_old in_new out_old out_new = CountsInput status in_old in_new × CountsOutput status out_old out_new
+-- all inputs were opened in order and each was read to its end, then the bytes that the files decide were given, and
+-- nothing else has changed
+abbrev pub Gives : Asked → Contents → Contents → Type 0
+Gives asked a b =
+    (bytes : List ℕ) × Decides asked a.files (Ok bytes) × (b ≡ given (place_of asked) bytes (read_all (inputs_of asked) a))
 
--- neither files nor standard output change, and a steady desk stays steady
-abbrev pub IsQuiet : Contents → Contents → Type 0
-IsQuiet a b = (b.files ≡ a.files) × (b.said ≡ a.said) × (b.steady ≡ a.steady)
+-- the same of a front of these bytes
+abbrev pub GivesPart : Asked → Contents → Contents → Type 0
+GivesPart asked a b =
+    (bytes : List ℕ) × Decides asked a.files (Ok bytes) × GivesFront (place_of asked) bytes (read_all (inputs_of asked) a) b
 
--- no file changes, standard output only grows, and a steady desk stays steady
-abbrev pub OnlySays : Contents → Contents → Type 0
-OnlySays a b = (b.files ≡ a.files) × ((more : List ℕ) × (b.said ≡ a.said ++ more)) × (b.steady ≡ a.steady)
+-- the inputs that were opened, and what was left of each, are the same
+pub record HasInputsOf (a b : Contents) : Type 0 where
+  pub earlier : b.earlier ≡ a.earlier
+  pub last : b.input ≡ a.input
+  pub rest : b.rest ≡ a.rest
 
--- the statuses with which nothing is said; of the others this word says nothing
-abbrev pub IsSilent : Status → Type 0
-IsSilent Done = ⊥
-IsSilent Usage = Unit {0}
-IsSilent (GraphText fault) = Unit {0}
-IsSilent (OrderText fault) = Unit {0}
-IsSilent ReadFault = Unit {0}
-IsSilent WriteFault = ⊥
-IsSilent NoMemory = ⊥
+-- no other input than those of the command was opened, none before the one before it was read to its end
+abbrev pub OpensNoOther : Asked → Contents → Contents → Type 0
+OpensNoOther asked a b = (mid : Contents) × OpensInOrder (inputs_of asked) a mid × HasInputsOf mid b
 
--- a status with which the reading of a graph can fail
-abbrev pub IsOfGraphReading : Status → Type 0
-IsOfGraphReading Done = ⊥
-IsOfGraphReading Usage = ⊥
-IsOfGraphReading (GraphText fault) = Unit {0}
-IsOfGraphReading (OrderText fault) = ⊥
-IsOfGraphReading ReadFault = Unit {0}
-IsOfGraphReading WriteFault = ⊥
-IsOfGraphReading NoMemory = Unit {0}
+-- no file has changed but the one that the command creates
+abbrev pub ChangesNoOther : Asked → Contents → Contents → Type 0
+ChangesNoOther asked a b = (name : List ℕ) → place_of asked ≢ Some name → finite_map.get b.files name ≡ finite_map.get a.files name
 
--- a status with which the reading of an order can fail
-abbrev pub IsOfOrderReading : Status → Type 0
-IsOfOrderReading Done = ⊥
-IsOfOrderReading Usage = ⊥
-IsOfOrderReading (GraphText fault) = ⊥
-IsOfOrderReading (OrderText fault) = Unit {0}
-IsOfOrderReading ReadFault = Unit {0}
-IsOfOrderReading WriteFault = ⊥
-IsOfOrderReading NoMemory = Unit {0}
-
--- a status with which the opening of a file can fail
-abbrev pub IsOfOpening : Status → Type 0
-IsOfOpening Done = ⊥
-IsOfOpening Usage = ⊥
-IsOfOpening (GraphText fault) = ⊥
-IsOfOpening (OrderText fault) = ⊥
-IsOfOpening ReadFault = Unit {0}
-IsOfOpening WriteFault = ⊥
-IsOfOpening NoMemory = Unit {0}
-
--- a status with which writing can fail
-abbrev pub IsOfWriting : Status → Type 0
-IsOfWriting Done = ⊥
-IsOfWriting Usage = ⊥
-IsOfWriting (GraphText fault) = ⊥
-IsOfWriting (OrderText fault) = ⊥
-IsOfWriting ReadFault = ⊥
-IsOfWriting WriteFault = Unit {0}
-IsOfWriting NoMemory = Unit {0}
+-- how a command may end: with its bytes given; with a part of them, where writing failed, as on no steady desk, or memory
+-- ran out; or stopped, with nothing given
+abbrev pub Ends : Asked → Status → Contents → Contents → Type 0
+Ends asked status a b =
+    ((status ≡ Done) × Gives asked a b)
+    ⊎ ((status ≡ WriteFault) × GivesPart asked a b × ¬ (IsTrue a.steady))
+    ⊎ ((status ≡ NoMemory) × GivesPart asked a b)
+    ⊎ ((stop : Stop) × (status ≡ status_of stop) × MayStop a.steady stop (Decides asked a.files (Err stop)) × OpensInOrder (inputs_of asked) a b)

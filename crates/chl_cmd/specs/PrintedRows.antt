@@ -1,10 +1,7 @@
 -- The printed rows of a labelling.
-use Rattle.std.specs.Prelude.{◌≡◌, ℕ, ◌+◌, ◌<◌, ◌≤◌, ◌==◌, List, [], ◌∷◌, ◌++◌, All, codes, filter, flat_map, map, slice_index}
+use Rattle.std.specs.Prelude.{ℕ, ◌+◌, ◌<◌, List, [], ◌∷◌, ◌++◌, All, codes, flat_map, slice_index}
 use Rattle.std.specs.Fmt.{decimal}
 use Rattle.walk_laws.specs.declared.entry.Entry.{Entry}
-use Rattle.walk_laws.specs.declared.graph.Edge.{Edge}
-use Rattle.walk_laws.specs.Joined.{Joined}
-use Rattle.walk_laws.specs.Labelling.{IsChl}
 
 -- ` H D`: the hub, of which the entry has the position in the ranking, and its distance
 abbrev pub entry_words : List ℕ → Entry → List ℕ
@@ -19,20 +16,6 @@ abbrev pub lines_from : List ℕ → ℕ → List (List Entry) → List ℕ
 lines_from at v [] = []
 lines_from at v (row ∷ rows) = row_line at v row ++ lines_from at (v + 1) rows
 
--- the text is the lines of the canonical hub labelling
-pub record IsListing (edges : List Edge) (at text : List ℕ) : Type 0 where
-  pub rows : List (List Entry)
-  pub labelling : IsChl (Joined edges) at rows
-  pub spelled : text ≡ lines_from at 1 rows
-
 -- each entry has a position of the ranking
 abbrev pub HasPositions : ℕ → List Entry → Type 0
 HasPositions n row = All (λ e. e.pos < n) row
-
--- each entry is of a node 1..n
-abbrev pub AreOfNodes : ℕ → List (ℕ × ℕ) → Type 0
-AreOfNodes n entries = All (λ e. (1 ≤ e.0) × (e.0 ≤ n)) entries
-
--- the distances of node v among nodes with distances, as entries of the hub at the position p
-abbrev pub entries_of : ℕ → ℕ → List (ℕ × ℕ) → List Entry
-entries_of p v planted = map (λ e. record { pos = p; dist = e.1 }) (filter (λ e. e.0 == v) planted)

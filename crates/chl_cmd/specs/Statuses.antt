@@ -1,7 +1,10 @@
 -- The exit statuses.
-use Rattle.std.specs.Prelude.{ℕ}
+use Rattle.std.specs.Prelude.{◌≡◌, ℕ, List, Result, Ok, Err}
+use Rattle.desk_io.specs.Counts.{Rises}
 use Rattle.chl_cmd.specs.declared.status.Status.{Status}
-use Rattle.chl_cmd.specs.declared.status.Status.TheVariants.{Done, Usage, GraphText, OrderText, ReadFault, WriteFault, NoMemory}
+use Rattle.chl_cmd.specs.declared.status.Status.TheVariants.{Done, Usage, GraphText, OrderText, Overflow, ReadFault, WriteFault, NoMemory, TooLong}
+use Rattle.chl_cmd.specs.declared.stop.Stop.{Stop}
+use Rattle.chl_cmd.specs.declared.stop.Stop.TheVariants as stops
 
 -- the number with which the program ends
 abbrev pub number_of : Status → ℕ
@@ -9,6 +12,37 @@ number_of Done = 0
 number_of Usage = 2
 number_of (GraphText fault) = 3
 number_of (OrderText fault) = 4
+number_of (Overflow n weight) = 7
 number_of ReadFault = 8
 number_of WriteFault = 9
 number_of NoMemory = 10
+number_of TooLong = 12
+
+-- the status of a command without output
+abbrev pub status_of : Stop → Status
+status_of (stops.Graph fault) = GraphText fault
+status_of (stops.Overflow n weight) = Overflow n weight
+status_of (stops.Order fault) = OrderText fault
+status_of stops.TooLong = TooLong
+status_of stops.ReadFailed = ReadFault
+status_of stops.NoMemory = NoMemory
+
+-- the status of what the files decide
+abbrev pub status_after : Result (List ℕ) Stop → Status
+status_after (Ok bytes) = Done
+status_after (Err stop) = status_of stop
+
+-- the count of failed calls of the input has risen with a read fault, and else stays
+abbrev pub CountsInput : Status → ℕ → ℕ → Type 0
+CountsInput ReadFault old new = Rises old new
+CountsInput status old new = new ≡ old
+
+-- that of the output has risen with a write fault, and else stays
+abbrev pub CountsOutput : Status → ℕ → ℕ → Type 0
+CountsOutput WriteFault old new = Rises old new
+CountsOutput status old new = new ≡ old
+
+-- what a command does to the count of failed calls of the input: it has risen where one failed, and else stays
+abbrev pub CountsStop : {T : Type 0} → Result T Stop → ℕ → ℕ → Type 0
+CountsStop (Err stops.ReadFailed) old new = Rises old new
+CountsStop result old new = new ≡ old

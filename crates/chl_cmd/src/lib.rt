@@ -1,21 +1,24 @@
-//! The command of the program, over any desk: `words` are read, `gr_reader` makes a graph of a text, `plant_tree` finds
-//! the hub entries of one root, `rows` makes rows and then lines of all of them, and `command` says the lines.
-//! It stands on walk_laws, rank_table and desk_io. Its callers use [`run`] and [`Status`], with the words `IsList`,
-//! `IsNoCommand` (specs/Words), `SaysLines` and the like (specs/Listing), `IsListing` (specs/PrintedRows), `IsPlainGraph`
-//! (specs/PlainGraph), and `CountsInput`, `IsQuiet`, `OnlySays` (specs/Outcome). specs/Ending is private to `command`.
+//! The commands of the program, over any desk: [`run`] reads the words, carries the command out, and says how it ended.
+//! `words` reads what is asked for, `inputs` each input, `commands` has a file for the bytes of each command, `giving` writes
+//! them, `printed` has the lines. It stands on all crates below. What the files decide of a command is `Decides`
+//! (specs/Decides), of which `laws` has two laws; the clauses of [`run`] use its words and those of specs/Outcome (what a run
+//! does to its desk), specs/Words (the lists of words that are commands), specs/Inputs, specs/Stops and specs/Statuses.
 #![tactic(auto)]
 
-mod command;
-mod gr_reader;
-mod plant_tree;
-mod rows;
+mod commands;
+mod giving;
+mod inputs;
+mod labelling;
+pub mod laws;
+mod printed;
+mod running;
 mod status;
+mod stop;
 #[cfg(test)]
 mod tests;
 mod words;
 
-pub use command::run;
-pub use gr_reader::{GrFault, GrReader, TextFault, TextKind};
-pub use plant_tree::{Planted, plant};
+pub use running::run;
 pub use status::Status;
-pub use words::{AskFault, Asked, Name, read_words};
+pub use stop::Stop;
+pub use words::{AskFault, Asked, By, Name, read_words};

@@ -1,10 +1,10 @@
 ghost use Rattle.std.specs.Prelude.{◌≡◌};
-ghost use Rattle.chl_cmd.specs.Statuses.{number_of};
-ghost use Rattle.chl_cmd.specs.declared.status.Status.TheVariants.{NoMemory};
+ghost use Rattle.chl_cmd.specs.Statuses.{number_of, status_of};
+ghost use Rattle.chl_cmd.specs.declared.stop.Stop.{Stop as AnyStop};
 
-use crate::gr_reader::TextFault;
+use crate::stop::Stop;
+use dimacs_text::TextFault;
 use rank_table::OrderFault;
-use std::alloc::AllocError;
 use thiserror::Error;
 
 /// How a run of the program ended. Its text is the line that the program prints on standard error.
@@ -22,15 +22,21 @@ pub enum Status {
     /// The order text has this first fault.
     #[error("chl: {0}")]
     OrderText(OrderFault),
+    /// The graph's number of nodes times its greatest weight is 2^62 or more.
+    #[error("chl: overflow: {n} nodes, weight {weight}")]
+    Overflow { n: u32, weight: u64 },
     /// An input could not be opened or read.
     #[error("chl: read failed")]
     ReadFault,
-    /// Standard output could not be written.
+    /// The output could not be written.
     #[error("chl: write failed")]
     WriteFault,
     /// There was no memory for it.
     #[error("chl: out of memory")]
     NoMemory,
+    /// An input has more than 2^48 bytes, and none of its lines or fields within these was refused.
+    #[error("chl: input too long")]
+    TooLong,
 }
 
 impl Status {
@@ -43,17 +49,25 @@ impl Status {
             Status::Usage => 2,
             Status::GraphText(_) => 3,
             Status::OrderText(_) => 4,
+            Status::Overflow { .. } => 7,
             Status::ReadFault => 8,
             Status::WriteFault => 9,
             Status::NoMemory => 10,
+            Status::TooLong => 12,
         }
     }
 }
 
-impl From<AllocError> for Status {
-    ghost from_gives = { λ _ status. status ≡ NoMemory };
-
-    fn from(_error: AllocError) -> Status {
-        Status::NoMemory
+/// The status of a run whose command has no output.
+pub fn stopped(stop: Stop) -> Status
+    ensures { result ≡ status_of stop }
+{
+    match stop {
+        Stop::Graph(fault) => Status::GraphText(fault),
+        Stop::Overflow { n, weight } => Status::Overflow { n, weight },
+        Stop::Order(fault) => Status::OrderText(fault),
+        Stop::TooLong => Status::TooLong,
+        Stop::ReadFailed => Status::ReadFault,
+        Stop::NoMemory => Status::NoMemory,
     }
 }

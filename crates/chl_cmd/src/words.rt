@@ -1,56 +1,92 @@
-ghost use Rattle.std.specs.Prelude.{◌≡◌, List, map, string_bytes, IfOk, IfErr, IsTrue, ◌↔◌};
-ghost use Rattle.chl_cmd.specs.Words.{IsCommand, IsPlainValue};
+ghost use Rattle.std.specs.Prelude.{◌≡◌, ◌≢◌, ℕ, List, ◌∷◌, codes, map, string_bytes, IfOk, IfErr, IfSome, IfNone};
+ghost use Rattle.chl_cmd.specs.Words.{AsksFor, IsCommand, IsWithinLimits};
 ghost use Rattle.chl_cmd.specs.declared.words.asked.AskFault.TheVariants.{Usage};
 ghost use Rattle.chl_cmd.specs.declared.words.asked.Asked.{Asked};
 
 mod asked;
+mod construction;
+mod options;
 
-pub use asked::{AskFault, Asked, Name};
-use std::alloc::Global;
+pub use asked::{AskFault, Asked, By, Name};
+pub use construction::Construction;
+use construction::construction_options;
+use options::{after_option, after_word, first_word};
+use std::alloc::{AllocError, Global};
 
 /// What the words of a command line ask for. The first is the program's own name and isn't judged.
 pub fn read_words(alloc: Global, words: &[String]) -> Result<Asked, AskFault>
     ensures ok { IfOk result (λ asked. IsCommand (map string_bytes words.now) asked) }
+    ensures limits { IfOk result IsWithinLimits }
     ensures usage { IfErr result (λ f. f ≡ Usage → (asked : Asked) → ¬ (IsCommand (map string_bytes words.now) asked)) }
 {
-    match words {
-        [_, command, graph_option, graph, order_option, order] => {
-            if !is_word(command, "list") {
-                return Err(AskFault::Usage);
-            }
-            if !is_word(graph_option, "--graph") {
-                return Err(AskFault::Usage);
-            }
-            if !is_word(order_option, "--order") {
-                return Err(AskFault::Usage);
-            }
-            if !is_plain_value(graph) {
-                return Err(AskFault::Usage);
-            }
-            if !is_plain_value(order) {
-                return Err(AskFault::Usage);
-            }
-            Ok(Asked::List {
-                graph: Name::new(alloc, graph)?,
-                order: Name::new(alloc, order)?,
-            })
-        }
-        _ => Err(AskFault::Usage),
+    let Some((_program, behind)) = first_word(words) else {
+        return Err(AskFault::Usage);
+    };
+    match asked_for(alloc, behind)? {
+        Some(asked) => Ok(asked),
+        None => Err(AskFault::Usage),
     }
 }
 
-fn is_word(word: &String, text: &str) -> bool
-    ensures { IsTrue result ↔ (string_bytes word.now ≡ text.now) }
+/// What the words behind the program's name ask for, or None where they ask for nothing.
+fn asked_for(alloc: Global, words: &[String]) -> Result<Option<Asked>, AllocError>
+    ensures found { IfOk result (λ asked. IfSome asked (AsksFor (map string_bytes words.now))) }
+    ensures none { IfOk result (λ asked. IfNone asked ((other : Asked) → ¬ AsksFor (map string_bytes words.now) other)) }
 {
-    word.as_str() == text
+    if let Some(options) = after_word(words, "list") {
+        return list_options(alloc, options);
+    }
+    if let Some(options) = after_word(words, "build") {
+        return build_options(alloc, options);
+    }
+    Ok(None)
 }
 
-/// Whether a word can be the value of an option: it isn't empty and doesn't begin with a dash.
-fn is_plain_value(word: &String) -> bool
-    ensures { IsTrue result ↔ IsPlainValue (string_bytes word.now) }
+/// The command `list`, where these are its options.
+fn list_options(alloc: Global, words: &[String]) -> Result<Option<Asked>, AllocError>
+    ensures found { IfOk result (λ asked. IfSome asked (AsksFor (codes "list" ∷ map string_bytes words.now))) }
+    ensures none { IfOk result (λ asked. IfNone asked ((other : Asked) → ¬ AsksFor (codes "list" ∷ map string_bytes words.now) other)) }
 {
-    match word.as_bytes().first() {
-        None => false,
-        Some(byte) => *byte != b'-',
+    let Some((graph, words)) = after_option(words, "--graph") else {
+        return Ok(None);
+    };
+    let Some((order, words)) = after_option(words, "--order") else {
+        return Ok(None);
+    };
+    if !words.is_empty() {
+        return Ok(None);
     }
+    let graph = Name::new(alloc, graph)?;
+    let order = Name::new(alloc, order)?;
+    Ok(Some(Asked::List { graph, order }))
+}
+
+/// The command `build`, where these are its options.
+fn build_options(alloc: Global, words: &[String]) -> Result<Option<Asked>, AllocError>
+    ensures found { IfOk result (λ asked. IfSome asked (AsksFor (codes "build" ∷ map string_bytes words.now))) }
+    ensures none { IfOk result (λ asked. IfNone asked ((other : Asked) → ¬ AsksFor (codes "build" ∷ map string_bytes words.now) other)) }
+{
+    let Some((graph, words)) = after_option(words, "--graph") else {
+        return Ok(None);
+    };
+    let Some((order, words)) = after_option(words, "--order") else {
+        return Ok(None);
+    };
+    let Some((out, words)) = after_option(words, "--out") else {
+        return Ok(None);
+    };
+    let Some(Construction { by, workers, cut }) = construction_options(words) else {
+        return Ok(None);
+    };
+    let graph = Name::new(alloc, graph)?;
+    let order = Name::new(alloc, order)?;
+    let out = Name::new(alloc, out)?;
+    Ok(Some(Asked::Build {
+        graph,
+        order,
+        out,
+        by,
+        workers,
+        cut,
+    }))
 }

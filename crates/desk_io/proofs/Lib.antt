@@ -1,6 +1,6 @@
 pub mod ReadingLemmas
-pub mod SayingLemmas
+pub mod TakesLemmas
 pub mod FileLemmas
 pub mod InputLemmas
-pub mod Numbers
-pub mod FrontLines
+pub mod LineCuts
+pub mod LineEnds

@@ -1,8 +1,12 @@
 pub mod Contents
 pub mod Counts
 pub mod Feed
-pub mod Gathered
+pub mod Files
 pub mod HandOn
+pub mod Lines
 pub mod Memory
+pub mod MemoryCode
 pub mod Outside
 pub mod Reading
+pub mod Reader
+pub mod Takes

@@ -1,27 +1,30 @@
-//! The outside of the program: reading a named input, and writing to standard output.
+//! The outside of the program: reading a named input, writing a created file, and standard output.
 //! A [`Desk`] is the outside as a trait, [`RealDesk`] the files and standard output, [`MemDesk`] one in memory, for tests.
 //! Every fault is counted: an answer `Failed` comes only where a count rose, or stands at its type's last value.
-//! [`plain`] takes plain texts apart. Callers use the words `Contents`, `Tells` (specs/Contents), `Rises`, `CountsFailure`
-//! (specs/Counts), `TakesAll` (specs/Feed), `Gathers` (specs/Gathered), a whole reading (specs/Reading), `Memory` (specs/Memory).
+//! [`read_all_into`] reads an input to its end, [`write_all`] writes a whole piece, [`Lines`] gathers the lines of a text.
+//! Callers use the words `Contents`, `Tells`, `opened`, `created`, `written`, `spoken` (specs/Contents), `Takes` (specs/Takes),
+//! `Rises`, `CountsFailure` (specs/Counts), `TakesAll` (specs/Feed), `lines_of` (specs/Lines), those of a whole reading
+//! (specs/Reading) and of a reader (specs/Reader), and `Memory` (specs/Memory).
 #![tactic(auto)]
 
+mod calls;
 mod desk;
 mod feed;
 mod gate;
-mod gathered;
+mod lines;
 mod mem_desk;
-pub mod plain;
 mod read_all;
 mod real_desk;
 #[cfg(test)]
 mod tests;
 mod write_out;
 
+pub use calls::Call;
 pub use desk::{Desk, DeskFault};
-pub use feed::Feed;
+pub use feed::{Feed, Reader};
 pub use gate::{FreeGate, Gate};
-pub use gathered::Gathered;
-pub use mem_desk::{Call, MemDesk};
+pub use lines::{Lines, strip_cr};
+pub use mem_desk::MemDesk;
 pub use read_all::{INPUT_LIMIT, ReadEnd, read_all_into};
 pub use real_desk::RealDesk;
 pub use write_out::{Out, write_all};

@@ -1,24 +1,16 @@
 ghost use Rattle.std.specs.Prelude.{◌≡◌, ◌≢◌, ℕ, ◌++◌, ◌<◌, ◌≤◌, ◌↔◌, [], length, take, drop, min, Bool, true, false, IsTrue, IfOk, OnOk, IfErr, OnErr, Contains, Some, None, Err};
 ghost use Rattle.std.specs.FinMap as map;
 ghost use Rattle.std.specs.Option.{option_copied};
-ghost use Rattle.desk_io.specs.Counts.{CountsFailure};
-ghost use Rattle.desk_io.specs.Memory.{next, with_file, with_input, with_input_kept, with_open_fault, with_read, with_read_fault, with_said, with_say_fault, FailsToOpen, FailsToRead, FailsToSay};
+ghost use Rattle.desk_io.specs.Contents.{appended};
+ghost use Rattle.desk_io.specs.Counts.{CountsFailure, Rises, next};
+ghost use Rattle.desk_io.specs.Files.{files_of};
+ghost use Rattle.desk_io.specs.Memory.{count_of, IsFailing, FailsToOpen, with_call, with_fault, with_fault_counted, faults_of, with_file, with_input, with_input_kept, with_read, with_created, with_written, with_said};
 
+use crate::calls::{Call, is_failing, one_more};
 use crate::desk::{Desk, DeskFault};
 use std::alloc::{AllocError, Global};
 use std::collections::BTreeMap;
 use std::marker::Model;
-
-/// The kinds of calls that can be made to fail.
-#[derive(Clone, Copy, Debug, PartialEq, Eq)]
-pub enum Call {
-    /// [`Desk::open_in`].
-    OpenIn,
-    /// [`Desk::read`].
-    Read,
-    /// [`Desk::say`].
-    Say,
-}
 
 /// A desk in memory, for tests: its files are a table, and what is said is kept.
 #[derive(Drop)]
@@ -32,11 +24,16 @@ pub struct MemDesk {
     /// The inputs before it, each with what was left of it.
     earlier: Vec<(String, Vec<u8>)>,
     is_open: bool,
+    /// The name of the file that was created last.
+    out: String,
+    is_created: bool,
     said: Vec<u8>,
     bite: u32,
     fails: Vec<(Call, u32)>,
     opens: u64,
     reads: u64,
+    creates: u64,
+    writes: u64,
     says: u64,
     input_faults: u64,
     output_faults: u64,
@@ -44,8 +41,9 @@ pub struct MemDesk {
 
 impl Model for MemDesk {
     ghost use Rattle.std.specs.Prelude.{ℕ, ◌<◌, ◌≤◌, drop, map, vec_len, string_bytes};
-    ghost use Rattle.std.specs.FinMap.{from_entries};
-    ghost use Rattle.desk_io.specs.Memory.{Memory, has_none, memory_code};
+    ghost use Rattle.desk_io.specs.Files.{files_of};
+    ghost use Rattle.desk_io.specs.Memory.{Memory, has_none};
+    ghost use Rattle.desk_io.specs.MemoryCode.{memory_code};
 
     ghost Value = { Memory };
 
@@ -53,21 +51,21 @@ impl Model for MemDesk {
 
     ghost view = { λ d. record {
       contents = record {
-        files = from_entries (map (λ e. (string_bytes e.0, e.1.items)) d.files.entries);
+        files = files_of d.files.entries;
         steady = has_none d.fails.items;
         input = string_bytes d.name;
         rest = drop d.at d.input.items;
         earlier = map (λ e. (string_bytes e.0, e.1.items)) d.earlier.items;
+        out = string_bytes d.out;
         said = d.said.items;
       };
       is_open = d.is_open;
+      is_created = d.is_created;
       input_faults = d.input_faults;
       output_faults = d.output_faults;
       bite = d.bite;
       failing = d.fails.items;
-      opens = d.opens;
-      reads = d.reads;
-      says = d.says;
+      made = record { opens = d.opens; reads = d.reads; creates = d.creates; writes = d.writes; says = d.says };
     } };
 
     ghost invariant = { λ d. (d.at ≤ vec_len d.input) × (0 < d.bite) };
@@ -90,11 +88,15 @@ impl MemDesk {
             at: 0,
             earlier: Vec::new(alloc),
             is_open: false,
+            out: String::new(alloc),
+            is_created: false,
             said: Vec::new(alloc),
             bite,
             fails,
             opens: 0,
             reads: 0,
+            creates: 0,
+            writes: 0,
             says: 0,
             input_faults: 0,
             output_faults: 0,
@@ -137,6 +139,66 @@ impl MemDesk {
         (self.input_faults, self.output_faults)
     }
 
+    /// Counts a call of this kind, and its fault where it is among the failing ones.
+    fn begin(&mut self, call: Call) -> Result<(), DeskFault>
+        ensures ok { OnOk result (self.new ≡ with_call call self.old) }
+        ensures err { IfErr result (λ fault. self.new ≡ with_fault call fault self.old) }
+        ensures failed { (result ≡ Err DeskFault.Failed) ↔ IsFailing call self.old }
+        ensures never_memory { IfErr result (λ fault. fault ≡ DeskFault.Failed) }
+        ensures steady { IsTrue self.old.contents.steady → result ≢ Err DeskFault.Failed }
+        ensures counts { CountsFailure result (faults_of call self.old) (faults_of call self.new) }
+    {
+        let number = self.count(call);
+        if is_failing(self.fails.as_slice(), call, number) {
+            return Err(self.count_fault(call));
+        }
+        Ok(())
+    }
+
+    /// Counts a call of this kind, and answers its number.
+    fn count(&mut self, call: Call) -> u64
+        ensures number { result ≡ next (count_of call self.old.made) }
+        ensures counted { self.new ≡ with_call call self.old }
+    {
+        let number = one_more(self.made(call));
+        match call {
+            Call::OpenIn => self.opens = number,
+            Call::Read => self.reads = number,
+            Call::Create => self.creates = number,
+            Call::Write => self.writes = number,
+            Call::Say => self.says = number,
+        }
+        number
+    }
+
+    /// How many calls of this kind were made.
+    fn made(&self, call: Call) -> u64
+        ensures { result ≡ count_of call self.now.made }
+    {
+        match call {
+            Call::OpenIn => self.opens,
+            Call::Read => self.reads,
+            Call::Create => self.creates,
+            Call::Write => self.writes,
+            Call::Say => self.says,
+        }
+    }
+
+    /// Counts the fault of a call of this kind.
+    fn count_fault(&mut self, call: Call) -> DeskFault
+        ensures fault { result ≡ DeskFault.Failed }
+        ensures counted { self.new ≡ with_fault_counted call self.old }
+        ensures rises { Rises (faults_of call self.old) (faults_of call self.new) }
+    {
+        match call {
+            Call::OpenIn | Call::Read => self.input_faults = one_more(self.input_faults),
+            Call::Create | Call::Write | Call::Say => {
+                self.output_faults = one_more(self.output_faults);
+            }
+        }
+        DeskFault::Failed
+    }
+
     /// Puts the opened input, with what is left of it, behind the inputs before it.
     fn keep_input(&mut self) -> Result<(), AllocError>
         ensures ok { OnOk result (self.new ≡ with_input_kept self.old) }
@@ -149,20 +211,15 @@ impl MemDesk {
     }
 }
 
-/// Whether this call, by its kind and number, is among the failing ones.
-fn is_failing(fails: &[(Call, u32)], call: Call, number: u64) -> bool
-    ensures { IsTrue result ↔ Contains fails.now (call, number) }
+/// Puts bytes at the end of the named file.
+fn append(files: &mut BTreeMap<String, Vec<u8>>, name: &str, bytes: &[u8]) -> Result<(), AllocError>
+    ensures ok { OnOk result (files_of files.new.entries ≡ appended (files_of files.old.entries) name.now bytes.now) }
+    ensures err { OnErr result (files_of files.new.entries ≡ files_of files.old.entries) }
 {
-    fails
-        .iter()
-        .any(|f| f.0 == call && u64::from(f.1) == number)
-}
-
-/// A count, one up; at its last value it stands still.
-fn one_more(count: u64) -> u64
-    ensures { result ≡ next count }
-{
-    count.saturating_add(1)
+    match files.get_mut(name) {
+        Some(held) => held.extend_from_slice(bytes),
+        None => Ok(()),
+    }
 }
 
 impl Desk for MemDesk {
@@ -170,40 +227,28 @@ impl Desk for MemDesk {
 
     ghost is_open = { λ m. m.is_open };
 
+    ghost is_created = { λ m. m.is_created };
+
     ghost input_faults = { λ m. m.input_faults };
 
     ghost output_faults = { λ m. m.output_faults };
 
     fn open_in(&mut self, name: &str) -> Result<(), DeskFault>
-        ensures opened { OnOk result (IsTrue self.new.is_open) }
+        ensures failed { (result ≡ Err DeskFault.Failed) ↔ FailsToOpen self.old name.now }
         ensures found { OnOk result (map.get self.old.contents.files name.now ≡ Some self.new.contents.rest) }
         ensures steady { IsTrue self.old.contents.steady
             → ((result ≡ Err DeskFault.Failed) ↔ (map.get self.old.contents.files name.now ≡ None)) }
-        ensures refused { OnErr result (self.new.contents ≡ self.old.contents) }
         ensures ok { OnOk result (self.new ≡ with_input self.old name.now self.new.contents.rest) }
-        ensures err { IfErr result (λ fault. self.new ≡ with_open_fault self.old fault) }
+        ensures err { IfErr result (λ fault. self.new ≡ with_fault Call.OpenIn fault self.old) }
         ensures input_count { CountsFailure result self.old.input_faults self.new.input_faults }
-        ensures output_count { self.new.output_faults ≡ self.old.output_faults }
-        ensures failed { (result ≡ Err DeskFault.Failed) ↔ FailsToOpen self.old name.now }
     {
-        self.opens = one_more(self.opens);
-        if is_failing(self.fails.as_slice(), Call::OpenIn, self.opens) {
-            self.input_faults = one_more(self.input_faults);
-            return Err(DeskFault::Failed);
-        }
+        self.begin(Call::OpenIn)?;
         let Some(bytes) = self.file(name) else {
-            self.input_faults = one_more(self.input_faults);
-            return Err(DeskFault::Failed);
+            return Err(self.count_fault(Call::OpenIn));
         };
-        let Ok(input) = Vec::from_slice(self.alloc, bytes) else {
-            return Err(DeskFault::NoMemory);
-        };
-        let Ok(name) = String::from_str(self.alloc, name) else {
-            return Err(DeskFault::NoMemory);
-        };
-        if self.keep_input().is_err() {
-            return Err(DeskFault::NoMemory);
-        }
+        let input = Vec::from_slice(self.alloc, bytes)?;
+        let name = String::from_str(self.alloc, name)?;
+        self.keep_input()?;
         self.name = name;
         self.input = input;
         self.at = 0;
@@ -213,25 +258,17 @@ impl Desk for MemDesk {
 
     fn read(&mut self, buf: &mut [u8]) -> Result<usize, DeskFault>
         requires { IsTrue self.old.is_open }
-        ensures open { IsTrue self.new.is_open }
-        ensures within { IfOk result (λ n. n ≤ length buf.old) }
-        ensures moved { IfOk result (λ n. self.old.contents.rest ≡ take n buf.new ++ self.new.contents.rest) }
-        ensures end { IfOk result (λ n. n ≡ 0 → 0 < length buf.old → self.old.contents.rest ≡ []) }
+        ensures failed { (result ≡ Err DeskFault.Failed) ↔ IsFailing Call.Read self.old }
         ensures steady { IsTrue self.old.contents.steady → result ≢ Err DeskFault.Failed }
-        ensures refused { OnErr result (self.new.contents ≡ self.old.contents) }
-        ensures input_count { CountsFailure result self.old.input_faults self.new.input_faults }
-        ensures output_count { self.new.output_faults ≡ self.old.output_faults }
         ensures size { IfOk result (λ n. n ≡ min self.old.bite (min (length buf.old) (length self.old.contents.rest))) }
+        ensures end { IfOk result (λ n. n ≡ 0 → 0 < length buf.old → self.old.contents.rest ≡ []) }
+        ensures moved { IfOk result (λ n. self.old.contents.rest ≡ take n buf.new ++ self.new.contents.rest) }
         ensures ok { IfOk result (λ n. self.new ≡ with_read self.old n) }
-        ensures err { OnErr result (self.new ≡ with_read_fault self.old) }
-        ensures failed { (result ≡ Err DeskFault.Failed) ↔ FailsToRead self.old }
+        ensures err { IfErr result (λ fault. self.new ≡ with_fault Call.Read fault self.old) }
+        ensures input_count { CountsFailure result self.old.input_faults self.new.input_faults }
         ensures never_memory { IfErr result (λ fault. fault ≡ DeskFault.Failed) }
     {
-        self.reads = one_more(self.reads);
-        if is_failing(self.fails.as_slice(), Call::Read, self.reads) {
-            self.input_faults = one_more(self.input_faults);
-            return Err(DeskFault::Failed);
-        }
+        self.begin(Call::Read)?;
         let rest = &self.input.as_slice()[self.at..];
         let count = (self.bite as usize).min(buf.len()).min(rest.len());
         buf[..count].copy_from_slice(&rest[..count]);
@@ -239,29 +276,49 @@ impl Desk for MemDesk {
         Ok(count)
     }
 
-    fn say(&mut self, piece: &[u8]) -> Result<usize, DeskFault>
-        ensures open { self.new.is_open ≡ self.old.is_open }
-        ensures within { IfOk result (λ n. n ≤ length piece.now) }
-        ensures some { IfOk result (λ n. 0 < length piece.now → 0 < n) }
-        ensures said { IfOk result (λ n. self.new.contents.said ≡ self.old.contents.said ++ take n piece.now) }
+    fn create(&mut self, name: &str) -> Result<(), DeskFault>
+        ensures failed { (result ≡ Err DeskFault.Failed) ↔ IsFailing Call.Create self.old }
         ensures steady { IsTrue self.old.contents.steady → result ≢ Err DeskFault.Failed }
-        ensures refused { OnErr result (self.new.contents ≡ self.old.contents) }
-        ensures input_count { self.new.input_faults ≡ self.old.input_faults }
+        ensures ok { OnOk result (self.new ≡ with_created self.old name.now) }
+        ensures err { IfErr result (λ fault. self.new ≡ with_fault Call.Create fault self.old) }
         ensures output_count { CountsFailure result self.old.output_faults self.new.output_faults }
-        ensures size { IfOk result (λ n. n ≡ min self.old.bite (length piece.now)) }
-        ensures ok { IfOk result (λ n. self.new ≡ with_said self.old (take n piece.now)) }
-        ensures err { IfErr result (λ fault. self.new ≡ with_say_fault self.old fault) }
-        ensures failed { (result ≡ Err DeskFault.Failed) ↔ FailsToSay self.old }
     {
-        self.says = one_more(self.says);
-        if is_failing(self.fails.as_slice(), Call::Say, self.says) {
-            self.output_faults = one_more(self.output_faults);
-            return Err(DeskFault::Failed);
-        }
+        self.begin(Call::Create)?;
+        let out = String::from_str(self.alloc, name)?;
+        self.put_file(name, b"")?;
+        self.out = out;
+        self.is_created = true;
+        Ok(())
+    }
+
+    fn write(&mut self, piece: &[u8]) -> Result<usize, DeskFault>
+        requires { IsTrue self.old.is_created }
+        ensures failed { (result ≡ Err DeskFault.Failed) ↔ IsFailing Call.Write self.old }
+        ensures steady { IsTrue self.old.contents.steady → result ≢ Err DeskFault.Failed }
+        ensures size { IfOk result (λ n. n ≡ min self.old.bite (length piece.now)) }
+        ensures some { IfOk result (λ n. 0 < length piece.now → 0 < n) }
+        ensures ok { IfOk result (λ n. self.new ≡ with_written self.old (take n piece.now)) }
+        ensures err { IfErr result (λ fault. self.new ≡ with_fault Call.Write fault self.old) }
+        ensures output_count { CountsFailure result self.old.output_faults self.new.output_faults }
+    {
+        self.begin(Call::Write)?;
         let count = (self.bite as usize).min(piece.len());
-        if self.said.extend_from_slice(&piece[..count]).is_err() {
-            return Err(DeskFault::NoMemory);
-        }
+        append(&mut self.files, self.out.as_str(), &piece[..count])?;
+        Ok(count)
+    }
+
+    fn say(&mut self, piece: &[u8]) -> Result<usize, DeskFault>
+        ensures failed { (result ≡ Err DeskFault.Failed) ↔ IsFailing Call.Say self.old }
+        ensures steady { IsTrue self.old.contents.steady → result ≢ Err DeskFault.Failed }
+        ensures size { IfOk result (λ n. n ≡ min self.old.bite (length piece.now)) }
+        ensures some { IfOk result (λ n. 0 < length piece.now → 0 < n) }
+        ensures ok { IfOk result (λ n. self.new ≡ with_said self.old (take n piece.now)) }
+        ensures err { IfErr result (λ fault. self.new ≡ with_fault Call.Say fault self.old) }
+        ensures output_count { CountsFailure result self.old.output_faults self.new.output_faults }
+    {
+        self.begin(Call::Say)?;
+        let count = (self.bite as usize).min(piece.len());
+        self.said.extend_from_slice(&piece[..count])?;
         Ok(count)
     }
 }

@@ -30,6 +30,7 @@ pub enum ReadEnd<F> {
 pub fn read_all_into<D: Desk, F: Feed>(desk: &mut D, feed: &mut F) -> Result<(), ReadEnd<F::Fault>>
     requires { IsTrue (D.is_open desk.old) }
     ensures open { IsTrue (D.is_open desk.new) }
+    ensures created { D.is_created desk.new ≡ D.is_created desk.old }
     ensures ok { OnOk result (HandsOnAll F.feed_gives feed.old feed.new (D.told desk.old) (D.told desk.new)) }
     ensures too_long { OnTooLong result (PassesLimit F.feed_gives feed.old feed.new (D.told desk.old) (D.told desk.new)) }
     ensures refused { IfRefused result (λ fault.
@@ -62,6 +63,7 @@ fn hand_on<D: Desk, F: Feed>(
     requires open { IsTrue (D.is_open desk.old) }
     requires room { 0 < length buf.old }
     ensures open { IsTrue (D.is_open desk.new) }
+    ensures created { D.is_created desk.new ≡ D.is_created desk.old }
     ensures within { IfOk result (λ count. count ≤ length buf.old) }
     ensures ok { IfOk result (λ count. Moves F.feed_gives feed.old feed.new (D.told desk.old) (D.told desk.new) count) }
     ensures end { IfOk result (λ count. count ≡ 0 → IfSome (D.told desk.old) (λ a. a.rest ≡ [])) }
@@ -89,6 +91,7 @@ fn hand_on<D: Desk, F: Feed>(
 fn expect_end<D: Desk, E>(desk: &mut D) -> Result<(), ReadEnd<E>>
     requires { IsTrue (D.is_open desk.old) }
     ensures open { IsTrue (D.is_open desk.new) }
+    ensures created { D.is_created desk.new ≡ D.is_created desk.old }
     ensures ok { OnOk result (Tells (D.told desk.old) (D.told desk.new) (ReadsToEnd [])) }
     ensures too_long { OnTooLong result ((further : ℕ) × Tells (D.told desk.old) (D.told desk.new) (Reads (further ∷ []))) }
     ensures refused { IfRefused result (λ _. ⊥) }

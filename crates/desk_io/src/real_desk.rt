@@ -4,7 +4,7 @@ ghost use Rattle.desk_io.specs.Counts.{CountsFailure, Rises};
 use crate::desk::{Desk, DeskFault};
 use std::alloc::Global;
 use std::fs;
-use std::io::{Print, Read};
+use std::io::{Print, Read, Write};
 use std::marker::Model;
 use std::rt::Files;
 
@@ -13,6 +13,7 @@ use std::rt::Files;
 pub struct RealDesk<R: Files> {
     rt: R,
     input: Option<R::File>,
+    output: Option<R::File>,
     input_faults: u64,
     output_faults: u64,
 }
@@ -25,19 +26,21 @@ impl<R: Files> Model for RealDesk<R> {
 
     ghost view = { λ d. record {
       is_open = is_some d.input;
+      is_created = is_some d.output;
       input_faults = d.input_faults;
       output_faults = d.output_faults;
     } };
 }
 
 impl<R: Files> RealDesk<R> {
-    /// The desk over this runtime, with no input opened yet.
+    /// The desk over this runtime, with no input opened and no file created yet.
     pub fn new(rt: R, _alloc: Global) -> RealDesk<R>
-        ensures { result ≡ record { is_open = false; input_faults = 0; output_faults = 0 } }
+        ensures { result ≡ record { is_open = false; is_created = false; input_faults = 0; output_faults = 0 } }
     {
         RealDesk {
             rt,
             input: None,
+            output: None,
             input_faults: 0,
             output_faults: 0,
         }
@@ -55,6 +58,7 @@ impl<R: Files> RealDesk<R> {
     fn input_failed(&mut self) -> DeskFault
         ensures fault { result ≡ DeskFault.Failed }
         ensures open { self.new.is_open ≡ self.old.is_open }
+        ensures created { self.new.is_created ≡ self.old.is_created }
         ensures input_count { Rises self.old.input_faults self.new.input_faults }
         ensures output_count { self.new.output_faults ≡ self.old.output_faults }
     {
@@ -66,6 +70,7 @@ impl<R: Files> RealDesk<R> {
     fn output_failed(&mut self) -> DeskFault
         ensures fault { result ≡ DeskFault.Failed }
         ensures open { self.new.is_open ≡ self.old.is_open }
+        ensures created { self.new.is_created ≡ self.old.is_created }
         ensures input_count { self.new.input_faults ≡ self.old.input_faults }
         ensures output_count { Rises self.old.output_faults self.new.output_faults }
     {
@@ -78,6 +83,8 @@ impl<R: Files + Print> Desk for RealDesk<R> {
     ghost told = { λ _. None };
 
     ghost is_open = { λ d. d.is_open };
+
+    ghost is_created = { λ d. d.is_created };
 
     ghost input_faults = { λ d. d.input_faults };
 
@@ -100,6 +107,26 @@ impl<R: Files + Print> Desk for RealDesk<R> {
         match file.read(buf) {
             Ok(count) => Ok(count),
             Err(_) => Err(self.input_failed()),
+        }
+    }
+
+    fn create(&mut self, name: &str) -> Result<(), DeskFault> {
+        match fs::create(&self.rt, name) {
+            Ok(file) => {
+                self.output = Some(file);
+                Ok(())
+            }
+            Err(_) => Err(self.output_failed()),
+        }
+    }
+
+    fn write(&mut self, piece: &[u8]) -> Result<usize, DeskFault> {
+        let Some(file) = &mut self.output else {
+            return Err(self.output_failed());
+        };
+        match file.write(piece) {
+            Ok(count) if count > 0 || piece.is_empty() => Ok(count),
+            _ => Err(self.output_failed()),
         }
     }
 

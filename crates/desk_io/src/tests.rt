@@ -1,3 +1,5 @@
+ghost use Rattle.std.specs.Prelude.{◌≡◌};
+
 use super::*;
 use std::alloc::AllocError;
 use std::test::Fail;
@@ -64,5 +66,54 @@ fn a_desk_in_memory_bites_and_fails(rt: HostRuntime) -> Result<(), Fail> {
     assert_eq!(rt; write_all(&mut desk, Out::Said, b"ok"), Ok(()));
     assert_eq!(rt; desk.said(), b"ook".as_slice());
     assert_eq!(rt; desk.faults(), (1, 1));
+    Ok(())
+}
+
+#[test]
+fn a_desk_in_memory_creates_and_writes(rt: HostRuntime) -> Result<(), Fail> {
+    let alloc = rt.alloc();
+    let fails = [(Call::Write, 3), (Call::Create, 2)].to_vec(alloc)?;
+    let mut desk = MemDesk::new(alloc, 2, fails)?;
+    desk.put_file("row", b"old bytes")?;
+    desk.create("row")?;
+    assert_eq!(rt; desk.file("row").unwrap_or(b"none"), b"".as_slice());
+    assert_eq!(rt;
+        write_all(&mut desk, Out::File, b"label"),
+        Err(DeskFault::Failed)
+    );
+    assert_eq!(rt; desk.file("row").unwrap_or(b"none"), b"labe".as_slice());
+    assert_eq!(rt; desk.create("hub"), Err(DeskFault::Failed));
+    assert_eq!(rt; desk.file("hub").unwrap_or(b"none"), b"none".as_slice());
+    assert_eq!(rt; write_all(&mut desk, Out::File, b"ls"), Ok(()));
+    assert_eq!(rt; desk.file("row").unwrap_or(b"none"), b"labels".as_slice());
+    desk.create("row")?;
+    assert_eq!(rt; desk.file("row").unwrap_or(b"none"), b"".as_slice());
+    assert_eq!(rt; desk.said(), b"".as_slice());
+    assert_eq!(rt; desk.faults(), (0, 2));
+    Ok(())
+}
+
+/// Opens a file and reads it from its front, as far as the buffer goes.
+fn read_back<D: Desk>(desk: &mut D, name: &str, buf: &mut [u8]) -> Result<usize, DeskFault>
+    ensures { D.is_created desk.new ≡ D.is_created desk.old }
+{
+    desk.open_in(name)?;
+    desk.read(buf)
+}
+
+#[test]
+fn a_real_file_is_written(rt: HostRuntime) -> Result<(), Fail> {
+    let name = format!(in rt.alloc(); "/tmp/desk_io_{}.out", process::id(rt.process()))?;
+    let mut desk = RealDesk::new(&rt, rt.alloc());
+    let mut buf = [0; 8];
+    desk.create(name.as_str())?;
+    assert_eq!(rt; write_all(&mut desk, Out::File, b"abc"), Ok(()));
+    assert_eq!(rt; read_back(&mut desk, name.as_str(), &mut buf)?, 3);
+    assert_eq!(rt; &buf[..3], b"abc".as_slice());
+    desk.create(name.as_str())?;
+    assert_eq!(rt; read_back(&mut desk, name.as_str(), &mut buf)?, 0);
+    fs::remove_file(&rt, name.as_str())?;
+    assert_eq!(rt; desk.create("/tmp/no folder/file"), Err(DeskFault::Failed));
+    assert_eq!(rt; desk.faults(), (0, 1));
     Ok(())
 }

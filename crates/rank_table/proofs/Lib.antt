@@ -1,2 +1,1 @@
-pub mod OrderLines
-pub mod SeenNodes
+pub mod OrderNodes

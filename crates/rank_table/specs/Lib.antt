@@ -1,2 +1,2 @@
-pub mod PlainOrder
-pub mod Reading
+pub mod OrderLaws
+pub mod OrderText

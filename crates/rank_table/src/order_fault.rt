@@ -3,7 +3,7 @@ use thiserror::Error;
 /// Why a text is no ranking of the nodes 1..n. Lines count from 1.
 #[derive(Clone, Copy, Debug, PartialEq, Eq, Error)]
 pub enum OrderFault {
-    /// A line holds more than one word, or the text isn't plain.
+    /// A line holds more than one word.
     #[error("order line {line}: bad field")]
     BadField { line: u64 },
     /// A line holds no number.

@@ -1,5 +1,6 @@
 -- The arcs at a node are the edges that end there.
-use Rattle.std.specs.Prelude.{◌≡◌, ◌↔◌, ℕ, ◌-◌, ◌≤◌, ◌==◌, Bool, true, false, List, [], ◌∷◌, ◌++◌, Contains, slice_range, if◌then◌else◌, refl}
+use Rattle.std.specs.Prelude.{◌≡◌, ◌↔◌, ℕ, ◌-◌, ◌<◌, ◌≤◌, ◌==◌, Bool, true, false, List, [], ◌∷◌, ◌++◌, length, Contains, slice_range, if◌then◌else◌, refl}
+use Rattle.std.specs.List.Sorted.{IsNonDecreasing}
 use Rattle.std.proofs.Common.{◌∙◌, ap, sym, subst, inl, inr, arith, cond, append_assoc, zero, suc, get_or}
 use Rattle.std.proofs.lemmas.Bool.{eqb-true, eq-eqb}
 use Rattle.std.proofs.lemmas.List.{get_or_read}
@@ -110,9 +111,13 @@ Joined-row edges v row r t w =
     (λ h. Joined-from_arcs_at edges v t w (same.0 h), λ h. same.1 (Contains-arcs_at edges v t w h))
 
 -- between two starts stands a row
-pub IsRowOf-between : (n : ℕ) (edges : List Edge) (arcs : List Arc) (starts : List ℕ) → IsStored n edges arcs starts → (v a b : ℕ) → 1 ≤ v → v ≤ n → a ≡ get_or starts (v - 1) a → b ≡ get_or starts v b → IsRowOf (arcs_at edges v) (slice_range arcs a b)
+pub IsRowOf-between : (n : ℕ) (edges : List Edge) (arcs : List Arc) (starts : List ℕ) → IsStored n edges arcs starts → (v a b : ℕ) → 1 ≤ v → v < length starts → a ≡ get_or starts (v - 1) a → b ≡ get_or starts v b → IsRowOf (arcs_at edges v) (slice_range arcs a b)
 IsRowOf-between n edges arcs starts stored v a b low high from up_to =
-    let known = stored.1 in
     let from_is = get_or_read starts (v - 1) a (omega arith) from 0 in
-    let to_is = get_or_read starts v b (omega arith) up_to 0 in
-    rw (from_is, to_is) (stored.4 v low high)
+    let to_is = get_or_read starts v b high up_to 0 in
+    rw (from_is, to_is) (stored.3 v low high)
+
+-- a row ends no earlier than it begins
+pub between_rises : (starts : List ℕ) (v a b : ℕ) → IsNonDecreasing starts → v < length starts → a ≡ get_or starts (v - 1) a → b ≡ get_or starts v b → a ≤ b
+between_rises starts v a b rising high from up_to =
+    omega (arith, get_or_read starts (v - 1) a (omega arith) from 0, get_or_read starts v b high up_to 0, rising (v - 1) v 0 (omega arith) high)

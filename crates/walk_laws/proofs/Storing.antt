@@ -1,5 +1,5 @@
 -- Sorted halves, cut where the halves of each node begin, are the rows of the nodes.
-use Rattle.std.specs.Prelude.{◌≡◌, ℕ, ◌+◌, ◌-◌, ◌≤◌, ◌<◌, ◌==◌, Bool, true, false, List, ◌++◌, All, length, filter, map, slice_index, slice_range}
+use Rattle.std.specs.Prelude.{◌≡◌, ℕ, ◌+◌, ◌-◌, ◌≤◌, ◌<◌, ◌==◌, Bool, true, false, List, [], ◌++◌, All, length, filter, map, slice_index, slice_range}
 use Rattle.std.specs.List.{AllWithin}
 use Rattle.std.specs.List.Sorted.{IsNonDecreasing, IsNonDecreasingBy}
 use Rattle.std.proofs.Common.{◌∙◌, ap, sym, subst, inl, inr, arith, take, drop, get_or}
@@ -65,19 +65,27 @@ row_between edges old xs v a b halved sorted f g =
     ap (map (λ h. h.arc)) (sym (slice_range-row xs v a b f g)) ∙ sym (ap (take (b - a)) (drop-map (λ h. h.arc) a xs) ∙ take-map (λ h. h.arc) (b - a) (drop a xs)) in
     subst (λ l. IsRowOf (arcs_at edges v) l) stands (subst (λ l. IsRowOf l (row_of xs v)) halved sorted)
 
-first_of_node : (xs : List Half) (n : ℕ) (starts : List ℕ) → ((k : ℕ) → k ≤ n → IsFirstFrom xs (k + 1) (slice_index starts k)) → (v : ℕ) → 1 ≤ v → v ≤ n → IsFirstFrom xs v (slice_index starts (v - 1))
-first_of_node xs n starts first v low high =
+first_of_node : (xs : List Half) (starts : List ℕ) → ((k : ℕ) → k < length starts → IsFirstFrom xs (k + 1) (slice_index starts k)) → (v : ℕ) → 1 ≤ v → v < length starts → IsFirstFrom xs v (slice_index starts (v - 1))
+first_of_node xs starts first v low high =
     let next : v - 1 + 1 ≡ v = omega arith in
     subst (λ k. IsFirstFrom xs k (slice_index starts (v - 1))) next (first (v - 1) (omega arith))
 
-pub IsStored-sorted : (n : ℕ) (edges : List Edge) (old xs : List Half) (starts : List ℕ) → IsGraph n edges → ((v : ℕ) → row_of old v ≡ arcs_at edges v) → ((v : ℕ) → IsRowOf (row_of old v) (row_of xs v)) → length starts ≡ n + 1 → ((k : ℕ) → k ≤ n → IsFirstFrom xs (k + 1) (slice_index starts k)) → IsStored n edges (map (λ h. h.arc) xs) starts
-IsStored-sorted n edges old xs starts graph halved sorted one_more first =
-    let rises : (k : ℕ) → k < n → slice_index starts k ≤ slice_index starts (k + 1) =
+-- where all halves leave earlier nodes, the row of v is empty
+row_beyond : (edges : List Edge) (old xs : List Half) (v : ℕ) → row_of old v ≡ arcs_at edges v → IsRowOf (row_of old v) (row_of xs v) → All (λ h. h.from < v) xs → IsRowOf (arcs_at edges v) []
+row_beyond edges old xs v halved sorted earlier =
+    let none : row_of xs v ≡ [] = ap (map (λ h. h.arc)) (filter_none (λ h. h.from == v) xs (λ k d lt. ne_eqb _ v (λ e. omega (arith, earlier k d lt)))) in
+    subst (λ l. IsRowOf (arcs_at edges v) l) none (subst (λ l. IsRowOf l (row_of xs v)) halved sorted)
+
+pub IsStored-sorted : (n : ℕ) (edges : List Edge) (old xs : List Half) (starts : List ℕ) → IsGraph n edges → ((v : ℕ) → row_of old v ≡ arcs_at edges v) → ((v : ℕ) → IsRowOf (row_of old v) (row_of xs v)) → ((k : ℕ) → k < length starts → IsFirstFrom xs (k + 1) (slice_index starts k)) → All (λ h. h.from < length starts) xs → IsStored n edges (map (λ h. h.arc) xs) starts
+IsStored-sorted n edges old xs starts graph halved sorted first all =
+    let rises : (k : ℕ) → k + 1 < length starts → slice_index starts k ≤ slice_index starts (k + 1) =
     λ k lt. first_rises xs (k + 1) (slice_index starts k) (slice_index starts (k + 1)) (first k (omega arith)) (first (k + 1) (omega arith)) in
     let rising : IsNonDecreasing starts =
     IsNonDecreasingBy-from_all_adjacent (λ at. at) starts (λ k d lt. omega (arith, rises k (omega arith), get_or_default starts k d 0 (omega arith), get_or_default starts (k + 1) d 0 (omega arith))) in
     let within : All (λ at. at ≤ length (map (λ (h : Half). h.arc) xs)) starts =
     λ k d lt. omega (arith, get_or_default starts k d 0 lt, (first k (omega arith)).within, length-map xs (λ h. h.arc)) in
-    let rows : (v : ℕ) → 1 ≤ v → v ≤ n → IsRowOf (arcs_at edges v) (slice_range (map (λ h. h.arc) xs) (slice_index starts (v - 1)) (slice_index starts v)) =
-    λ v low high. row_between edges old xs v (slice_index starts (v - 1)) (slice_index starts v) (halved v) (sorted v) (first_of_node xs n starts first v low high) (first v high) in
-    (graph, one_more, rising, within, rows)
+    let rows : (v : ℕ) → 1 ≤ v → v < length starts → IsRowOf (arcs_at edges v) (slice_range (map (λ h. h.arc) xs) (slice_index starts (v - 1)) (slice_index starts v)) =
+    λ v low high. row_between edges old xs v (slice_index starts (v - 1)) (slice_index starts v) (halved v) (sorted v) (first_of_node xs starts first v low high) (first v high) in
+    let beyond : (v : ℕ) → length starts ≤ v → IsRowOf (arcs_at edges v) [] =
+    λ v past. row_beyond edges old xs v (halved v) (sorted v) (λ k d lt. omega (arith, all k d lt)) in
+    (graph, rising, within, rows, beyond)

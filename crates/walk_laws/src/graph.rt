@@ -27,12 +27,13 @@ pub struct Graph {
     edges: Vec<Edge>,
     /// The arcs of all nodes, by rising node and then by rising neighbour.
     arcs: Vec<Arc>,
-    /// Where the arcs of each node begin; the arcs of `v` are those from `starts[v - 1]` up to `starts[v]`.
+    /// Where the arcs of each node begin, up to the last node that has an arc; the arcs of `v` are those from
+    /// `starts[v - 1]` up to `starts[v]`. So a declared number of nodes takes no memory.
     starts: Vec<usize>,
 }
 
 impl Model for Graph {
-    ghost use Rattle.std.specs.Prelude.{◌≡◌, ℕ, ◌+◌, ◌-◌, ◌≤◌, All, length, slice_index, slice_range};
+    ghost use Rattle.std.specs.Prelude.{ℕ, ◌-◌, ◌<◌, ◌≤◌, [], All, length, slice_index, slice_range};
     ghost use Rattle.std.specs.List.Sorted.{IsNonDecreasing};
     ghost use Rattle.walk_laws.specs.Graph.{WeightedGraph, IsGraph, IsRowOf, arcs_at};
 
@@ -40,21 +41,23 @@ impl Model for Graph {
 
     ghost view = { λ g. record { n = g.n; edges = g.edges.items } };
 
-    // a graph; the starts rise within the arcs, and between that of a node and the next lies the node's row
+    // a graph; the starts rise within the arcs, between that of a node and the next lies the node's row, and the rows of
+    // later nodes are empty
     ghost invariant = { λ g.
         let starts = g.starts.items in
         IsGraph g.n g.edges.items
-        × (length starts ≡ g.n + 1)
         × IsNonDecreasing starts
         × All (λ at. at ≤ length g.arcs.items) starts
-        × ((v : ℕ) → 1 ≤ v → v ≤ g.n → IsRowOf (arcs_at g.edges.items v) (slice_range g.arcs.items (slice_index starts (v - 1)) (slice_index starts v))) };
+        × ((v : ℕ) → 1 ≤ v → v < length starts → IsRowOf (arcs_at g.edges.items v) (slice_range g.arcs.items (slice_index starts (v - 1)) (slice_index starts v)))
+        × ((v : ℕ) → length starts ≤ v → IsRowOf (arcs_at g.edges.items v) []) };
 }
 
 impl Graph {
     ghost use Rattle.walk_laws.specs.Graph.{IsGraph, arcs_at};
     ghost use Rattle.walk_laws.specs.Joined.{Joined};
 
-    /// The graph with nodes 1..n and these edges. It sorts their halves once, in O(n + m log m) for m edges.
+    /// The graph with nodes 1..n and these edges. It sorts their halves once, in O(m log m) for m edges; nodes after the
+    /// last one with an edge cost nothing.
     /// The only error is that memory ran out.
     pub fn new(alloc: Global, n: u32, edges: Vec<Edge>) -> Result<Graph, AllocError>
         requires { IsGraph n edges.items }
@@ -63,7 +66,7 @@ impl Graph {
     {
         let mut halves = halves_of(alloc, &edges)?;
         sort_halves(&mut halves)?;
-        let starts = starts_of(alloc, n, &halves)?;
+        let starts = starts_of(alloc, &halves)?;
         let arcs = arcs_of(alloc, &halves)?;
         Ok(Graph {
             n,
@@ -91,6 +94,9 @@ impl Graph {
         ensures joined { (t w : ℕ) → Contains result.now (record { to = t; w = w }) ↔ Joined self.now.edges v t w }
     {
         let v = v as usize;
+        if v >= self.starts.len() {
+            return &[];
+        }
         &self.arcs[self.starts[v - 1]..self.starts[v]]
     }
 
@@ -135,6 +141,19 @@ mod tests {
             .as_slice()
         );
         assert_eq!(rt; graph.arcs(3), [Arc { to: 2, w: 1 }].as_slice());
+        Ok(())
+    }
+
+    /// A graph of 2^30 nodes and one edge is made at once, and a node without edges has no arcs.
+    #[test]
+    fn nodes_without_edges(rt: HostRuntime) -> Result<(), Fail> {
+        let edges = vec![in rt.alloc(); Edge { u: 1, v: 3, w: 2 }]?;
+        let graph = Graph::new(rt.alloc(), 1 << 30, edges)?;
+        assert_eq!(rt; graph.n(), 1 << 30);
+        let none: &[Arc] = &[];
+        assert_eq!(rt; graph.arcs(2), none);
+        assert_eq!(rt; graph.arcs(3), [Arc { to: 1, w: 2 }].as_slice());
+        assert_eq!(rt; graph.arcs(1 << 30), none);
         Ok(())
     }
 }

@@ -1,4 +1,4 @@
-ghost use Rattle.std.specs.Prelude.{map, ◌≡◌, ℕ, ◌+◌, ◌<◌, ◌≤◌, IfOk, OnOk, length, slice_index, vec_len, ◌^◌};
+ghost use Rattle.std.specs.Prelude.{map, ◌≡◌, ℕ, ◌+◌, ◌<◌, ◌≤◌, All, IfOk, OnOk, length, slice_index, vec_len, ◌^◌};
 ghost use Rattle.std.specs.List.{AllWithin};
 ghost use Rattle.std.specs.List.Sorted.{IsNonDecreasingBy};
 ghost use Rattle.walk_laws.specs.Graph.{IsRowOf, arcs_at};
@@ -42,7 +42,7 @@ pub fn sort_halves(halves: &mut Vec<Half>) -> Result<(), AllocError>
 }
 
 /// The first place whose half leaves `v` or a later node, where those before `at` leave earlier ones.
-fn first_from(halves: &[Half], at: usize, v: u32) -> usize
+fn first_from(halves: &[Half], at: usize, v: usize) -> usize
     requires rising { IsNonDecreasingBy (λ h. h.from) halves.now }
     requires within { at ≤ length halves.now }
     requires passed { AllWithin (λ h. h.from < v) halves.now 0 at }
@@ -51,25 +51,37 @@ fn first_from(halves: &[Half], at: usize, v: u32) -> usize
     ensures after { AllWithin (λ h. v ≤ h.from) halves.now result (length halves.now) }
 {
     for place in at..halves.len() {
-        if halves[place].from >= v {
+        if halves[place].from as usize >= v {
             return place;
         }
     }
     halves.len()
 }
 
-/// Where the halves of each node begin: one place for each of 1..n, and the end.
-pub fn starts_of(alloc: Global, n: u32, halves: &[Half]) -> Result<Vec<usize>, AllocError>
-    requires rising { IsNonDecreasingBy (λ h. h.from) halves.now }
-    requires small { n ≤ 2 ^ 30 }
-    ensures len { IfOk result (λ starts. vec_len starts ≡ n + 1) }
-    ensures within { IfOk result (λ starts. (k : ℕ) → k ≤ n → slice_index starts.items k ≤ length halves.now) }
-    ensures before { IfOk result (λ starts. (k : ℕ) → k ≤ n → AllWithin (λ h. h.from < k + 1) halves.now 0 (slice_index starts.items k)) }
-    ensures after { IfOk result (λ starts. (k : ℕ) → k ≤ n → AllWithin (λ h. k + 1 ≤ h.from) halves.now (slice_index starts.items k) (length halves.now)) }
+/// The last node that a half leaves, or 0 without halves.
+fn last_node(halves: &[Half]) -> usize
+    requires { IsNonDecreasingBy (λ h. h.from) halves.now }
+    ensures fits { result < 2 ^ 32 }
+    ensures last { All (λ h. h.from ≤ result) halves.now }
 {
-    let mut starts = Vec::with_capacity(alloc, n as usize + 1)?;
+    match halves.last() {
+        Some(half) => half.from as usize,
+        None => 0,
+    }
+}
+
+/// Where the halves of each node begin, up to the last node that has one: a place for each of these nodes, and the end.
+pub fn starts_of(alloc: Global, halves: &[Half]) -> Result<Vec<usize>, AllocError>
+    requires { IsNonDecreasingBy (λ h. h.from) halves.now }
+    ensures within { IfOk result (λ starts. (k : ℕ) → k < vec_len starts → slice_index starts.items k ≤ length halves.now) }
+    ensures before { IfOk result (λ starts. (k : ℕ) → k < vec_len starts → AllWithin (λ h. h.from < k + 1) halves.now 0 (slice_index starts.items k)) }
+    ensures after { IfOk result (λ starts. (k : ℕ) → k < vec_len starts → AllWithin (λ h. k + 1 ≤ h.from) halves.now (slice_index starts.items k) (length halves.now)) }
+    ensures all { IfOk result (λ starts. All (λ h. h.from < vec_len starts) halves.now) }
+{
+    let nodes = last_node(halves) + 1;
+    let mut starts = Vec::with_capacity(alloc, nodes)?;
     let mut at = 0;
-    for k in 0..n + 1 {
+    for k in 0..nodes {
         at = first_from(halves, at, k + 1);
         starts.push(at)?;
     }

@@ -33,11 +33,33 @@ impl Name {
     }
 }
 
+/// The construction by which an index is built. All give the same index.
+#[derive(Clone, Copy, Debug, PartialEq, Eq)]
+pub enum By {
+    /// Planted trees: each root by itself, with no look at the rows of others.
+    Plant,
+}
+
 /// What a command line asks for.
 #[derive(Debug, Drop)]
 pub enum Asked {
     /// Print the rows of the labelling of a graph under an order.
-    List { graph: Name, order: Name },
+    List {
+        graph: Name,
+        order: Name,
+    },
+    /// Write the index of the labelling to a file.
+    Build {
+        graph: Name,
+        order: Name,
+        /// The file that is created.
+        out: Name,
+        by: By,
+        /// How many workers build: 1..64.
+        workers: u32,
+        /// How many roots a worker takes at a time: 1..2^30.
+        cut: u32,
+    },
 }
 
 /// Why a command line asks for nothing.

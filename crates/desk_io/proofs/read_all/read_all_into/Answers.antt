@@ -36,6 +36,7 @@ loop-room-preserved g c =
     let read = c.in_ok-count.ensures in
     record {
       is_open = read.open;
+      is_created = read.created ∙ was.is_created;
       within = omega arith;
       moved = subst (λ n. Moves g.F.Feed.feed_gives c.args.feed.now c.hand_on.new.feed (g.D.Desk.told c.args.desk.now) (g.D.Desk.told c.hand_on.new.desk) n) {x = input_limit - c.loop-room.room + c.in_ok-count.count} (grind (arith, common_steps)) (Moves-append g.F.Feed.feed_gives _ _ _ _ _ _ _ _ was.moved read.ok);
       input_count = read.input_count ∙ was.input_count;

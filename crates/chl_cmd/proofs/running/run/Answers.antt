@@ -1,0 +1,42 @@
+use Rattle.chl_cmd.specs.Outcome.{OpensNoOther}
+use Rattle.chl_cmd.proofs.Endings.{unchanged, opens_nothing, told_done, told_decided, told_failed, told_lost, told_opens, told_files}
+use Rattle.chl_cmd.proofs.running.run.Goals as goal
+
+pub returns-in-Ok-clause-usage : goal.returns-in-Ok-clause-usage
+returns-in-Ok-clause-usage g c = λ none. absurd (none c.in-Ok.asked c.in-Ok.ensures.ok)
+
+pub returns-in-Ok-clause-done : goal.returns-in-Ok-clause-done
+returns-in-Ok-clause-done g c = λ asked is done.
+    told_done _ _ _ _ asked _ c.in-Ok.ensures.ok is c.carry_out.ensures.ends done
+
+pub returns-in-Ok-clause-decided : goal.returns-in-Ok-clause-decided
+returns-in-Ok-clause-decided g c = λ asked answer is.
+    told_decided _ _ _ _ asked _ c.in-Ok.ensures.ok is c.carry_out.ensures.ends answer
+
+pub returns-in-Ok-clause-write_fault : goal.returns-in-Ok-clause-write_fault
+returns-in-Ok-clause-write_fault g c = λ asked is failed.
+    told_failed _ _ _ _ asked _ c.in-Ok.ensures.ok is c.carry_out.ensures.ends failed
+
+pub returns-in-Ok-clause-no_memory : goal.returns-in-Ok-clause-no_memory
+returns-in-Ok-clause-no_memory g c = λ asked is lost.
+    told_lost _ _ _ _ asked _ c.in-Ok.ensures.ok is c.carry_out.ensures.ends lost
+
+pub returns-in-Ok-clause-opens : goal.returns-in-Ok-clause-opens
+returns-in-Ok-clause-opens g c = λ asked is.
+    told_opens _ _ _ _ asked _ c.in-Ok.ensures.ok is c.carry_out.ensures.ends
+
+pub returns-in-Ok-clause-files : goal.returns-in-Ok-clause-files
+returns-in-Ok-clause-files g c = λ asked is.
+    told_files _ _ _ _ asked _ c.in-Ok.ensures.ok is c.carry_out.ensures.ends
+
+pub returns-in-Err-Usage-clause-no_command : goal.returns-in-Err-Usage-clause-no_command
+returns-in-Err-Usage-clause-no_command g c = λ _. c.in-Err-Usage.ensures.usage c.in-Err-Usage.field-0-is
+
+pub returns-in-Err-Usage-clause-decided : goal.returns-in-Err-Usage-clause-decided
+returns-in-Err-Usage-clause-decided g c = λ asked answer is. absurd (c.in-Err-Usage.ensures.usage c.in-Err-Usage.field-0-is asked is)
+
+pub returns-in-Err-Usage-clause-opens : goal.returns-in-Err-Usage-clause-opens
+returns-in-Err-Usage-clause-opens g c = λ asked is. unchanged (OpensNoOther asked) _ (opens_nothing asked)
+
+pub returns-in-Err-NoMemory-clause-opens : goal.returns-in-Err-NoMemory-clause-opens
+returns-in-Err-NoMemory-clause-opens g c = λ asked is. unchanged (OpensNoOther asked) _ (opens_nothing asked)

@@ -1,0 +1,49 @@
+ghost use Rattle.std.specs.Prelude.{◌≡◌, ◌∷◌, [], Err, IfOk, IfErr};
+ghost use Rattle.desk_io.specs.Contents.{Tells};
+ghost use Rattle.chl_cmd.specs.Decides.{AfterRanked, HasLabelling};
+ghost use Rattle.chl_cmd.specs.Inputs.{read_all, OpensInOrder};
+ghost use Rattle.chl_cmd.specs.Statuses.{CountsStop};
+ghost use Rattle.chl_cmd.specs.Stops.{MayStop};
+ghost use Rattle.chl_cmd.specs.Words.{AreWithinLimits};
+
+use crate::inputs::read_ranked;
+use crate::stop::Stop;
+use crate::words::{By, Construction, Name};
+use desk_io::{Desk, Gate};
+use hub_index::Index;
+use plant_build::build_plant;
+use std::alloc::Global;
+
+/// The index of the canonical hub labelling of the graph of the first named text under the order of the second.
+pub fn read_labelling<R, D: Desk, G: Gate + Sync>(
+    rt: &R,
+    alloc: Global,
+    graph: &Name,
+    order: &Name,
+    construction: Construction,
+    desk: &mut D,
+    gate: &G,
+) -> Result<Index, Stop>
+    requires { AreWithinLimits construction.workers construction.cut }
+    ensures value { IfOk result (λ index. Tells (D.told desk.old) (D.told desk.new) (λ a b.
+        HasLabelling graph.now order.now a.files index × (b ≡ read_all (graph.now ∷ order.now ∷ []) a))) }
+    ensures stop { IfErr result (λ stop. Tells (D.told desk.old) (D.told desk.new) (λ a b.
+        MayStop a.steady stop (AfterRanked graph.now order.now a.files (Err stop) (λ _ _. ⊥))
+        × OpensInOrder (graph.now ∷ order.now ∷ []) a b)) }
+    ensures input_count { CountsStop result (D.input_faults desk.old) (D.input_faults desk.new) }
+    ensures output_count { D.output_faults desk.new ≡ D.output_faults desk.old }
+{
+    let ranked = read_ranked(alloc, graph, order, desk)?;
+    let index = match construction.by {
+        By::Plant => build_plant(
+            rt,
+            alloc,
+            &ranked.graph,
+            &ranked.ranking,
+            construction.workers,
+            construction.cut,
+            gate,
+        )?,
+    };
+    Ok(index)
+}

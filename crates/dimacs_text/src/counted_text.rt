@@ -1,0 +1,86 @@
+ghost use Rattle.std.specs.Prelude.{◌≡◌, ◌⊎◌, ℕ, ◌-◌, ◌^◌, ◌<◌, ◌≤◌, true, List, All, map, length, Result, Ok, Err, IfOk, IfErr};
+ghost use Rattle.dimacs_text.specs.declared.fault.TextFault.{TextFault};
+ghost use Rattle.dimacs_text.specs.Counted.{Wording, AreAccepted, JudgesNumbers, are_within, is_outside, kept};
+
+use crate::fault::{TextFault, TextKind};
+use std::alloc::Global;
+
+/// The words of a counted text, and what its numbers stand for.
+pub trait CountedText {
+    /// What a line of the letter stands for.
+    type Item;
+
+    /// What a whole text stands for.
+    type Value;
+
+    /// Why a text is refused.
+    type Fault;
+
+    /// The words, and the faults of numbers.
+    ghost wording: { Self → Wording };
+
+    /// The numbers of the line that stands for an item.
+    ghost written: { Self.Item → List ℕ };
+
+    /// What counts and the lines behind them stand for, or the fault that they have together.
+    ghost value_of: { Self → List ℕ → List (List ℕ) → Result Self.Value Self.Fault };
+
+    /// The fault of a line.
+    ghost in_text: { TextFault → Self.Fault };
+
+    /// The fault of one who has no memory.
+    ghost no_memory: { Self.Fault };
+
+    /// The words behind `p`, as a line.
+    fn fixed(&self) -> &'static [u8]
+        ensures { result.now ≡ (wording self.now).fixed };
+
+    /// The greatest value of each count.
+    fn limits(&self) -> &'static [u64]
+        ensures value { result.now ≡ (wording self.now).limits }
+        ensures small { All (λ limit. limit < 2 ^ 64 - 1) (wording self.now).limits };
+
+    /// The letter of the other lines.
+    fn letter(&self) -> u8
+        ensures { result ≡ (wording self.now).letter };
+
+    /// How many numbers stand behind the letter, 3 at most.
+    fn numbers(&self) -> usize
+        ensures value { result ≡ (wording self.now).numbers }
+        ensures few { result ≤ 3 };
+
+    /// What the numbers of a line stand for under the counts of the `p` line, or the fault that they have.
+    fn item(&self, counts: &[u64], numbers: &[u64]) -> Result<Self::Item, TextKind>
+        requires counted { length counts.now ≡ length (wording self.now).limits }
+        requires within { are_within (wording self.now).limits counts.now ≡ true }
+        requires numbers { length numbers.now ≡ (wording self.now).numbers }
+        ensures { (values : List ℕ) → numbers.now ≡ kept values
+            → JudgesNumbers (wording self.now) written counts.now values result };
+
+    /// What the counts and the items behind them stand for.
+    fn value(
+        self,
+        alloc: Global,
+        counts: Vec<u64>,
+        items: Vec<Self::Item>,
+    ) -> Result<Self::Value, Self::Fault>
+        requires { AreAccepted (wording self) counts.items (map written items.items) }
+        ensures ok { IfOk result (λ value. value_of self counts.items (map written items.items) ≡ Ok value) }
+        ensures err { IfErr result (λ fault. (fault ≡ no_memory)
+            ⊎ (value_of self counts.items (map written items.items) ≡ Err fault)) };
+
+    /// The fault of a line.
+    fn text_fault(fault: TextFault) -> Self::Fault
+        ensures { result ≡ in_text fault };
+
+    /// The fault of one who has no memory.
+    fn out_of_memory() -> Self::Fault
+        ensures { result ≡ no_memory };
+}
+
+/// Whether a number is no node of 1..n.
+pub fn is_outside_of(n: u64, v: u64) -> bool
+    ensures { result ≡ is_outside n v }
+{
+    v == 0 || v > n
+}

@@ -1,0 +1,69 @@
+use thiserror::Error;
+
+/// What is wrong with a line of a graph or pairs text.
+#[derive(Clone, Copy, Debug, PartialEq, Eq, Error)]
+pub enum TextKind {
+    /// The line begins with no word of the format.
+    #[error("unknown line")]
+    UnknownLine,
+    /// There is no problem line, or none before this line.
+    #[error("no problem line")]
+    NoProblem,
+    /// There was a problem line before.
+    #[error("second problem line")]
+    SecondProblem,
+    /// A word in a number's place is no number.
+    #[error("bad number")]
+    BadNumber,
+    /// The line has too few or too many words, or a wrong one.
+    #[error("bad field")]
+    BadField,
+    /// A number in a node's place is no node.
+    #[error("node out of range")]
+    NodeRange,
+    /// A weight is 0.
+    #[error("zero weight")]
+    ZeroWeight,
+    /// A weight is above the limit.
+    #[error("weight out of range")]
+    WeightRange,
+    /// A declared count is above the limit.
+    #[error("too many")]
+    TooMany,
+    /// The text has `found` lines behind its problem line, which declares `declared`.
+    #[error("declared {declared}, found {found}")]
+    Count { declared: u64, found: u64 },
+}
+
+/// The first fault of a text, and its line, which counts from 1.
+#[derive(Clone, Copy, Debug, PartialEq, Eq, Error)]
+#[error("line {line}: {kind}")]
+pub struct TextFault {
+    pub line: u64,
+    pub kind: TextKind,
+}
+
+/// Why a text is no graph.
+#[derive(Clone, Copy, Debug, PartialEq, Eq, Error)]
+pub enum GrFault {
+    /// The text has a fault.
+    #[error("graph {0}")]
+    Text(TextFault),
+    /// The number of nodes times the greatest weight is 2^62 or more.
+    #[error("overflow: {n} nodes, weight {weight}")]
+    Overflow { n: u32, weight: u64 },
+    /// There was no memory for it.
+    #[error("out of memory")]
+    NoMemory,
+}
+
+/// Why a text is no list of pairs.
+#[derive(Clone, Copy, Debug, PartialEq, Eq, Error)]
+pub enum PairsFault {
+    /// The text has a fault.
+    #[error("pairs {0}")]
+    Text(TextFault),
+    /// There was no memory for it.
+    #[error("out of memory")]
+    NoMemory,
+}

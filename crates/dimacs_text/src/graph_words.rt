@@ -1,0 +1,123 @@
+ghost use Rattle.std.specs.Prelude.{◌≡◌, ◌-◌, ◌*◌, ◌^◌, nat_le};
+ghost use Rattle.walk_laws.specs.Graph.{greatest_weight};
+
+use crate::counted_text::{CountedText, is_outside_of};
+use crate::fault::{GrFault, TextFault, TextKind};
+use std::alloc::Global;
+use walk_laws::{Edge, Graph};
+
+/// The greatest number of nodes, 2^30, and the greatest number of arcs, 2^32 - 1.
+static LIMITS: [u64; 2] = [1 << 30, (1 << 32) - 1];
+
+/// The greatest weight, and the greatest product of the number of nodes and the greatest weight: 2^62 - 1.
+const GREATEST: u64 = (1 << 62) - 1;
+
+/// The words of a graph text: `p sp N M`, and `a U V W` for an edge.
+#[derive(Clone, Copy, Debug)]
+pub struct GraphWords;
+
+impl CountedText for GraphWords {
+    ghost use Rattle.std.specs.Prelude.{◌⊎◌, map, Ok, Err, IfOk, IfErr};
+    ghost use Rattle.dimacs_text.specs.Counted.{AreAccepted};
+    ghost use Rattle.dimacs_text.specs.GraphText.{graph_wording, arc_numbers, graph_of_lines};
+    ghost use Rattle.dimacs_text.specs.declared.fault.GrFault.TheVariants.{Text, NoMemory};
+
+    type Item = Edge;
+
+    type Value = Graph;
+
+    type Fault = GrFault;
+
+    ghost wording = { graph_wording };
+
+    ghost written = { arc_numbers };
+
+    ghost value_of = { graph_of_lines };
+
+    ghost in_text = { Text };
+
+    ghost no_memory = { NoMemory };
+
+    fn fixed(&self) -> &'static [u8] {
+        b"sp"
+    }
+
+    fn limits(&self) -> &'static [u64] {
+        &LIMITS
+    }
+
+    fn letter(&self) -> u8 {
+        b'a'
+    }
+
+    fn numbers(&self) -> usize {
+        3
+    }
+
+    fn item(&self, counts: &[u64], numbers: &[u64]) -> Result<Edge, TextKind> {
+        let n = counts[0];
+        let u = numbers[0];
+        let v = numbers[1];
+        let w = numbers[2];
+        if is_outside_of(n, u) || is_outside_of(n, v) {
+            return Err(TextKind::NodeRange);
+        }
+        if w == 0 {
+            return Err(TextKind::ZeroWeight);
+        }
+        if w > GREATEST {
+            return Err(TextKind::WeightRange);
+        }
+        Ok(Edge {
+            u: u as u32,
+            v: v as u32,
+            w,
+        })
+    }
+
+    fn value(self, alloc: Global, counts: Vec<u64>, items: Vec<Edge>) -> Result<Graph, GrFault>
+        requires { AreAccepted (graph_wording self) counts.items (map arc_numbers items.items) }
+        ensures ok { IfOk result (λ graph. graph_of_lines self counts.items (map arc_numbers items.items) ≡ Ok graph) }
+        ensures err { IfErr result (λ fault. (fault ≡ NoMemory)
+            ⊎ (graph_of_lines self counts.items (map arc_numbers items.items) ≡ Err fault)) }
+    {
+        let n = counts[0] as u32;
+        let weight = greatest_weight_of(&items);
+        if !fits(n, weight) {
+            return Err(GrFault::Overflow { n, weight });
+        }
+        match Graph::new(alloc, n, items) {
+            Ok(graph) => Ok(graph),
+            Err(_) => Err(GrFault::NoMemory),
+        }
+    }
+
+    fn text_fault(fault: TextFault) -> GrFault {
+        GrFault::Text(fault)
+    }
+
+    fn out_of_memory() -> GrFault {
+        GrFault::NoMemory
+    }
+}
+
+/// The greatest weight of the edges, 0 without edges.
+fn greatest_weight_of(edges: &[Edge]) -> u64
+    ensures { result ≡ greatest_weight edges.now }
+{
+    let mut greatest = 0;
+    for edge in edges {
+        greatest = edge.w.max(greatest);
+    }
+    greatest
+}
+
+/// Whether the number of nodes times the greatest weight is below 2^62.
+fn fits(n: u32, weight: u64) -> bool
+    ensures { result ≡ nat_le (n * weight) (2 ^ 62 - 1) }
+{
+    match u64::from(n).checked_mul(weight) {
+        Some(product) => product <= GREATEST,
+        None => false,
+    }
+}

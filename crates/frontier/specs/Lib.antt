@@ -1,0 +1,3 @@
+pub mod Reaches
+pub mod TurnOf
+pub mod Turns

@@ -1,0 +1,113 @@
+ghost use Rattle.std.specs.Prelude.{◌≡◌, ◌≢◌, ℕ, ◌+◌, ◌<◌, ◌≤◌, length, replicate, IfOk, OnOk, OnErr, IfSome, IfNone};
+ghost use Rattle.frontier.specs.Reaches.{reach_at, with_offer, settled};
+ghost use Rattle.frontier.specs.declared.reach.Found.{Found};
+ghost use Rattle.frontier.specs.declared.reach.Reach.TheVariants.{Unreached, Queued};
+
+use crate::carry::Carry;
+use crate::reach::{Found, Reach};
+use crate::turn::Turn;
+use std::alloc::{AllocError, Global};
+use std::collections::BinaryHeap;
+use std::marker::Model;
+
+/// The nodes 0..n of a search, each with what it has come to with it. Contracts see the list of these.
+#[derive(Debug, Drop)]
+pub struct Frontier<C> {
+    reaches: Vec<Reach<C>>,
+    /// Each queued node has a turn at its distance; turns that a lower offer or a take left behind may stand there, too.
+    turns: BinaryHeap<Turn>,
+    /// The nodes that are reached.
+    touched: Vec<u32>,
+}
+
+impl<C> Model for Frontier<C> {
+    ghost use Rattle.std.specs.Prelude.{List};
+    ghost use Rattle.frontier.specs.declared.reach.Reach.{Reach};
+    ghost use Rattle.frontier.specs.Turns.{HasTurns};
+    ghost use Rattle.std.specs.BinaryHeap.{heap_items};
+
+    ghost Value = { List (Reach C) };
+
+    ghost view = { λ f. f.reaches.items };
+
+    ghost invariant = { λ f. HasTurns f.reaches.items (heap_items f.turns) f.touched.items };
+}
+
+impl<C: Carry> Frontier<C> {
+    /// A frontier that has reached none of the nodes 0..n. The only error is that memory ran out.
+    pub fn new(alloc: Global, n: u32) -> Result<Frontier<C>, AllocError>
+        ensures { IfOk result (λ f. f ≡ replicate (n + 1) Unreached) }
+    {
+        Ok(Frontier {
+            reaches: vec![in alloc; Reach::Unreached; n as usize + 1]?,
+            turns: BinaryHeap::new(alloc),
+            touched: Vec::new(alloc),
+        })
+    }
+
+    /// How far the search has come with a node.
+    pub fn reach(&self, node: u32) -> Reach<C>
+        requires { node < length self.now }
+        ensures { result ≡ reach_at self.now node }
+    {
+        self.reaches[node as usize]
+    }
+
+    /// Offers a node a distance, and something to carry. A node that wasn't reached is queued with them; a queued node
+    /// takes a shorter distance, and combines what is carried at an equal one; nothing else changes. The only error is
+    /// that memory ran out, and then nothing has changed.
+    pub fn offer(&mut self, node: u32, dist: u64, carried: C) -> Result<(), AllocError>
+        requires { node < length self.old }
+        ensures ok { OnOk result (self.new ≡ with_offer C.combined self.old node (record { dist = dist; carried = carried })) }
+        ensures err { OnErr result (self.new ≡ self.old) }
+    {
+        let offer = Found { dist, carried };
+        match self.reaches[node as usize] {
+            Reach::Unreached => {
+                self.touched.push(node)?;
+                self.turns.push(Turn::of(node, dist))?;
+                self.reaches[node as usize] = Reach::Queued(offer);
+            }
+            Reach::Queued(best) if dist < best.dist => {
+                self.turns.push(Turn::of(node, dist))?;
+                self.reaches[node as usize] = Reach::Queued(offer);
+            }
+            Reach::Queued(best) if dist == best.dist => {
+                let carried = best.carried.combine(carried);
+                self.reaches[node as usize] = Reach::Queued(Found { dist, carried });
+            }
+            _ => {}
+        }
+        Ok(())
+    }
+
+    /// Settles a queued node of least distance, and answers it with what was found of it; None where no node is queued.
+    pub fn take(&mut self) -> Option<(u32, Found<C>)>
+        ensures queued { IfSome result (λ t. reach_at self.old t.0 ≡ Queued t.1) }
+        ensures nearest { IfSome result (λ t. (x : ℕ) (g : Found C) → reach_at self.old x ≡ Queued g → t.1.dist ≤ g.dist) }
+        ensures settles { IfSome result (λ t. self.new ≡ settled self.old t.0 t.1) }
+        ensures none { IfNone result ((x : ℕ) (g : Found C) → reach_at self.old x ≢ Queued g) }
+        ensures unchanged { IfNone result (self.new ≡ self.old) }
+    {
+        while let Some(turn) = self.turns.pop() {
+            let node = turn.node as usize;
+            if let Reach::Queued(found) = self.reaches[node] {
+                if found.dist == turn.dist.0 {
+                    self.reaches[node] = Reach::Settled(found);
+                    return Some((turn.node, found));
+                }
+            }
+        }
+        None
+    }
+
+    /// Forgets all offers, at the cost of the nodes that they reached.
+    pub fn clear(&mut self)
+        ensures { self.new ≡ replicate (length self.old) Unreached }
+    {
+        while let Some(node) = self.touched.pop() {
+            self.reaches[node as usize] = Reach::Unreached;
+        }
+        self.turns.clear();
+    }
+}

@@ -1,0 +1,45 @@
+use crate::{Carry, Found, Frontier, Reach};
+use std::test::Fail;
+
+/// Carries a number, of which the least counts.
+#[derive(Clone, Copy, Debug, PartialEq, Eq)]
+struct Least(u32);
+
+impl Carry for Least {
+    ghost use Rattle.std.specs.Prelude.{min};
+
+    ghost combined = { λ a b. record { 0 = min a.0 b.0 } };
+
+    fn combine(self, later: Least) -> Least {
+        Least(self.0.min(later.0))
+    }
+}
+
+#[test]
+fn takes_the_nearest_first(rt: HostRuntime) -> Result<(), Fail> {
+    let mut frontier: Frontier<Least> = Frontier::new(rt.alloc(), 4)?;
+    frontier.offer(1, 7, Least(3))?;
+    frontier.offer(2, 5, Least(3))?;
+    frontier.offer(3, 6, Least(2))?;
+    frontier.offer(1, 6, Least(9))?;
+    frontier.offer(1, 6, Least(4))?;
+    frontier.offer(3, 8, Least(0))?;
+    frontier.offer(1, 2, Least(8))?;
+    assert_eq!(rt; frontier.reach(4), Reach::Unreached);
+    let first = Found {
+        dist: 2,
+        carried: Least(8),
+    };
+    assert_eq!(rt; frontier.take(), Some((1, first)));
+    frontier.offer(1, 1, Least(0))?;
+    assert_eq!(rt; frontier.reach(1), Reach::Settled(first));
+    frontier.offer(2, 5, Least(1))?;
+    let second = Found {
+        dist: 5,
+        carried: Least(1),
+    };
+    assert_eq!(rt; frontier.take(), Some((2, second)));
+    frontier.clear();
+    assert_eq!(rt; frontier.take(), None);
+    Ok(())
+}

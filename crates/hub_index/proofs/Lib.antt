@@ -1,0 +1,2 @@
+pub mod RowItems
+pub mod CanonicalRows

@@ -1,0 +1,3 @@
+pub mod HubIndex
+pub mod WellFormed
+pub mod Laws

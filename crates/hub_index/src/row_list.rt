@@ -1,0 +1,102 @@
+ghost use Rattle.std.specs.Prelude.{◌≡◌, ℕ, ◌^◌, ◌<◌, ◌≤◌, [], length, map, replicate, vec_len, IfOk, OnOk, OnErr};
+ghost use Rattle.walk_laws.specs.Labelling.{label_row};
+ghost use Rattle.hub_index.specs.HubIndex.{with_entry};
+
+use std::alloc::{AllocError, Global};
+use std::marker::Model;
+use walk_laws::Entry;
+
+/// A row of entries for each of the nodes 1..n. Contracts see the list of the rows, node 1 first.
+#[derive(Debug, Drop)]
+pub struct RowList {
+    rows: Vec<Vec<Entry>>,
+}
+
+impl Model for RowList {
+    ghost use Rattle.std.specs.Prelude.{◌≡◌, ℕ, ◌^◌, ◌<◌, List, map, length};
+    ghost use Rattle.walk_laws.specs.declared.entry.Entry.{Entry};
+
+    ghost Value = { List (List Entry) };
+
+    ghost view = { λ r. map (λ row. row.items) r.rows.items };
+
+    ghost invariant = { λ r. length r.rows.items < 2 ^ 32 };
+}
+
+impl RowList {
+    /// An empty row for each of the nodes 1..n. The only error is that memory ran out.
+    pub fn new(alloc: Global, n: u32) -> Result<RowList, AllocError>
+        ensures { IfOk result (λ rows. rows ≡ replicate n []) }
+    {
+        let mut rows = Vec::with_capacity(alloc, n as usize)?;
+        for _ in 0..n {
+            rows.push(Vec::new(alloc))?;
+        }
+        Ok(RowList { rows })
+    }
+
+    /// These rows, the first being that of node 1. It takes no memory.
+    pub fn from_rows(rows: Vec<Vec<Entry>>) -> RowList
+        requires { vec_len rows < 2 ^ 32 }
+        ensures { result ≡ map (λ row. row.items) rows.items }
+    {
+        RowList { rows }
+    }
+
+    /// The rows, the first being that of node 1. It takes no memory.
+    pub fn into_rows(self) -> Vec<Vec<Entry>>
+        ensures { map (λ row. row.items) result.items ≡ self }
+    {
+        self.rows
+    }
+
+    /// How many nodes there are.
+    pub fn n(&self) -> u32
+        ensures { result ≡ length self.now }
+    {
+        self.rows.len() as u32
+    }
+
+    /// The row of the node `v`, a number from 1, in the order in which its entries were pushed. It is lent in O(1).
+    pub fn row(&self, v: u32) -> &[Entry]
+        requires node { 1 ≤ v }
+        requires within { v ≤ length self.now }
+        ensures { result.now ≡ label_row self.now v }
+    {
+        &self.rows[v as usize - 1]
+    }
+
+    /// Puts the entry last in the row of the node `v`, a number from 1. The only error is that memory ran out, and then
+    /// nothing has changed.
+    pub fn push(&mut self, v: u32, entry: Entry) -> Result<(), AllocError>
+        requires node { 1 ≤ v }
+        requires within { v ≤ length self.old }
+        ensures ok { OnOk result (self.new ≡ with_entry self.old v entry) }
+        ensures err { OnErr result (self.new ≡ self.old) }
+    {
+        self.rows[v as usize - 1].push(entry)?;
+        Ok(())
+    }
+}
+
+#[cfg(test)]
+mod tests {
+    use super::*;
+    use std::test::Fail;
+
+    #[test]
+    fn entries_go_last_in_their_rows(rt: HostRuntime) -> Result<(), Fail> {
+        let mut rows = RowList::new(rt.alloc(), 2)?;
+        assert_eq!(rt; rows.n(), 2);
+        rows.push(2, Entry { pos: 0, dist: 7 })?;
+        assert_eq!(rt; rows.n(), 2);
+        rows.push(2, Entry { pos: 1, dist: 0 })?;
+        assert_eq!(rt; rows.n(), 2);
+        assert!(rt; rows.row(1).is_empty());
+        assert_eq!(rt;
+            rows.row(2),
+            [Entry { pos: 0, dist: 7 }, Entry { pos: 1, dist: 0 }].as_slice()
+        );
+        Ok(())
+    }
+}

@@ -1,0 +1,221 @@
+-- The layout of a well formed index is read as the index.
+use Rattle.std.proofs.Common.{◌≡◌, ℕ, suc, ◌+◌, ◌-◌, ◌^◌, ◌<◌, ◌≤◌, true, false, eqb, leb, ltb, List, [], ◌∷◌, ◌++◌, length, take, map, get_or, All, Result, Ok, Err, refl, sym, ap, subst, ◌∙◌, append_assoc, arith}
+use Rattle.std.specs.Prelude.{nat_eq, not, ◌&&◌, flat_map}
+use Rattle.std.specs.List.{list_any}
+use Rattle.std.proofs.Math.Seq.{get_or-append_seam}
+use Rattle.std.proofs.lemmas.Bool.{eq-eqb, ne_eqb, le-leb, lt-ltb, and_from, false_from_ne_true, not_from_false}
+use Rattle.std.proofs.lemmas.List.{length-append, append-nil, take_at}
+use Rattle.std.proofs.lemmas.List.Kept.{AllPairs-from_increasing}
+use Rattle.byteorder.specs.Endian.{big_bytes, big_number}
+use Rattle.byteorder.specs.Numbers.{big_number-reads_back, length-bytes_high_first}
+use Rattle.walk_laws.specs.declared.entry.Entry.{Entry}
+use Rattle.walk_laws.specs.Ranking.{IsRanking, position_of}
+use Rattle.walk_laws.specs.Labelling.{label_row}
+use Rattle.walk_laws.proofs.LabelRows.{Rises}
+use Rattle.walk_laws.proofs.Positions.{position-lt}
+use Rattle.index_file.proofs.RepeatedNodes.{repeated}
+use Rattle.hub_index.specs.HubIndex.{HubIndex}
+use Rattle.hub_index.specs.WellFormed.{own_entry, IsWellFormedRow, IsWellFormed}
+use Rattle.index_file.specs.declared.fault.IndexFault.{IndexFault}
+use Rattle.index_file.specs.declared.next.Next.{Next}
+use Rattle.index_file.specs.declared.next.Next.TheVariants.{Letter, Version, Size, Node, Count, Position, Distance, End}
+use Rattle.index_file.specs.Layout.{word, entry_bytes, row_bytes, index_bytes}
+use Rattle.index_file.specs.Parts.{Part, is_new_node, with_row, next_node, next_own, least_after, is_next_position, is_next_distance}
+use Rattle.index_file.specs.Judging.{Reached, ◌>>=◌, start, width, after_row, after_node, after_field, fed, end_of_fields, end_of, index_of}
+use Rattle.index_file.specs.Cutting.{fed-append}
+use Rattle.index_file.proofs.Fields.{no_bytes, fed-field}
+use Rattle.index_file.specs.Sound.{AreRows, IsSoundNext, bytes_before}
+use Rattle.index_file.proofs.Rising.{pos_of, least_after-front, below_behind}
+use Rattle.index_file.proofs.SoundBytes.{IsSound-start, ok_is, Leads, Leads-bytes}
+use Rattle.index_file.proofs.Sizes.{length-well_formed}
+
+-- from any offset the bytes lead from one field to another
+pub record Goes (next : Next) (bytes : List ℕ) (new : Next) : Type 0 where
+  pub way : (at : ℕ) → (end : ℕ) × (fed (Ok (record { next = next; held = []; at = at })) bytes ≡ Ok (record { next = new; held = []; at = end }))
+
+Goes-none : (next new : Next) → next ≡ new → Goes next [] new
+Goes-none next new same = record { way = λ at. (at, ap (λ n. Ok (record { next = n; held = []; at = at })) same) }
+
+Goes-then : (a b c : Next) (xs ys : List ℕ) → Goes a xs b → Goes b ys c → Goes a (xs ++ ys) c
+Goes-then a b c xs ys first second = record {
+  way = λ at.
+      let f = first.way at in
+      let s = second.way f.0 in
+      (s.0, fed-append (Ok (record { next = a; held = []; at = at })) xs ys ∙ ap (λ r. fed r ys) f.1 ∙ s.1);
+}
+
+Goes-from : (a b c : Next) (xs : List ℕ) → a ≡ b → Goes b xs c → Goes a xs c
+Goes-from a b c xs same goes = subst (λ next. Goes next xs c) (sym same) goes
+
+Goes-to : (a b c : Next) (xs : List ℕ) → b ≡ c → Goes a xs b → Goes a xs c
+Goes-to a b c xs same goes = subst (Goes a xs) same goes
+
+-- a number that its field accepts
+Goes-number : (next : Next) (x : ℕ) (new : Next) → x < 256 ^ width next → ((at : ℕ) → after_field at next x ≡ Ok new) → Goes next (big_bytes (width next) x) new
+Goes-number next x new fits accepts = record {
+  way = λ at.
+      let long : length (big_bytes (width next) x) ≡ width next = length-bytes_high_first (width next) x in
+      let back : big_number (length (big_bytes (width next) x)) (big_bytes (width next) x) ≡ x =
+      ap (λ k. big_number k (big_bytes (width next) x)) long ∙ ap (big_number (width next)) (sym (append-nil (big_bytes (width next) x))) ∙ big_number-reads_back (width next) x [] fits in (
+        at + length (big_bytes (width next) x),
+        fed-field next at (big_bytes (width next) x) long
+            ∙ ap (λ y. after_field at next y >>= λ n. Ok (record { next = n; held = []; at = at + length (big_bytes (width next) x) })) back
+            ∙ ap (λ r. r >>= λ n. Ok (record { next = n; held = []; at = at + length (big_bytes (width next) x) })) (accepts at),
+      );
+}
+
+-- ---- the order
+
+new_in_ranking : (front left : List ℕ) (v : ℕ) → IsRanking (front ++ v ∷ left) → is_new_node (record { n = length (front ++ v ∷ left); order = front }) v ≡ true
+new_in_ranking front left v ranking =
+    let at = front ++ v ∷ left in
+    let here : get_or (front ++ v ∷ left) (length front) 0 ≡ v = get_or-append_seam front v left 0 in
+    let inside : length front < length (front ++ v ∷ left) = omega (arith, length-append front (v ∷ left)) in
+    let node : (1 ≤ v) × (v ≤ length (front ++ v ∷ left)) = subst (λ x. (1 ≤ x) × (x ≤ length (front ++ v ∷ left))) here (ranking.node (length front) 0 inside) in
+    let before : take (length front) (front ++ v ∷ left) ≡ front = take_at front (v ∷ left) (length front) refl in
+    let new : list_any (nat_eq v) front ≡ false = false_from_ne_true (list_any (nat_eq v) front) (λ seen. repeated (front ++ v ∷ left) (length front) inside (subst (λ x. list_any (eqb x) (take (length front) (front ++ v ∷ left)) ≡ true) (sym here) (subst (λ xs. list_any (eqb v) xs ≡ true) (sym before) seen)) ranking.once) in
+    and_from (leb 1 v) (leb v (length (front ++ v ∷ left)) && not (list_any (nat_eq v) front)) (le-leb 1 v node.0) (and_from (leb v (length (front ++ v ∷ left))) (not (list_any (nat_eq v) front)) (le-leb v _ node.1) (not_from_false (list_any (nat_eq v) front) new))
+
+Goes-node : (n v : ℕ) (front : List ℕ) → length front < n → v < 2 ^ 32 → is_new_node (record { n = n; order = front }) v ≡ true → Goes (after_node (record { n = n; order = front })) (word v) (after_node (record { n = n; order = front ++ v ∷ [] }))
+Goes-node n v front more fits new =
+    let next : after_node (record { n = n; order = front }) ≡ Node (record { n = n; order = front }) = rw (ne_eqb (length front) n (λ same. omega arith)) refl in
+    Goes-from _ _ _ (word v) next (Goes-number (Node (record { n = n; order = front })) v (after_node (record { n = n; order = front ++ v ∷ [] })) fits (λ at. rw new refl))
+
+Goes-names : (front left : List ℕ) (n : ℕ) → n ≤ 2 ^ 30 → length (front ++ left) ≡ n → IsRanking (front ++ left) → Goes (after_node (record { n = n; order = front })) (flat_map word left) (after_row (record { order = front ++ left; rows = [] }))
+Goes-names front [] n small size ranking =
+    let all : front ++ [] ≡ front = append-nil front in
+    Goes-none (after_node (record { n = n; order = front })) (after_row (record { order = front ++ []; rows = [] })) (rw (eq-eqb (length front) n (ap length (sym all) ∙ size), all) refl)
+Goes-names front (v ∷ left) n small size ranking =
+    let regroup : (front ++ v ∷ []) ++ left ≡ front ++ v ∷ left = append_assoc front (v ∷ []) left in
+    let new : is_new_node (record { n = n; order = front }) v ≡ true = subst (λ k. is_new_node (record { n = k; order = front }) v ≡ true) size (new_in_ranking front left v ranking) in
+    let node : (1 ≤ get_or (front ++ v ∷ left) (length front) 0) × (get_or (front ++ v ∷ left) (length front) 0 ≤ length (front ++ v ∷ left)) = ranking.node (length front) 0 (omega (arith, length-append front (v ∷ left))) in
+    let fits : v < 2 ^ 32 = omega (arith, node.1, get_or-append_seam front v left 0) in
+    let one = Goes-node n v front (omega (arith, length-append front (v ∷ left))) fits new in
+    let rest = Goes-names (front ++ v ∷ []) left n small (ap length regroup ∙ size) (subst IsRanking (sym regroup) ranking) in
+    let rest_to = subst (λ at. Goes (after_node (record { n = n; order = front ++ v ∷ [] })) (flat_map word left) (after_row (record { order = at; rows = [] }))) regroup rest in
+    Goes-then _ _ _ (word v) (flat_map word left) one rest_to
+
+-- ---- one row
+
+last_entry : (done : HubIndex) (count : ℕ) (front : List Entry) → least_after front ≤ next_own done → length front + 1 ≡ count → next_own done < 2 ^ 32 →
+    Goes (Position done (record { count = count; entries = front })) (entry_bytes (own_entry done.order (next_node done))) (after_row (with_row done (front ++ own_entry done.order (next_node done) ∷ [])))
+last_entry done count front above last fits =
+    let part : Part = record { count = count; entries = front } in
+    let own = next_own done in
+    let is : eqb (length front + 1) count ≡ true = eq-eqb _ _ last in
+    let position : is_next_position (next_own done) (record { count = count; entries = front }) (next_own done) ≡ true = rw (le-leb (least_after front) (next_own done) above, is) (eq-eqb (next_own done) (next_own done) refl) in
+    let whole : eqb (length (front ++ own_entry done.order (next_node done) ∷ [])) count ≡ true = eq-eqb _ _ (length-append front (own_entry done.order (next_node done) ∷ []) ∙ last) in
+    Goes-then _ _ _ (word (next_own done)) (big_bytes 8 0)
+    (Goes-number (Position done (record { count = count; entries = front })) (next_own done) (Distance done (record { count = count; entries = front }) (next_own done)) fits (λ at. rw position refl))
+    (Goes-number (Distance done (record { count = count; entries = front }) (next_own done)) 0 (after_row (with_row done (front ++ own_entry done.order (next_node done) ∷ []))) (omega arith) (λ at. rw (is, whole) refl))
+
+other_entry : (done : HubIndex) (count : ℕ) (front : List Entry) (e : Entry) → least_after front ≤ e.pos → e.pos < next_own done → (1 ≤ e.dist) × (e.dist < 2 ^ 62) → length front + 1 < count → next_own done < 2 ^ 32 →
+    Goes (Position done (record { count = count; entries = front })) (entry_bytes e) (Position done (record { count = count; entries = front ++ e ∷ [] }))
+other_entry done count front e above below far more fits =
+    let is : eqb (length front + 1) count ≡ false = ne_eqb _ _ (λ same. omega arith) in
+    let position : is_next_position (next_own done) (record { count = count; entries = front }) e.pos ≡ true = rw (le-leb (least_after front) e.pos above, is) (lt-ltb e.pos (next_own done) below) in
+    let distance : is_next_distance (record { count = count; entries = front }) e.dist ≡ true = rw is (and_from (leb 1 e.dist) (ltb e.dist (2 ^ 62)) (le-leb 1 e.dist far.0) (lt-ltb e.dist (2 ^ 62) far.1)) in
+    let not_whole : eqb (length (front ++ e ∷ [])) count ≡ false = ne_eqb _ _ (λ same. omega (arith, length-append front (e ∷ []))) in
+    Goes-then _ _ _ (word e.pos) (big_bytes 8 e.dist)
+    (Goes-number (Position done (record { count = count; entries = front })) e.pos (Distance done (record { count = count; entries = front }) e.pos) (omega arith) (λ at. rw position refl))
+    (Goes-number (Distance done (record { count = count; entries = front }) e.pos) e.dist (Position done (record { count = count; entries = front ++ e ∷ [] })) (omega (arith, far.1)) (λ at. rw (distance, not_whole) refl))
+
+Goes-entries : (done : HubIndex) (count : ℕ) (front left : List Entry) → Rises pos_of (front ++ (left ++ own_entry done.order (next_node done) ∷ [])) → All (λ e. (1 ≤ e.dist) × (e.dist < 2 ^ 62)) left → length (front ++ (left ++ own_entry done.order (next_node done) ∷ [])) ≡ count → next_own done < 2 ^ 32 →
+    Goes (Position done (record { count = count; entries = front })) (flat_map entry_bytes (left ++ own_entry done.order (next_node done) ∷ [])) (after_row (with_row done (front ++ (left ++ own_entry done.order (next_node done) ∷ []))))
+Goes-entries done count front [] up far size fits =
+    subst (λ bytes. Goes (Position done (record { count = count; entries = front })) bytes (after_row (with_row done (front ++ own_entry done.order (next_node done) ∷ [])))) (sym (append-nil (entry_bytes (own_entry done.order (next_node done)))))
+    (last_entry done count front (least_after-front front (own_entry done.order (next_node done)) [] up) (sym (length-append front (own_entry done.order (next_node done) ∷ [])) ∙ size) fits)
+Goes-entries done count front (e ∷ left) up far size fits =
+    let own = own_entry done.order (next_node done) in
+    let regroup : (front ++ e ∷ []) ++ (left ++ own_entry done.order (next_node done) ∷ []) ≡ front ++ (e ∷ (left ++ own_entry done.order (next_node done) ∷ [])) = append_assoc front (e ∷ []) (left ++ own_entry done.order (next_node done) ∷ []) in
+    let above = least_after-front front e (left ++ own_entry done.order (next_node done) ∷ []) up in
+    let below = below_behind front e left (own_entry done.order (next_node done)) up in
+    let long = length-append front (e ∷ (left ++ own_entry done.order (next_node done) ∷ [])) in
+    let longer = length-append left (own_entry done.order (next_node done) ∷ []) in
+    let one = other_entry done count front e above below (far 0 e (omega arith)) (omega (arith, long, longer, size)) fits in
+    let rest = Goes-entries done count (front ++ e ∷ []) left (subst (Rises pos_of) (sym regroup) up) (λ k d within. far (suc k) d (omega arith)) (ap length regroup ∙ size) fits in
+    Goes-then _ _ _ (entry_bytes e) (flat_map entry_bytes (left ++ own_entry done.order (next_node done) ∷ [])) one
+    (subst (λ row. Goes (Position done (record { count = count; entries = front ++ e ∷ [] })) (flat_map entry_bytes (left ++ own_entry done.order (next_node done) ∷ [])) (after_row (with_row done row))) regroup rest)
+
+-- ---- all rows
+
+Goes-row : (done : HubIndex) (row : List Entry) → IsWellFormedRow done.order (next_node done) row → length done.rows < length done.order → length row < 2 ^ 32 → next_own done < 2 ^ 32 → Goes (after_row done) (row_bytes row) (after_row (with_row done row))
+Goes-row done row is more few fits =
+    let own = own_entry done.order (next_node done) in
+    let up : Rises pos_of row = AllPairs-from_increasing (map pos_of row) is.rising in
+    let ends : row ≡ is.others ++ own_entry done.order (next_node done) ∷ [] = is.ends in
+    let long = ap length ends in
+    let next : after_row done ≡ Count done = rw (ne_eqb (length done.rows) (length done.order) (λ same. omega arith)) refl in
+    let some : eqb (length row) 0 ≡ false = ne_eqb _ _ (λ none. omega (arith, long, length-append is.others (own_entry done.order (next_node done) ∷ []))) in
+    let entries = Goes-entries done (length row) [] is.others (subst (Rises pos_of) ends up) is.far (sym long) fits in
+    let entries_of_row = subst (λ r. Goes (Position done (record { count = length row; entries = [] })) (flat_map entry_bytes r) (after_row (with_row done r))) (sym ends) entries in
+    Goes-from _ _ _ (row_bytes row) next (Goes-then _ _ _ (word (length row)) (flat_map entry_bytes row) (Goes-number (Count done) (length row) (Position done (record { count = length row; entries = [] })) few (λ at. rw some refl)) entries_of_row)
+
+Goes-rows : (order : List ℕ) (front left : List (List Entry)) → IsWellFormed order (front ++ left) → Goes (after_row (record { order = order; rows = front })) (flat_map row_bytes left) (after_row (record { order = order; rows = front ++ left }))
+Goes-rows order front [] is = Goes-none _ _ (ap (λ rows. after_row (record { order = order; rows = rows })) (sym (append-nil front)))
+Goes-rows order front (row ∷ left) is =
+    let done : HubIndex = record { order = order; rows = front } in
+    let v : ℕ = length front + 1 in
+    let more : length front < length order = omega (arith, is.size, length-append front (row ∷ left)) in
+    let place : length front + 1 - 1 ≡ length front = omega arith in
+    let here : label_row (front ++ row ∷ left) (length front + 1) ≡ row = ap (λ i. get_or (front ++ row ∷ left) i []) place ∙ get_or-append_seam front row left [] in
+    let well_formed : IsWellFormedRow order (length front + 1) row = subst (IsWellFormedRow order (length front + 1)) here (is.row (length front + 1) (omega arith) (omega arith)) in
+    let own : position_of order (length front + 1) < length order = position-lt order (length front + 1) is.ranking (omega arith) (omega arith) in
+    let one = Goes-row (record { order = order; rows = front }) row well_formed more (omega (arith, length-well_formed order (length front + 1) row well_formed, own, is.small)) (omega (arith, own, is.small)) in
+    let regroup : (front ++ row ∷ []) ++ left ≡ front ++ row ∷ left = append_assoc front (row ∷ []) left in
+    let rest = Goes-rows order (front ++ row ∷ []) left (subst (IsWellFormed order) (sym regroup) is) in
+    Goes-then _ _ _ (row_bytes row) (flat_map row_bytes left) one (subst (λ rows. Goes (after_row (record { order = order; rows = front ++ row ∷ [] })) (flat_map row_bytes left) (after_row (record { order = order; rows = rows }))) regroup rest)
+
+-- ---- the whole file
+
+Goes-all : (at : List ℕ) (rows : List (List Entry)) → IsWellFormed at rows → Goes Size (word (length at) ++ (flat_map word at ++ flat_map row_bytes rows)) (End (record { order = at; rows = rows }))
+Goes-all at rows is =
+    let end : after_row (record { order = at; rows = rows }) ≡ End (record { order = at; rows = rows }) = rw (eq-eqb (length rows) (length at) is.size) refl in
+    let size = Goes-number Size (length at) (after_node (record { n = length at; order = [] })) (omega (arith, is.small)) (λ offset. rw (le-leb (length at) (2 ^ 30) is.small) refl) in
+    let names = Goes-names [] at (length at) is.small refl is.ranking in
+    let all_rows = Goes-to _ _ _ (flat_map row_bytes rows) end (Goes-rows at [] rows is) in
+    Goes-then _ _ _ (word (length at)) (flat_map word at ++ flat_map row_bytes rows) size (Goes-then _ _ _ (flat_map word at) (flat_map row_bytes rows) names all_rows)
+
+-- the layout is read as the index
+pub index_of-layout : (at : List ℕ) (rows : List (List Entry)) → IsWellFormed at rows → index_of (index_bytes at rows) ≡ Ok (record { order = at; rows = rows })
+index_of-layout at rows is = let all = (Goes-all at rows is).way 8 in ap end_of all.1
+
+-- ---- and only the layout
+
+ends_there : (size : ℕ) (next : Next) (done : HubIndex) → end_of_fields size next ≡ Ok done → next ≡ End done
+ends_there size Letter done is = absurd cc
+ends_there size Version done is = absurd cc
+ends_there size Size done is = absurd cc
+ends_there size (Node names) done is = absurd cc
+ends_there size (Count rows) done is = absurd cc
+ends_there size (Position rows part) done is = absurd cc
+ends_there size (Distance rows part pos) done is = absurd cc
+ends_there size (End rows) done is = ap End (ok_is rows done is)
+
+IsWellFormed-rows : (done : HubIndex) → AreRows done → length done.rows ≡ length done.order → IsWellFormed done.order done.rows
+IsWellFormed-rows done are whole = record {
+  ranking = are.ranking;
+  small = are.small;
+  size = whole;
+  row = λ v from_one within. are.row v from_one (omega arith);
+}
+
+nothing_held : (held : List ℕ) → length held < 1 → held ≡ []
+nothing_held [] short = refl
+nothing_held (b ∷ held) short = absurd (omega arith)
+
+end_of_bytes : (bytes : List ℕ) (p : Reached) (done : HubIndex) → Leads start bytes p → p.next ≡ End done → IsWellFormed done.order done.rows × (bytes ≡ index_bytes done.order done.rows)
+end_of_bytes bytes p done leads end =
+    let fields : IsSoundNext p.at (End done) = subst (IsSoundNext p.at) end leads.sound.fields in
+    let short : length p.held < width (End done) = subst (λ next. length p.held < width next) end leads.sound.held in
+    let none : p.held ≡ [] = nothing_held p.held short in
+    let before : bytes_before p.at p.next ≡ index_bytes done.order done.rows = ap (bytes_before p.at) end in
+    let all : bytes_before p.at p.next ++ p.held ≡ bytes = leads.bytes_are in
+    (IsWellFormed-rows done fields.0 fields.1, sym all ∙ ap (λ t. t ++ p.held) before ∙ ap (λ t. index_bytes done.order done.rows ++ t) none ∙ append-nil (index_bytes done.order done.rows))
+
+pub layout-index_of : (bytes : List ℕ) (done : HubIndex) → All (λ b. b < 256) bytes → index_of bytes ≡ Ok done → IsWellFormed done.order done.rows × (bytes ≡ index_bytes done.order done.rows)
+layout-index_of bytes done small is = go (fed (Ok start) bytes) refl is
+  where
+    go : (r : Result Reached IndexFault) → fed (Ok start) bytes ≡ r → end_of r ≡ Ok done → IsWellFormed done.order done.rows × (bytes ≡ index_bytes done.order done.rows)
+    go (Ok p) led ends = end_of_bytes bytes p done (Leads-bytes bytes start p IsSound-start no_bytes small led) (ends_there (p.at + length p.held) p.next done ends)
+    go (Err e) led ends = absurd cc

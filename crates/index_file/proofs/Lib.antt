@@ -1,0 +1,10 @@
+mod RepeatedNodes
+pub mod Fields
+pub mod Rising
+pub mod SoundFields
+pub mod SoundBytes
+pub mod Sizes
+pub mod Layouts
+pub mod Steps
+pub mod PutBehind
+pub mod Pieces

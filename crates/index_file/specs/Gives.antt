@@ -1,0 +1,30 @@
+-- What the code answers where the judgement is as defined.
+use Rattle.std.specs.Prelude.{◌≡◌, ◌⊎◌, ℕ, List, [], ◌++◌, Result, Ok, Err}
+use Rattle.index_file.specs.declared.fault.IndexFault.{IndexFault}
+use Rattle.index_file.specs.declared.fault.IndexFault.TheVariants.{NoMemory}
+use Rattle.hub_index.specs.HubIndex.{HubIndex}
+use Rattle.index_file.specs.declared.next.Next.TheVariants.{Node, Position}
+use Rattle.index_file.specs.Parts.{Names, Part}
+use Rattle.index_file.specs.Judging.{Reached, fed}
+
+-- the answer is as defined, or there was no memory for it
+abbrev pub Gives : {X : Type 0} → Result X IndexFault → Result X IndexFault → Type 0
+Gives (Ok x) defined = defined ≡ Ok x
+Gives (Err e) defined = (e ≡ NoMemory) ⊎ (defined ≡ Err e)
+
+-- at a node of the order, and at a position of a row
+abbrev pub at_node : Names → ℕ → Reached
+at_node names at = record { next = Node names; held = []; at = at }
+
+abbrev pub at_position : HubIndex → Part → ℕ → Reached
+at_position done part at = record { next = Position done part; held = []; at = at }
+
+-- some bytes were taken from the front of these, and led so far; the others are left
+pub record Takes (old : Reached) (bytes : List ℕ) (new : Reached) (left : List ℕ) : Type 0 where
+  pub taken : List ℕ
+  pub parts : bytes ≡ taken ++ left
+  pub leads : fed (Ok old) taken ≡ Ok new
+
+-- why bytes may be refused: no memory, or their first fault
+abbrev pub Refuses : Reached → List ℕ → IndexFault → Type 0
+Refuses old bytes e = (e ≡ NoMemory) ⊎ (fed (Ok old) bytes ≡ Err e)

@@ -1,0 +1,7 @@
+pub mod Layout
+pub mod Parts
+pub mod Judging
+pub mod Sound
+pub mod Gives
+pub mod Cutting
+pub mod Laws

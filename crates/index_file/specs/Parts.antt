@@ -1,0 +1,62 @@
+-- What has been read of an index that isn't whole yet, and what may stand in its next field.
+use Rattle.std.specs.Prelude.{ℕ, ◌+◌, ◌^◌, ◌==◌, nat_eq, nat_lt, nat_le, Bool, not, ◌&&◌, List, [], ◌∷◌, ◌++◌, length, max, if◌then◌else◌}
+use Rattle.std.specs.List.{list_any}
+use Rattle.walk_laws.specs.declared.entry.Entry.{Entry}
+use Rattle.walk_laws.specs.Ranking.{position_of}
+use Rattle.hub_index.specs.HubIndex.{HubIndex}
+
+-- ---- the order
+
+-- of so many nodes these are named, highest rank first
+pub record Names : Type 0 where
+  pub n : ℕ
+  pub order : List ℕ
+
+-- one node more
+abbrev pub with_node : Names → ℕ → Names
+with_node names v = record { n = names.n; order = names.order ++ v ∷ [] }
+
+-- a node of 1..n that wasn't named before
+abbrev pub is_new_node : Names → ℕ → Bool
+is_new_node names v = nat_le 1 v && (nat_le v names.n && not (list_any (nat_eq v) names.order))
+
+-- ---- the rows
+
+-- one row more
+abbrev pub with_row : HubIndex → List Entry → HubIndex
+with_row done row = record { order = done.order; rows = done.rows ++ row ∷ [] }
+
+-- the node whose row comes behind those that are done, and its position
+abbrev pub next_node : HubIndex → ℕ
+next_node done = length done.rows + 1
+
+abbrev pub next_own : HubIndex → ℕ
+next_own done = position_of done.order (next_node done)
+
+-- ---- one row
+
+-- of so many entries of a row these are read
+pub record Part : Type 0 where
+  pub count : ℕ
+  pub entries : List Entry
+
+-- one entry more
+abbrev pub with_entry : Part → Entry → Part
+with_entry part e = record { count = part.count; entries = part.entries ++ e ∷ [] }
+
+-- the next entry of the row is its last one
+abbrev pub is_last : Part → Bool
+is_last part = length part.entries + 1 == part.count
+
+-- the least position above those of the entries
+abbrev pub least_after : List Entry → ℕ
+least_after [] = 0
+least_after (e ∷ entries) = max (e.pos + 1) (least_after entries)
+
+-- a position above the previous ones, and at the last place the node's own, elsewhere below that
+abbrev pub is_next_position : ℕ → Part → ℕ → Bool
+is_next_position own part pos = nat_le (least_after part.entries) pos && (if is_last part then pos == own else nat_lt pos own)
+
+-- at the last place 0, elsewhere 1..2^62-1
+abbrev pub is_next_distance : Part → ℕ → Bool
+is_next_distance part dist = if is_last part then dist == 0 else (nat_le 1 dist && nat_lt dist (2 ^ 62))

@@ -1,0 +1,190 @@
+ghost use Rattle.std.specs.Prelude.{◌≡◌, ℕ, ◌^◌, ◌<◌, ◌≤◌, true, length, Ok, IfOk};
+ghost use Rattle.byteorder.specs.Endian.{big_number};
+ghost use Rattle.index_file.specs.Judging.{width, after_field, after_node, after_row, after_entry};
+ghost use Rattle.index_file.specs.Parts.{next_own, is_next_position, least_after, with_entry};
+ghost use Rattle.index_file.specs.Gives.{Gives};
+ghost use Rattle.index_file.specs.Sound.{IsSoundNext, AreNames, AreRows, AreReading};
+ghost use Rattle.index_file.specs.declared.next.Next.TheVariants.{Letter, Version, Size, Node, Count, Position, Distance};
+
+use crate::done::Done;
+use crate::fault::IndexFault;
+use crate::naming::Naming;
+use crate::next::Next;
+use crate::part_row::PartRow;
+use byteorder::{BigEndian, ByteOrder};
+use std::alloc::{AllocError, Global};
+use walk_laws::Entry;
+
+/// The first bytes of an index file.
+pub const LETTERS: [u8; 7] = *b"CHLABEL";
+
+/// The version of the format.
+pub const VERSION: u8 = 1;
+
+/// The most nodes of an index, 2^30.
+pub const MAX_NODES: u32 = 1073741824;
+
+/// How many bytes the next field has.
+pub fn width(next: &Next) -> usize
+    ensures { result ≡ width next.now }
+{
+    match next {
+        Next::Letter | Next::Version | Next::End(_) => 1,
+        Next::Size | Next::Node(_) | Next::Count(_) | Next::Position(_, _) => 4,
+        Next::Distance(_, _, _) => 8,
+    }
+}
+
+/// What the whole field, which begins at the offset `at`, makes of the fields before it.
+pub fn judge(alloc: Global, at: u64, next: Next, field: &[u8]) -> Result<Next, IndexFault>
+    requires sound { IsSoundNext at next }
+    requires whole { length field.now ≡ width next }
+    ensures { Gives result (after_field at next (big_number (length field.now) field.now)) }
+{
+    let x = BigEndian::read_uint(field, field.len());
+    after_number(alloc, at, next, x)
+}
+
+/// The same, by the number `x` that the field holds.
+fn after_number(alloc: Global, at: u64, next: Next, x: u64) -> Result<Next, IndexFault>
+    requires sound { IsSoundNext at next }
+    requires fits { x < 256 ^ width next }
+    ensures { Gives result (after_field at next x) }
+{
+    match next {
+        Next::Letter => after_letter(at, x as u8),
+        Next::Version => after_version(x as u8),
+        Next::Size => after_size(alloc, x as u32),
+        Next::Node(names) => after_name(alloc, names, x as u32),
+        Next::Count(done) => after_count(alloc, done, x as u32),
+        Next::Position(done, part) => after_position(done, part, x as u32),
+        Next::Distance(done, part, pos) => after_distance(done, part, pos, x),
+        Next::End(_) => Err(IndexFault::Long { at }),
+    }
+}
+
+fn after_letter(at: u64, byte: u8) -> Result<Next, IndexFault>
+    requires { at < 7 }
+    ensures { Gives result (after_field at Letter byte) }
+{
+    if byte != LETTERS[at as usize] {
+        return Err(IndexFault::Magic { at });
+    }
+    if at == 6 {
+        Ok(Next::Version)
+    } else {
+        Ok(Next::Letter)
+    }
+}
+
+fn after_version(byte: u8) -> Result<Next, IndexFault>
+    ensures { Gives result (after_field 7 Version byte) }
+{
+    if byte == VERSION {
+        Ok(Next::Size)
+    } else {
+        Err(IndexFault::Version { byte })
+    }
+}
+
+fn after_size(alloc: Global, n: u32) -> Result<Next, IndexFault>
+    ensures { Gives result (after_field 8 Size n) }
+{
+    if n > MAX_NODES {
+        return Err(IndexFault::Size { n });
+    }
+    after_names(alloc, Naming::new(alloc, n))
+}
+
+fn after_name(alloc: Global, names: Naming, v: u32) -> Result<Next, IndexFault>
+    requires names { AreNames names }
+    requires more { length names.order < names.n }
+    ensures { Gives result (after_field 0 (Node names) v) }
+{
+    let place = names.len() as u32;
+    match names.with(v) {
+        Ok(Some(names)) => after_names(alloc, names),
+        Ok(None) => Err(IndexFault::Order { place }),
+        Err(AllocError) => Err(IndexFault::NoMemory),
+    }
+}
+
+/// Behind the last node of the order come the rows.
+fn after_names(alloc: Global, names: Naming) -> Result<Next, IndexFault>
+    requires { AreNames names }
+    ensures { Gives result (Ok (after_node names)) }
+{
+    if names.len() < names.n() as usize {
+        return Ok(Next::Node(names));
+    }
+    match Done::new(alloc, names.into_order()) {
+        Ok(done) => Ok(after_rows(done)),
+        Err(AllocError) => Err(IndexFault::NoMemory),
+    }
+}
+
+/// Behind the last row comes the end.
+fn after_rows(done: Done) -> Next
+    ensures { result ≡ after_row done }
+{
+    if done.is_whole() {
+        Next::End(done)
+    } else {
+        Next::Count(done)
+    }
+}
+
+fn after_count(alloc: Global, done: Done, count: u32) -> Result<Next, IndexFault>
+    requires rows { AreRows done }
+    requires more { length done.rows < length done.order }
+    ensures { Gives result (after_field 0 (Count done) count) }
+{
+    if count == 0 {
+        let v = done.node();
+        return Err(IndexFault::Row { v, place: 0 });
+    }
+    Ok(Next::Position(done, PartRow::new(alloc, count)))
+}
+
+fn after_position(done: Done, part: PartRow, pos: u32) -> Result<Next, IndexFault>
+    requires { AreReading done part }
+    ensures { Gives result (after_field 0 (Position done part) pos) }
+{
+    if part.is_next_position(done.own(), pos) {
+        return Ok(Next::Distance(done, part, pos));
+    }
+    Err(IndexFault::Row {
+        v: done.node(),
+        place: part.len() as u32,
+    })
+}
+
+fn after_distance(done: Done, part: PartRow, pos: u32, dist: u64) -> Result<Next, IndexFault>
+    requires reading { AreReading done part }
+    requires position { is_next_position (next_own done) part pos ≡ true }
+    ensures { Gives result (after_field 0 (Distance done part pos) dist) }
+{
+    if !part.is_next_distance(dist) {
+        return Err(IndexFault::Distance {
+            v: done.node(),
+            place: part.len() as u32,
+        });
+    }
+    match after_entry(done, part, Entry { pos, dist }) {
+        Ok(next) => Ok(next),
+        Err(AllocError) => Err(IndexFault::NoMemory),
+    }
+}
+
+/// Behind the last entry the row is done.
+fn after_entry(done: Done, mut part: PartRow, entry: Entry) -> Result<Next, AllocError>
+    requires above { least_after part.entries ≤ entry.pos }
+    requires more { length part.entries < part.count }
+    ensures { IfOk result (λ next. next ≡ after_entry done (with_entry part entry)) }
+{
+    part.push(entry)?;
+    if part.len() < part.count() as usize {
+        return Ok(Next::Position(done, part));
+    }
+    Ok(after_rows(done.with(part.into_entries())?))
+}

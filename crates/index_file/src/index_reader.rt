@@ -1,0 +1,103 @@
+ghost use Rattle.std.specs.Prelude.{◌≡◌, ℕ, List, Err, IfOk};
+ghost use Rattle.index_file.specs.declared.fault.IndexFault.{IndexFault};
+ghost use Rattle.index_file.specs.Judging.{fed, fault_within, index_of};
+ghost use Rattle.index_file.specs.Gives.{Gives};
+
+use crate::fault::IndexFault;
+use crate::progress::Progress;
+use desk_io::{Feed, Reader};
+use hub_index::Index;
+use std::alloc::{AllocError, Global};
+use std::marker::Model;
+use std::mem;
+
+/// Reads an index file in any pieces. It is refused at the first field that is wrong, and then for good.
+#[derive(Debug, Drop)]
+pub struct IndexReader {
+    alloc: Global,
+    state: Result<Progress, IndexFault>,
+}
+
+impl Model for IndexReader {
+    ghost use Rattle.std.specs.Prelude.{Result};
+    ghost use Rattle.index_file.specs.declared.fault.IndexFault.{IndexFault};
+    ghost use Rattle.index_file.specs.Judging.{Reached};
+
+    ghost Value = { Result Reached IndexFault };
+
+    ghost view = { λ r. r.state };
+}
+
+impl IndexReader {
+    ghost use Rattle.index_file.specs.Judging.{fault_after, index_after};
+
+    /// A reader before any byte.
+    pub fn new(alloc: Global) -> Result<IndexReader, AllocError>
+        ensures refused { IfOk result (λ r. (bytes : List ℕ) → fault_after r bytes ≡ fault_within bytes) }
+        ensures comes_to { IfOk result (λ r. (bytes : List ℕ) → index_after r bytes ≡ index_of bytes) }
+    {
+        Ok(IndexReader {
+            alloc,
+            state: Ok(Progress::new(alloc)),
+        })
+    }
+}
+
+impl Feed for IndexReader {
+    ghost use Rattle.desk_io.specs.Reader.{TakesPiece};
+    ghost use Rattle.index_file.specs.Judging.{fault_after, index_after};
+    ghost use Rattle.index_file.specs.declared.fault.IndexFault.TheVariants.{NoMemory};
+
+    type Fault = IndexFault;
+
+    ghost feed_gives = { TakesPiece fault_after index_after NoMemory };
+
+    fn feed(&mut self, piece: &[u8]) -> Result<(), IndexFault> {
+        let state = mem::replace(&mut self.state, Err(IndexFault::NoMemory));
+        self.state = behind(self.alloc, state, piece);
+        match &self.state {
+            Ok(_) => Ok(()),
+            Err(fault) => Err(*fault),
+        }
+    }
+}
+
+/// Where a reading stands behind the piece; one that was refused stays so.
+fn behind(
+    alloc: Global,
+    state: Result<Progress, IndexFault>,
+    piece: &[u8],
+) -> Result<Progress, IndexFault>
+    ensures gives { Gives result (fed state piece.now) }
+    ensures same { (before : IndexFault) → state ≡ Err before → result ≡ Err before }
+{
+    match state {
+        Ok(progress) => progress.feed(alloc, piece),
+        Err(fault) => Err(fault),
+    }
+}
+
+impl Reader for IndexReader {
+    ghost use Rattle.index_file.specs.Judging.{fault_after, index_after};
+    ghost use Rattle.index_file.specs.declared.fault.IndexFault.TheVariants.{NoMemory};
+    ghost use Rattle.index_file.specs.Cutting.{faults_last};
+
+    type Value = Index;
+
+    ghost no_memory = { NoMemory };
+
+    ghost refused = { fault_after };
+
+    ghost comes_to = { index_after };
+
+    fn finish(self) -> Result<Index, IndexFault> {
+        match self.state {
+            Ok(progress) => progress.finish(),
+            Err(fault) => Err(fault),
+        }
+    }
+
+    ghost pieces = { λ old new piece answer takes. takes };
+
+    ghost lasts = { faults_last };
+}

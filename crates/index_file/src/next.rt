@@ -1,0 +1,24 @@
+use crate::done::Done;
+use crate::naming::Naming;
+use crate::part_row::PartRow;
+
+/// Which field is the next one, with what the fields before it came to.
+#[derive(Debug, Drop)]
+pub enum Next {
+    /// One of the seven letters.
+    Letter,
+    /// The version.
+    Version,
+    /// The number of nodes.
+    Size,
+    /// A node of the order.
+    Node(Naming),
+    /// The number of entries of the row behind those that are done.
+    Count(Done),
+    /// The position of the entry behind those of this row.
+    Position(Done, PartRow),
+    /// The distance of the entry that has this position.
+    Distance(Done, PartRow, u32),
+    /// The end of the index; there is no field more.
+    End(Done),
+}

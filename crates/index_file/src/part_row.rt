@@ -1,0 +1,112 @@
+ghost use Rattle.std.specs.Prelude.{◌≡◌, ℕ, ◌≤◌, [], length, OnOk};
+ghost use Rattle.index_file.specs.Parts.{Part, least_after, is_last, is_next_position, is_next_distance, with_entry};
+
+use std::alloc::{AllocError, Global};
+use std::marker::Model;
+use walk_laws::Entry;
+
+/// The greatest distance of an entry, 2^62-1.
+pub const MAX_DISTANCE: u64 = 4611686018427387903;
+
+/// The entries of a row that isn't whole yet.
+#[derive(Debug, Drop)]
+pub struct PartRow {
+    count: u32,
+    /// The least position above those of the entries.
+    least: u64,
+    entries: Vec<Entry>,
+}
+
+impl Model for PartRow {
+    ghost use Rattle.std.specs.Prelude.{◌≡◌};
+    ghost use Rattle.index_file.specs.Parts.{Part, least_after};
+
+    ghost Value = { Part };
+
+    ghost view = { λ p. record { count = p.count; entries = p.entries.items } };
+
+    ghost invariant = { λ p. p.least ≡ least_after p.entries.items };
+}
+
+impl PartRow {
+    /// A row of which so many entries are to come.
+    pub fn new(alloc: Global, count: u32) -> PartRow
+        ensures { result ≡ record { count = count; entries = [] } }
+    {
+        PartRow {
+            count,
+            least: 0,
+            entries: Vec::new(alloc),
+        }
+    }
+
+    /// How many entries the row is to have.
+    pub fn count(&self) -> u32
+        ensures { result ≡ self.now.count }
+    {
+        self.count
+    }
+
+    /// How many it has.
+    pub fn len(&self) -> usize
+        ensures { result ≡ length self.now.entries }
+    {
+        self.entries.len()
+    }
+
+    /// Whether the next entry is the last one.
+    pub fn is_last(&self) -> bool
+        ensures { result ≡ is_last self.now }
+    {
+        self.entries.len() + 1 == self.count as usize
+    }
+
+    /// Whether the position may be the next one in the row of the node at the position `own`.
+    pub fn is_next_position(&self, own: u32, pos: u32) -> bool
+        ensures { result ≡ is_next_position own self.now pos }
+    {
+        if u64::from(pos) < self.least {
+            return false;
+        }
+        if self.is_last() {
+            pos == own
+        } else {
+            pos < own
+        }
+    }
+
+    /// Whether the distance may be the next one.
+    pub fn is_next_distance(&self, dist: u64) -> bool
+        ensures { result ≡ is_next_distance self.now dist }
+    {
+        if self.is_last() {
+            dist == 0
+        } else {
+            dist >= 1 && dist <= MAX_DISTANCE
+        }
+    }
+
+    /// Makes room for so many entries more.
+    pub fn reserve(&mut self, more: usize) -> Result<(), AllocError>
+        ensures { self.new ≡ self.old }
+    {
+        self.entries.reserve(more)
+    }
+
+    /// Puts the entry last; its position is above those before it.
+    pub fn push(&mut self, entry: Entry) -> Result<(), AllocError>
+        requires { least_after self.old.entries ≤ entry.pos }
+        ensures ok { OnOk result (self.new ≡ with_entry self.old entry) }
+    {
+        self.entries.push(entry)?;
+        self.least = u64::from(entry.pos) + 1;
+        Ok(())
+    }
+
+    /// The entries.
+    pub fn into_entries(self) -> Vec<Entry>
+        ensures { result.items ≡ self.entries }
+    {
+        self.entries
+    }
+}

@@ -1,0 +1,249 @@
+ghost use Rattle.std.specs.Prelude.{◌≡◌, ℕ, ◌+◌, ◌<◌, false, [], ◌∷◌, length, Ok, IfOk, OnOk, IfErr};
+ghost use Rattle.index_file.specs.Parts.{next_own, is_last};
+ghost use Rattle.index_file.specs.Judging.{start, width, fed, end_of};
+ghost use Rattle.index_file.specs.Gives.{Gives, Takes, Refuses, at_node, at_position};
+ghost use Rattle.index_file.specs.Sound.{AreReading, IsSound};
+
+use crate::done::Done;
+use crate::fault::IndexFault;
+use crate::field::{judge, width};
+use crate::naming::Naming;
+use crate::next::Next;
+use crate::part_row::PartRow;
+use byteorder::{BigEndian, ByteOrder};
+use hub_index::Index;
+use std::alloc::{AllocError, Global};
+use std::marker::Model;
+use walk_laws::Entry;
+
+/// How far a reading has come: what the whole fields came to, the bytes of the field that isn't whole, and the offset at
+/// which that field begins.
+#[derive(Debug, Drop)]
+pub struct Progress {
+    next: Next,
+    held: Vec<u8>,
+    at: u64,
+}
+
+impl Model for Progress {
+    ghost use Rattle.index_file.specs.Judging.{Reached};
+    ghost use Rattle.index_file.specs.Sound.{IsSound};
+
+    ghost Value = { Reached };
+
+    ghost view = { λ p. record { next = p.next; held = p.held.items; at = p.at } };
+
+    ghost invariant = { λ p. IsSound (record { next = p.next; held = p.held.items; at = p.at }) };
+}
+
+impl Progress {
+    /// Before any byte.
+    pub fn new(alloc: Global) -> Progress
+        ensures { result ≡ start }
+    {
+        Progress {
+            next: Next::Letter,
+            held: Vec::new(alloc),
+            at: 0,
+        }
+    }
+
+    /// Behind the bytes of the piece, or their first fault.
+    pub fn feed(self, alloc: Global, piece: &[u8]) -> Result<Progress, IndexFault>
+        ensures { Gives result (fed (Ok self) piece.now) }
+    {
+        let mut progress = self;
+        let mut rest = piece;
+        while !rest.is_empty() {
+            let (stepped, left) = progress.step(alloc, rest)?;
+            let (moved, left) = stepped.run(left)?;
+            progress = moved;
+            rest = left;
+        }
+        Ok(progress)
+    }
+
+    /// Takes the next field, or a byte of it where the piece doesn't hold it whole.
+    fn step<'a>(self, alloc: Global, rest: &'a [u8]) -> Result<(Progress, &'a [u8]), IndexFault>
+        requires { 0 < length rest.now }
+        ensures taken { IfOk result (λ r. Takes self rest.now r.0 r.1.now) }
+        ensures less { IfOk result (λ r. length r.1.now < length rest.now) }
+        ensures refused { IfErr result (Refuses self rest.now) }
+    {
+        let Progress { next, held, at } = self;
+        let size = width(&next);
+        if held.is_empty() && size <= rest.len() {
+            let (field, left) = rest.split_at(size);
+            let progress = whole(alloc, next, held, at, field)?;
+            return Ok((progress, left));
+        }
+        let (byte, left) = rest.split_at(1);
+        let progress = gather(alloc, next, held, at, byte[0])?;
+        Ok((progress, left))
+    }
+
+    /// Takes at once the nodes of the order, or the entries of the row, that the bytes hold whole, but for the last one.
+    fn run<'a>(self, rest: &'a [u8]) -> Result<(Progress, &'a [u8]), IndexFault>
+        ensures taken { IfOk result (λ r. Takes self rest.now r.0 r.1.now) }
+        ensures refused { IfErr result (Refuses self rest.now) }
+    {
+        let Progress { next, held, at } = self;
+        if !held.is_empty() {
+            return Ok((Progress { next, held, at }, rest));
+        }
+        match next {
+            Next::Node(names) => {
+                let (names, at, left) = take_names(names, at, rest)?;
+                let next = Next::Node(names);
+                Ok((Progress { next, held, at }, left))
+            }
+            Next::Position(done, part) => {
+                let (part, at, left) = take_entries(&done, part, at, rest)?;
+                let next = Next::Position(done, part);
+                Ok((Progress { next, held, at }, left))
+            }
+            next => Ok((Progress { next, held, at }, rest)),
+        }
+    }
+
+    /// The index, where the bytes end here.
+    pub fn finish(self) -> Result<Index, IndexFault>
+        ensures { result ≡ end_of (Ok self) }
+    {
+        let Progress { next, held, at } = self;
+        match next {
+            Next::End(done) => Ok(done.into_index()),
+            _ => Err(IndexFault::Short {
+                at: at + held.len() as u64,
+            }),
+        }
+    }
+}
+
+/// Behind a field that the piece holds whole.
+fn whole(
+    alloc: Global,
+    next: Next,
+    held: Vec<u8>,
+    at: u64,
+    field: &[u8],
+) -> Result<Progress, IndexFault>
+    requires sound { IsSound (record { next = next; held = held.items; at = at }) }
+    requires none { held.items ≡ [] }
+    requires whole { length field.now ≡ width next }
+    ensures { Gives result (fed (Ok (record { next = next; held = []; at = at })) field.now) }
+{
+    let next = judge(alloc, at, next, field)?;
+    Ok(Progress {
+        next,
+        held,
+        at: at + field.len() as u64,
+    })
+}
+
+/// Behind one byte of a field, which may make it whole.
+fn gather(
+    alloc: Global,
+    next: Next,
+    mut held: Vec<u8>,
+    at: u64,
+    byte: u8,
+) -> Result<Progress, IndexFault>
+    requires { IsSound (record { next = next; held = held.items; at = at }) }
+    ensures { Gives result (fed (Ok (record { next = next; held = held.items; at = at })) (byte ∷ [])) }
+{
+    if held.push(byte).is_err() {
+        return Err(IndexFault::NoMemory);
+    }
+    if held.len() < width(&next) {
+        return Ok(Progress { next, held, at });
+    }
+    let next = judge(alloc, at, next, &held)?;
+    let at = at + held.len() as u64;
+    held.clear();
+    Ok(Progress { next, held, at })
+}
+
+/// The nodes of the order that the bytes hold whole, but for the last one of all.
+fn take_names<'a>(
+    mut names: Naming,
+    mut at: u64,
+    bytes: &'a [u8],
+) -> Result<(Naming, u64, &'a [u8]), IndexFault>
+    requires { IsSound (at_node names at) }
+    ensures sound { IfOk result (λ r. IsSound (at_node r.0 r.1)) }
+    ensures taken { IfOk result (λ r. Takes (at_node names at) bytes.now (at_node r.0 r.1) r.2.now) }
+    ensures refused { IfErr result (Refuses (at_node names at) bytes.now) }
+{
+    let mut rest = bytes;
+    while rest.len() >= 4 && names.len() + 1 < names.n() as usize {
+        let place = names.len() as u32;
+        let (field, left) = rest.split_at(4);
+        names = match names.with(BigEndian::read_u32(field)) {
+            Ok(Some(names)) => names,
+            Ok(None) => return Err(IndexFault::Order { place }),
+            Err(AllocError) => return Err(IndexFault::NoMemory),
+        };
+        at += 4;
+        rest = left;
+    }
+    Ok((names, at, rest))
+}
+
+/// The entries of the row that the bytes hold whole, but for the last one of the row.
+fn take_entries<'a>(
+    done: &Done,
+    mut part: PartRow,
+    mut at: u64,
+    bytes: &'a [u8],
+) -> Result<(PartRow, u64, &'a [u8]), IndexFault>
+    requires { IsSound (at_position done.now part at) }
+    ensures sound { IfOk result (λ r. IsSound (at_position done.now r.0 r.1)) }
+    ensures taken { IfOk result (λ r. Takes (at_position done.now part at) bytes.now (at_position done.now r.0 r.1) r.2.now) }
+    ensures refused { IfErr result (Refuses (at_position done.now part at) bytes.now) }
+{
+    let own = done.own();
+    let mut rest = bytes;
+    let more = part.count() as usize - part.len();
+    if part.reserve(more.min(bytes.len() / 12)).is_err() {
+        return Err(IndexFault::NoMemory);
+    }
+    while rest.len() >= 12 && !part.is_last() {
+        let (field, left) = rest.split_at(12);
+        take_entry(done, own, &mut part, field)?;
+        at += 12;
+        rest = left;
+    }
+    Ok((part, at, rest))
+}
+
+/// Takes the next entry of a row, which isn't its last one, of its twelve bytes.
+fn take_entry(done: &Done, own: u32, part: &mut PartRow, field: &[u8]) -> Result<(), IndexFault>
+    requires reading { AreReading done.now part.old }
+    requires own { own ≡ next_own done.now }
+    requires more { is_last part.old ≡ false }
+    requires whole { length field.now ≡ 12 }
+    ensures taken { OnOk result ((at : ℕ) → fed (Ok (at_position done.now part.old at)) field.now ≡ Ok (at_position done.now part.new (at + 12))) }
+    ensures refused { IfErr result (λ e. (at : ℕ) → Refuses (at_position done.now part.old at) field.now e) }
+{
+    let entry = Entry {
+        pos: BigEndian::read_u32(field),
+        dist: BigEndian::read_u64(&field[4..]),
+    };
+    if !part.is_next_position(own, entry.pos) {
+        return Err(IndexFault::Row {
+            v: done.node(),
+            place: part.len() as u32,
+        });
+    }
+    if !part.is_next_distance(entry.dist) {
+        return Err(IndexFault::Distance {
+            v: done.node(),
+            place: part.len() as u32,
+        });
+    }
+    if part.push(entry).is_err() {
+        return Err(IndexFault::NoMemory);
+    }
+    Ok(())
+}

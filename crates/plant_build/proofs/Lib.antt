@@ -1,0 +1,2 @@
+pub mod PlantedRows
+pub mod TestOrders

@@ -1,0 +1,12 @@
+pub mod PlantedExactly
+pub mod SortedNames
+pub mod TreeEnds
+pub mod TreeFacts
+pub mod TreeLabels
+pub mod TreeRelax
+pub mod TreeRounds
+pub mod TreeSettle
+pub mod TreeSize
+pub mod TreeSteps
+pub mod TreeTypes
+pub mod TreeWanted

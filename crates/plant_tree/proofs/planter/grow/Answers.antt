@@ -1,0 +1,192 @@
+use Rattle.std.proofs.Common.{◌≡◌, ◌≢◌, ℕ, ◌+◌, ◌-◌, ◌<◌, ◌≤◌, List, drop, min, replicate, length, get_or, refl, sym, ap, subst, ◌∙◌, arith}
+use Rattle.std.proofs.Math.ListN.{set, length-set}
+use Rattle.std.specs.Prelude.{◌↔◌, Some, Contains, slice_get}
+use Rattle.walk_laws.specs.declared.graph.Arc.{Arc}
+use Rattle.walk_laws.specs.Canonical.{IsCanonical}
+use Rattle.walk_laws.specs.Graph.{greatest_weight}
+use Rattle.walk_laws.specs.Joined.{Joined}
+use Rattle.walk_laws.specs.Ranking.{position_of}
+use Rattle.frontier.specs.declared.reach.Reach.TheVariants.{Unreached, Queued, Settled}
+use Rattle.plant_tree.specs.Planted.{NamesEachOnce}
+use Rattle.plant_tree.specs.Wanted.{wants, wanted}
+use Rattle.plant_tree.proofs.PlantedExactly.{AreLabels, planted_exactly, labels_of_nodes, round_of_tree}
+use Rattle.plant_tree.proofs.TreeEnds.{Starts, starts, first_tree}
+use Rattle.plant_tree.proofs.TreeFacts.{IsTree, reach_of}
+use Rattle.plant_tree.proofs.TreeLabels.{labels-start, labels_kept, labels_more, once_more}
+use Rattle.plant_tree.proofs.TreeSize.{unsettled, unsettled-le, length-relaxed, IsSized-start, IsSized-round, unsettled-settled, IsArc, arcs_of_row, room_of_next, node_of_queued, fits_64, none_found, nothing_found}
+use Rattle.plant_tree.proofs.TreeSteps.{higher, offered, relaxed, relaxed_all, relaxed_all-next, relaxed_all-end}
+use Rattle.frontier.specs.Reaches as frontier
+use Rattle.plant_tree.proofs.TreeTypes.{Found, Reach}
+use Rattle.plant_tree.proofs.TreeWanted.{wants_one, wanted-le, wanted-relaxed, wanted-settled, wanted-start, none_wanted}
+use Rattle.plant_tree.proofs.planter.grow.Goals as goal
+use Rattle.plant_tree.proofs.planter.grow.Goals.{After-new-planted, At-loop-wanted, In-loop-arc, In_ok-offer-2, After-wants-wanted-in-loop-arc-2, After-loop-arc}
+
+-- the frontier as it is at first: the root alone is queued
+record AtFirst (n root p : ℕ) (nodes : List Reach) : Type 0 where
+  pub empty : List Reach
+  pub none : empty ≡ replicate (n + 1) none_found
+  pub now : nodes ≡ set empty root (Queued (record { dist = 0; carried = record { position = p } }))
+
+at_first : (c : After-new-planted) → AtFirst c.args.graph.now.n c.at.result c.args.p c.offer.new.self
+at_first c =
+    let none : c.clear.new.self ≡ replicate (c.args.graph.now.n + 1) none_found = c.clear.ensures ∙ ap (λ k. replicate k none_found) c.requires.nodes in
+    let untouched : reach_of c.clear.new.self c.at.result ≡ Unreached = ap (λ ns. reach_of ns c.at.result) none ∙ nothing_found (c.args.graph.now.n + 1) c.at.result in
+    record {
+      empty = c.clear.new.self;
+      none = none;
+      now = c.in_ok-offer.ensures.ok ∙ ap (λ r. set c.clear.new.self c.at.result (offered r (record { dist = 0; carried = record { position = c.args.p } }))) untouched;
+    }
+
+pub loop-wanted-init : goal.loop-wanted-init
+loop-wanted-init c =
+    let first = at_first c in
+    let n = c.args.graph.now.n in
+    let heaviest = greatest_weight c.args.graph.now.edges in
+    let root = c.at.result in
+    let node : c.at.result ≤ c.args.graph.now.n = omega (arith, c.at.ensures.within, c.requires.ranked) in
+    let sized = IsSized-start c.args.graph.now.n (greatest_weight c.args.graph.now.edges) c.at.result c.args.p first.empty first.none c.at.ensures.node node in
+    rw first.now (record {
+      sized = sized;
+      tree = λ h is.
+          let same : c.at.result ≡ h = let both : Some c.at.result ≡ Some h = sym c.at.ensures.value ∙ is in cc in
+          let start : Starts c.at.result c.args.p (set first.empty c.at.result (Queued (record { dist = 0; carried = record { position = c.args.p } }))) =
+          starts c.args.graph.now.n c.at.result c.args.p first.empty first.none node in
+          let P : ℕ → Type 0 = λ r. IsTree (Joined c.args.graph.now.edges) (Joined c.args.graph.now.edges) c.args.ranking.now r (set first.empty c.at.result (Queued (record { dist = 0; carried = record { position = c.args.p } }))) in
+          let Q : ℕ → Type 0 = λ q. Starts c.at.result q (set first.empty c.at.result (Queued (record { dist = 0; carried = record { position = c.args.p } }))) in
+          subst P same (first_tree (Joined c.args.graph.now.edges) c.args.ranking.now c.at.result _ (subst Q (sym c.at.ensures.inverse) start));
+      count = sym (wanted-start c.args.graph.now.n c.at.result c.args.p first.empty first.none node);
+      settled = omega (arith, unsettled-le (set first.empty c.at.result (Queued (record { dist = 0; carried = record { position = c.args.p } }))), sized.size);
+      labels = subst (AreLabels c.args.p (set first.empty c.at.result (Queued (record { dist = 0; carried = record { position = c.args.p } })))) (sym c.new-planted.ensures.items) (labels-start c.args.graph.now.n c.at.result c.args.p first.empty first.none node);
+      once = subst NamesEachOnce (sym c.new-planted.ensures.items) (λ i j d lt within. absurd (omega (arith, within)));
+    })
+
+-- what holds where no queued node carries the root
+exact : (c : At-loop-wanted) → ((x : ℕ) (f : Found) → reach_of c.loop-wanted.frontier x ≡ Queued f → f.carried.position ≢ c.args.p) → (h v d : ℕ) → slice_get c.args.ranking.now c.args.p ≡ Some h → Contains c.loop-wanted.planted.items (v, d) ↔ IsCanonical (Joined c.args.graph.now.edges) c.args.ranking.now h v d
+exact c done h v d root =
+    let position : position_of c.args.ranking.now h ≡ c.args.p = let both : Some c.at.result ≡ Some h = sym c.at.ensures.value ∙ root in let one : c.at.result ≡ h = cc in ap (position_of c.args.ranking.now) (sym one) ∙ c.at.ensures.inverse in
+    planted_exactly c.args.graph.now.n c.args.graph.now.edges c.args.ranking.now h c.args.p v d c.loop-wanted.frontier c.loop-wanted.planted.items c.requires.graph position (c.loop-wanted.invariant.tree h root) done c.loop-wanted.invariant.labels
+
+pub returns-in_default-clause-nodes : goal.returns-in_default-clause-nodes
+returns-in_default-clause-nodes c =
+    labels_of_nodes c.args.graph.now.n c.args.p c.loop-wanted.frontier c.loop-wanted.planted.items c.loop-wanted.invariant.sized.size c.loop-wanted.invariant.sized.no_node c.loop-wanted.invariant.labels
+
+pub returns-in_default-clause-each : goal.returns-in_default-clause-each
+returns-in_default-clause-each c = λ h v d root.
+    exact (goal.at.returns-in_default-clause-each c).At-loop-wanted (λ x f queued _. c.in_default.ensures.none x f queued) h v d root
+
+pub returns-clause-nodes : goal.returns-clause-nodes
+returns-clause-nodes c =
+    labels_of_nodes c.args.graph.now.n c.args.p c.loop-wanted.frontier c.loop-wanted.planted.items c.loop-wanted.invariant.sized.size c.loop-wanted.invariant.sized.no_node c.loop-wanted.invariant.labels
+
+pub returns-clause-each : goal.returns-clause-each
+returns-clause-each c = λ h v d root.
+    exact (goal.at.returns-clause-each c).At-loop-wanted (none_wanted c.args.p c.loop-wanted.frontier (omega (arith, c.loop-wanted-test.false, c.loop-wanted.invariant.count))) h v d root
+
+pub overflow_add-settled : goal.overflow_add-settled
+overflow_add-settled c = omega (arith, c.loop-wanted.invariant.settled, c.requires.graph.small, unsettled-settled c.loop-wanted.frontier c.in-Some.v c.in-Some.found c.in-Some.ensures.queued)
+
+-- the arc that the round has come to, and its end
+arc_of : (c : In-loop-arc) → IsArc c.args.graph.now.n (greatest_weight c.args.graph.now.edges) (get_or c.arcs-arc-items.result.now c.loop-arc.arc-index (record { to = 0; w = 0 }))
+arc_of c = arcs_of_row c.args.graph.now.n c.args.graph.now.edges c.in-Some.v c.arcs-arc-items.result.now c.requires.graph c.arcs-arc-items.ensures.joined c.loop-arc.arc-index (record { to = 0; w = 0 }) c.loop-arc-test.true
+
+arc_inside : (c : In-loop-arc) → (get_or c.arcs-arc-items.result.now c.loop-arc.arc-index (record { to = 0; w = 0 })).to < length c.loop-arc.frontier
+arc_inside c = omega (arith, (arc_of c).up_to_n, c.loop-arc.invariant.size)
+
+pub pos-requires-clause-node : goal.pos-requires-clause-node
+pos-requires-clause-node c = (arc_of (goal.at.pos-requires-clause-node c).In-loop-arc).from_one
+
+pub pos-requires-clause-within : goal.pos-requires-clause-within
+pos-requires-clause-within c = omega (arith, (arc_of (goal.at.pos-requires-clause-within c).In-loop-arc).up_to_n, c.requires.ranked)
+
+pub reach-requires : goal.reach-requires
+reach-requires c = arc_inside (goal.at.reach-requires c).In-loop-arc
+
+pub overflow_add-found : goal.overflow_add-found
+overflow_add-found c =
+    let queued = c.in-Some.ensures.queued in
+    let node = node_of_queued _ _ _ _ c.in-Some.v c.in-Some.found c.loop-wanted.invariant.sized queued in
+    let room = room_of_next _ _ _ _ c.in-Some.v c.in-Some.found c.loop-wanted.invariant.sized queued in
+    let fits = fits_64 c.args.graph.now.n c.args.graph.now.edges c.in-Some.found.dist _ c.requires.graph (omega (arith, node)) room in
+    omega (arith, fits, (arc_of (goal.at.overflow_add-found c).In-loop-arc).light)
+
+pub offer-requires-in-loop-arc : goal.offer-requires-in-loop-arc
+offer-requires-in-loop-arc c = arc_inside (goal.at.offer-requires-in-loop-arc c).In-loop-arc
+
+-- the frontier after the offer along the arc
+relaxed_now : (c : In_ok-offer-2) → c.offer-in-loop-arc.new.self ≡ relaxed c.args.ranking.now c.in-Some.found (get_or c.arcs-arc-items.result.now c.loop-arc.arc-index (record { to = 0; w = 0 })) c.loop-arc.frontier
+relaxed_now c =
+    let a : Arc = get_or c.arcs-arc-items.result.now c.loop-arc.arc-index (record { to = 0; w = 0 }) in
+    let high : c.min.result ≡ min c.in-Some.found.carried.position (position_of c.args.ranking.now a.to) = c.min.ensures ∙ ap (min c.in-Some.found.carried.position) c.pos.ensures.value in
+    c.in_ok-offer-2.ensures.ok ∙ ap (λ m. frontier.with_offer higher c.loop-arc.frontier a.to (record { dist = c.in-Some.found.dist + a.w; carried = record { position = m } })) high
+
+length_now : (c : In_ok-offer-2) → length c.offer-in-loop-arc.new.self ≡ length c.loop-arc.frontier
+length_now c = ap length (relaxed_now c) ∙ length-relaxed c.args.ranking.now c.in-Some.found (get_or c.arcs-arc-items.result.now c.loop-arc.arc-index (record { to = 0; w = 0 })) c.loop-arc.frontier
+
+pub reach-requires-in-loop-arc : goal.reach-requires-in-loop-arc
+reach-requires-in-loop-arc c = omega (arith, length_now (goal.at.reach-requires-in-loop-arc c).In_ok-offer-2, arc_inside (goal.at.reach-requires-in-loop-arc c).In-loop-arc)
+
+-- the count is right again after the arc
+count_now : (c : After-wants-wanted-in-loop-arc-2) → let a : Arc = get_or c.arcs-arc-items.result.now c.loop-arc.arc-index (record { to = 0; w = 0 }) in
+    a.to < length c.loop-arc.frontier → c.offer-in-loop-arc.new.self ≡ relaxed c.args.ranking.now c.in-Some.found a c.loop-arc.frontier →
+    c.loop-arc.wanted - c.wants-wanted-in-loop-arc.result + c.wants-wanted-in-loop-arc-2.result ≡ wanted c.args.p c.offer-in-loop-arc.new.self
+count_now c inside now =
+    let a : Arc = get_or c.arcs-arc-items.result.now c.loop-arc.arc-index (record { to = 0; w = 0 }) in
+    let change = wanted-relaxed c.args.p c.args.ranking.now c.in-Some.found a c.loop-arc.frontier inside in
+    let before : c.wants-wanted-in-loop-arc.result ≡ wants c.args.p (reach_of c.loop-arc.frontier a.to) = c.wants-wanted-in-loop-arc.ensures ∙ ap (wants c.args.p) c.reach.ensures in
+    let after : c.wants-wanted-in-loop-arc-2.result ≡ wants c.args.p (reach_of (relaxed c.args.ranking.now c.in-Some.found a c.loop-arc.frontier) a.to) =
+    c.wants-wanted-in-loop-arc-2.ensures ∙ ap (wants c.args.p) (c.reach-in-loop-arc.ensures ∙ ap (λ ns. reach_of ns a.to) now) in
+    omega (arith, change, before, after, c.loop-arc.invariant.count, ap (wanted c.args.p) now, wants_one c.args.p c.loop-arc.frontier a.to inside)
+
+pub overflow_add-wanted : goal.overflow_add-wanted
+overflow_add-wanted c =
+    let few = wanted-le c.args.p c.offer-in-loop-arc.new.self in
+    let count = count_now c (arc_inside (goal.at.overflow_add-wanted c).In-loop-arc) (relaxed_now (goal.at.overflow_add-wanted c).In_ok-offer-2) in
+    omega (arith, few, count, length_now (goal.at.overflow_add-wanted c).In_ok-offer-2, c.loop-arc.invariant.size, c.requires.graph.small)
+
+pub loop-arc-preserved : goal.loop-arc-preserved
+loop-arc-preserved c =
+    let now = relaxed_now (goal.at.loop-arc-preserved c).In_ok-offer-2 in
+    record {
+      size = length_now (goal.at.loop-arc-preserved c).In_ok-offer-2 ∙ c.loop-arc.invariant.size;
+      rest = ap (relaxed_all c.args.ranking.now c.in-Some.found (drop (c.loop-arc.arc-index + 1) c.arcs-arc-items.result.now)) now
+          ∙ sym (relaxed_all-next c.args.ranking.now c.in-Some.found c.arcs-arc-items.result.now c.loop-arc.arc-index (record { to = 0; w = 0 }) c.loop-arc.frontier c.loop-arc-test.true) ∙ c.loop-arc.invariant.rest;
+      count = count_now c (arc_inside (goal.at.loop-arc-preserved c).In-loop-arc) now;
+    }
+
+-- the frontier after the round
+round_now : (c : After-loop-arc) → c.loop-arc.frontier ≡ relaxed_all c.args.ranking.now c.in-Some.found c.arcs-arc-items.result.now (set c.loop-wanted.frontier c.in-Some.v (Settled c.in-Some.found))
+round_now c =
+    relaxed_all-end c.args.ranking.now c.in-Some.found c.arcs-arc-items.result.now c.loop-arc.arc-index c.loop-arc.frontier _ c.loop-arc-test.false c.loop-arc.invariant.rest
+    ∙ ap (relaxed_all c.args.ranking.now c.in-Some.found c.arcs-arc-items.result.now) c.in-Some.ensures.settles
+
+pub loop-wanted-smaller : goal.loop-wanted-smaller
+loop-wanted-smaller c =
+    let round = IsSized-round _ c.args.graph.now.edges c.args.ranking.now _ c.in-Some.v c.in-Some.found _ c.requires.graph c.loop-wanted.invariant.sized c.in-Some.ensures.queued c.arcs-arc-items.ensures.joined in
+    omega (arith, ap unsettled (round_now c), round.1)
+
+pub loop-wanted-preserved : goal.loop-wanted-preserved
+loop-wanted-preserved c =
+    let queued = c.in-Some.ensures.queued in
+    let n = c.args.graph.now.n in
+    let row = c.arcs-arc-items.result.now in
+    let settled_nodes = set c.loop-wanted.frontier c.in-Some.v (Settled c.in-Some.found) in
+    let round = IsSized-round _ c.args.graph.now.edges c.args.ranking.now _ c.in-Some.v c.in-Some.found _ c.requires.graph c.loop-wanted.invariant.sized queued c.arcs-arc-items.ensures.joined in
+    let arcs = arcs_of_row c.args.graph.now.n c.args.graph.now.edges c.in-Some.v c.arcs-arc-items.result.now c.requires.graph c.arcs-arc-items.ensures.joined in
+    record {
+      sized = rw (round_now c) round.0;
+      tree = λ h is. rw (round_now c) (round_of_tree c.args.graph.now.n c.args.graph.now.edges c.args.ranking.now h c.in-Some.v c.in-Some.found c.arcs-arc-items.result.now c.loop-wanted.frontier
+          c.requires.graph c.loop-wanted.invariant.sized.size (c.loop-wanted.invariant.tree h is) queued c.in-Some.ensures.nearest c.arcs-arc-items.ensures.joined);
+      count = c.loop-arc.invariant.count;
+      settled = omega (arith, ap unsettled (round_now c), round.1, c.loop-wanted.invariant.settled);
+      labels = subst (AreLabels c.args.p c.loop-arc.frontier) (sym c.in_ok-label.ensures) (rw (round_now c) (labels_kept c.args.p c.args.ranking.now c.in-Some.found c.arcs-arc-items.result.now (set c.loop-wanted.frontier c.in-Some.v (Settled c.in-Some.found)) _
+          (λ k d lt. omega (arith, (arcs k d lt).up_to_n, length-set c.loop-wanted.frontier c.in-Some.v (Settled c.in-Some.found), c.loop-wanted.invariant.sized.size))
+          (labels_more c.args.p c.loop-wanted.frontier c.loop-wanted.planted.items c.in-Some.v c.in-Some.found c.loop-wanted.invariant.labels queued)));
+      once = subst NamesEachOnce (sym c.in_ok-label.ensures) (once_more c.args.p c.loop-wanted.frontier c.loop-wanted.planted.items c.in-Some.v c.in-Some.found c.loop-wanted.invariant.labels queued c.loop-wanted.invariant.once);
+    }
+
+pub loop-arc-init : goal.loop-arc-init
+loop-arc-init c = record {
+  size = ap length c.in-Some.ensures.settles ∙ length-set c.loop-wanted.frontier c.in-Some.v (Settled c.in-Some.found) ∙ c.loop-wanted.invariant.sized.size;
+  rest = refl;
+  count = omega (arith, c.wants-wanted.ensures, wanted-settled c.args.p c.loop-wanted.frontier c.in-Some.v c.in-Some.found c.in-Some.ensures.queued, c.loop-wanted.invariant.count, ap (wanted c.args.p) c.in-Some.ensures.settles);
+}

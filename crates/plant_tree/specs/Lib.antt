@@ -1,0 +1,2 @@
+pub mod Planted
+pub mod Wanted

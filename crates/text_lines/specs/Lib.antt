@@ -1,0 +1,5 @@
+pub mod Words
+pub mod Judgement
+pub mod TextReading
+pub mod JudgedLines
+pub mod ReadingLaws
