@@ -1,3 +1,4 @@
+pub mod Places
 pub mod Reaches
 pub mod TurnOf
 pub mod Turns

@@ -1,5 +1,5 @@
 -- How far a search has come with its nodes, and what an offer and a take change.
-use Rattle.std.specs.Prelude.{ℕ, ◌==◌, List, nat_lt, slice_index_or, slice_set, if◌then◌else◌}
+use Rattle.std.specs.Prelude.{ℕ, ◌==◌, Bool, true, false, List, nat_lt, slice_index_or, slice_set, nat_le, if◌then◌else◌}
 use Rattle.frontier.specs.declared.reach.Found.{Found}
 use Rattle.frontier.specs.declared.reach.Reach.{Reach}
 use Rattle.frontier.specs.declared.reach.Reach.TheVariants.{Unreached, Queued, Settled}
@@ -7,6 +7,12 @@ use Rattle.frontier.specs.declared.reach.Reach.TheVariants.{Unreached, Queued, S
 -- how far the search has come with the node x; a number that is no node is not reached
 abbrev pub reach_at : {C : Type 0} → List (Reach C) → ℕ → Reach C
 reach_at reaches x = slice_index_or reaches x Unreached
+
+-- whether an offer at this distance can change what is known of a node
+abbrev pub heeds : {C : Type 0} → Reach C → ℕ → Bool
+heeds Unreached dist = true
+heeds (Queued found) dist = nat_le dist found.dist
+heeds (Settled found) dist = false
 
 -- the shorter of two finds; of two that are as long, what they carry is combined
 abbrev pub better : {C : Type 0} → (C → C → C) → Found C → Found C → Found C

@@ -1,9 +1,10 @@
 ghost use Rattle.std.specs.Prelude.{◌≡◌, ◌≢◌, ℕ, ◌+◌, ◌<◌, ◌≤◌, length, replicate, IfOk, OnOk, OnErr, IfSome, IfNone};
-ghost use Rattle.frontier.specs.Reaches.{reach_at, with_offer, settled};
+ghost use Rattle.frontier.specs.Reaches.{reach_at, heeds, with_offer, settled};
 ghost use Rattle.frontier.specs.declared.reach.Found.{Found};
 ghost use Rattle.frontier.specs.declared.reach.Reach.TheVariants.{Unreached, Queued};
 
 use crate::carry::Carry;
+use crate::places::Places;
 use crate::reach::{Found, Reach};
 use crate::turn::Turn;
 use std::alloc::{AllocError, Global};
@@ -13,7 +14,7 @@ use std::marker::Model;
 /// The nodes 0..n of a search, each with what it has come to with it. Contracts see the list of these.
 #[derive(Debug, Drop)]
 pub struct Frontier<C> {
-    reaches: Vec<Reach<C>>,
+    reaches: Places<C>,
     /// Each queued node has a turn at its distance; turns that a lower offer or a take left behind may stand there, too.
     turns: BinaryHeap<Turn>,
     /// The nodes that are reached.
@@ -28,9 +29,9 @@ impl<C> Model for Frontier<C> {
 
     ghost Value = { List (Reach C) };
 
-    ghost view = { λ f. f.reaches.items };
+    ghost view = { λ f. f.reaches };
 
-    ghost invariant = { λ f. HasTurns f.reaches.items (heap_items f.turns) f.touched.items };
+    ghost invariant = { λ f. HasTurns f.reaches (heap_items f.turns) f.touched.items };
 }
 
 impl<C: Carry> Frontier<C> {
@@ -39,7 +40,7 @@ impl<C: Carry> Frontier<C> {
         ensures { IfOk result (λ f. f ≡ replicate (n + 1) Unreached) }
     {
         Ok(Frontier {
-            reaches: vec![in alloc; Reach::Unreached; n as usize + 1]?,
+            reaches: Places::new(alloc, n as usize + 1)?,
             turns: BinaryHeap::new(alloc),
             touched: Vec::new(alloc),
         })
@@ -50,7 +51,20 @@ impl<C: Carry> Frontier<C> {
         requires { node < length self.now }
         ensures { result ≡ reach_at self.now node }
     {
-        self.reaches[node as usize]
+        self.reaches.get(node)
+    }
+
+    /// Whether an offer to the node at this distance can change anything: not where the node is settled, or queued at a
+    /// shorter distance. What such an offer would carry need not be known.
+    pub fn heeds(&self, node: u32, dist: u64) -> bool
+        requires { node < length self.now }
+        ensures { result ≡ heeds (reach_at self.now node) dist }
+    {
+        match self.reaches.get(node) {
+            Reach::Unreached => true,
+            Reach::Queued(best) => dist <= best.dist,
+            Reach::Settled(_) => false,
+        }
     }
 
     /// Offers a node a distance, and something to carry. A node that wasn't reached is queued with them; a queued node
@@ -62,19 +76,20 @@ impl<C: Carry> Frontier<C> {
         ensures err { OnErr result (self.new ≡ self.old) }
     {
         let offer = Found { dist, carried };
-        match self.reaches[node as usize] {
+        match self.reaches.get(node) {
             Reach::Unreached => {
                 self.touched.push(node)?;
                 self.turns.push(Turn::of(node, dist))?;
-                self.reaches[node as usize] = Reach::Queued(offer);
+                self.reaches.set(node, Reach::Queued(offer));
             }
             Reach::Queued(best) if dist < best.dist => {
                 self.turns.push(Turn::of(node, dist))?;
-                self.reaches[node as usize] = Reach::Queued(offer);
+                self.reaches.set(node, Reach::Queued(offer));
             }
             Reach::Queued(best) if dist == best.dist => {
                 let carried = best.carried.combine(carried);
-                self.reaches[node as usize] = Reach::Queued(Found { dist, carried });
+                self.reaches
+                    .set(node, Reach::Queued(Found { dist, carried }));
             }
             _ => {}
         }
@@ -90,11 +105,11 @@ impl<C: Carry> Frontier<C> {
         ensures unchanged { IfNone result (self.new ≡ self.old) }
     {
         while let Some(turn) = self.turns.pop() {
-            let node = turn.node as usize;
-            if let Reach::Queued(found) = self.reaches[node] {
+            let node = turn.node;
+            if let Reach::Queued(found) = self.reaches.get(node) {
                 if found.dist == turn.dist.0 {
-                    self.reaches[node] = Reach::Settled(found);
-                    return Some((turn.node, found));
+                    self.reaches.set(node, Reach::Settled(found));
+                    return Some((node, found));
                 }
             }
         }
@@ -106,7 +121,7 @@ impl<C: Carry> Frontier<C> {
         ensures { self.new ≡ replicate (length self.old) Unreached }
     {
         while let Some(node) = self.touched.pop() {
-            self.reaches[node as usize] = Reach::Unreached;
+            self.reaches.set(node, Reach::Unreached);
         }
         self.turns.clear();
     }

@@ -5,6 +5,7 @@ ghost use Rattle.hub_index.specs.WellFormed.{IsWellFormed};
 ghost use Rattle.plant_tree.specs.Planted.{AreOfNodes};
 ghost use Rattle.plant_build.specs.TreeEntries.{entries_of};
 
+use crate::batched_rows::BatchedRows;
 use desk_io::Gate;
 use hub_index::{Index, RowList};
 use plant_tree::Planter;
@@ -50,18 +51,18 @@ fn planted_rows<G: Gate>(
 {
     let n = graph.n();
     let mut planter = Planter::new(alloc, n)?;
-    let mut rows = RowList::new(alloc, n)?;
+    let mut rows = BatchedRows::new(alloc, n)?;
     for p in 0..ranking.n() {
         gate.begins(p);
         let (planted, _settled) = planter.plant(alloc, graph, ranking, p)?;
         add_tree(&mut rows, p, &planted)?;
         gate.ends(p, planted.len() as u32);
     }
-    Ok(rows)
+    rows.into_rows()
 }
 
 /// Puts the entries of the tree of the root at the position `p` at the ends of the rows of its nodes.
-fn add_tree(rows: &mut RowList, p: u32, planted: &[(u32, u64)]) -> Result<(), AllocError>
+fn add_tree(rows: &mut BatchedRows, p: u32, planted: &[(u32, u64)]) -> Result<(), AllocError>
     requires { AreOfNodes (length rows.old) planted.now }
     ensures size { OnOk result (length rows.new ≡ length rows.old) }
     ensures grows { OnOk result ((v : ℕ) → 1 ≤ v → v ≤ length rows.old

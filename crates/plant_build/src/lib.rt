@@ -4,6 +4,7 @@
 //! that watches a build), walk_laws and rank_table. Its callers' clauses use `IsChl` of walk_laws and `HubIndex` of hub_index.
 #![tactic(auto)]
 
+mod batched_rows;
 mod build;
 #[cfg(test)]
 mod tests;

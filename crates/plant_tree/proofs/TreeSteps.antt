@@ -1,14 +1,15 @@
 -- The steps of a shortest-path tree that carries the highest-ranked node on the shortest walks, as terms of lists.
 use Rattle.std.proofs.Common.{◌≡◌, ◌≢◌, inl, inr, ◌<◌, ◌≤◌, true, false, length, get_or, drop, refl, sym, ap, ◌∙◌, add-one, drop-cons, arith}
 use Rattle.std.specs.Prelude.{ℕ, ◌+◌, ◌==◌, List, [], ◌∷◌, nat_lt, min}
-use Rattle.std.proofs.Math.ListN.{drop_of_length-le}
-use Rattle.std.proofs.lemmas.Bool.{cases_eq, cases_lt, ltb-true, lt-ltb, eqb-true, eq-eqb}
+use Rattle.std.proofs.Math.ListN.{set, drop_of_length-le}
+use Rattle.std.proofs.lemmas.Bool.{cases_eq, cases_lt, ltb-true, lt-ltb, eqb-true, eq-eqb, leb-false}
+use Rattle.std.proofs.lemmas.List.{set-get_or}
 use Rattle.walk_laws.specs.declared.graph.Arc.{Arc}
 use Rattle.walk_laws.specs.Ranking.{position_of}
 use Rattle.frontier.specs.Reaches as frontier
 use Rattle.plant_tree.specs.declared.highest.Highest.{Highest}
 use Rattle.plant_tree.proofs.TreeTypes.{Found, Reach}
-use Rattle.frontier.specs.declared.reach.Reach.TheVariants.{Queued}
+use Rattle.frontier.specs.declared.reach.Reach.TheVariants.{Unreached, Queued, Settled}
 
 -- of two positions the smaller, which ranks higher
 abbrev pub higher : Highest → Highest → Highest
@@ -76,6 +77,16 @@ offered_longer q o more = elim (better_cases q o) [
   | as_long same _ ↦ absurd (omega arith)
   | longer _ is ↦ ap Queued is
 ]
+
+-- an offer that isn't heeded changes nothing
+pub offered_unheeded : (r : Reach) (o : Found) → frontier.heeds r o.dist ≡ false → offered r o ≡ r
+offered_unheeded Unreached o unheeded = absurd cc
+offered_unheeded (Queued q) o unheeded = offered_longer q o (leb-false o.dist q.dist unheeded)
+offered_unheeded (Settled s) o unheeded = refl
+
+pub relaxed_unheeded : (at : List ℕ) (found : Found) (a : Arc) (nodes : List Reach) → frontier.heeds (get_or nodes a.to Unreached) (found.dist + a.w) ≡ false → relaxed at found a nodes ≡ nodes
+relaxed_unheeded at found a nodes unheeded =
+    ap (set nodes a.to) (offered_unheeded (get_or nodes a.to Unreached) (offer_of at found a) unheeded) ∙ set-get_or nodes a.to Unreached
 
 -- the next arc of a row
 pub relaxed_all-next : (at : List ℕ) (found : Found) (row : List Arc) (i : ℕ) (d : Arc) (nodes : List Reach) → i < length row → relaxed_all at found (drop i row) nodes ≡ relaxed_all at found (drop (i + 1) row) (relaxed at found (get_or row i d) nodes)

@@ -102,11 +102,15 @@ fn grow(
         wanted -= wants(Reach::Queued(found), p);
         label(&mut planted, v, found, p)?;
         for arc in graph.arcs(v) {
+            let dist = found.dist + arc.w;
+            if !frontier.heeds(arc.to, dist) {
+                continue;
+            }
             let carried = Highest {
                 position: found.carried.position.min(ranking.pos(arc.to)),
             };
             wanted -= wants(frontier.reach(arc.to), p);
-            frontier.offer(arc.to, found.dist + arc.w, carried)?;
+            frontier.offer(arc.to, dist, carried)?;
             wanted += wants(frontier.reach(arc.to), p);
         }
     }

@@ -13,7 +13,7 @@ loop-v-preserved c =
     let pair = get_or c.args.planted.now i (0, 0) in
     let node = c.requires i (0, 0) c.loop-v-test.true in
     let entry : Entry = record { pos = c.args.p; dist = pair.1 } in
-    let pushed : c.push.new.self ≡ with_entry c.loop-v.rows pair.0 entry = c.in_ok-push.ensures.ok in
+    let pushed : c.push.new.self ≡ with_entry c.loop-v.rows pair.0 entry = c.in_ok-push.ensures in
     record {
       size = ap length pushed ∙ length-set c.loop-v.rows (pair.0 - 1) (label_row c.loop-v.rows pair.0 ++ entry ∷ []) ∙ c.loop-v.invariant.size;
       grows = λ v low high.

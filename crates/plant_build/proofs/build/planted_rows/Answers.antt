@@ -1,7 +1,10 @@
-use Rattle.std.proofs.Common.{List, get_or, rules, ◌≡◌, ℕ, ◌<◌, ◌++◌, length, sym, ◌∙◌, arith}
+use Rattle.std.proofs.Common.{List, get_or, rules, ◌≡◌, ℕ, ◌<◌, ◌++◌, length, sym, subst, ◌∙◌, arith}
 use Rattle.std.proofs.lemmas.Option.{slice_get-get_or}
+use Rattle.std.proofs.lemmas.Result.{IfOk-weaker}
+use Rattle.walk_laws.specs.declared.entry.Entry.{Entry}
 use Rattle.walk_laws.specs.Joined.{Joined}
-use Rattle.walk_laws.specs.Labelling.{label_row}
+use Rattle.walk_laws.specs.Labelling.{IsChl, label_row}
+use Rattle.hub_index.specs.WellFormed.{IsWellFormed}
 use Rattle.hub_index.proofs.CanonicalRows.{IsWellFormed-canonical}
 use Rattle.plant_build.specs.TreeEntries.{entries_of}
 use Rattle.plant_build.proofs.PlantedRows.{row_more, row_whole, count_of_nodes}
@@ -28,11 +31,15 @@ loop-p-preserved g c =
     }
 
 pub returns-clause-labelling : goal.returns-clause-labelling
-returns-clause-labelling g c = record {
-  size = c.loop-p.invariant.many ∙ sym c.requires;
-  row = λ v low high. row_whole (Joined c.args.graph.now.edges) c.args.ranking.now c.loop-p.p v (label_row c.loop-p.rows v) (search rules) (c.loop-p.invariant.row v low (omega (arith, c.requires)));
-}
+returns-clause-labelling g c =
+    let labelling : List (List Entry) → Type 0 = IsChl (Joined c.args.graph.now.edges) c.args.ranking.now in
+    let whole : labelling c.loop-p.rows = record {
+      size = c.loop-p.invariant.many ∙ sym c.requires;
+      row = λ v low high. row_whole (Joined c.args.graph.now.edges) c.args.ranking.now c.loop-p.p v (label_row c.loop-p.rows v) (search rules) (c.loop-p.invariant.row v low (omega (arith, c.requires)));
+    } in
+    IfOk-weaker c.into_rows.result (λ rows. rows ≡ c.loop-p.rows) labelling (λ rows is. subst labelling (sym is) whole) c.into_rows.ensures
 
 pub returns-clause-well_formed : goal.returns-clause-well_formed
 returns-clause-well_formed g c =
-    IsWellFormed-canonical c.args.graph.now.n c.args.graph.now.edges c.args.ranking.now c.n-n.ensures.graph c.n-p-end.ensures.ranking c.requires c.loop-p.rows (returns-clause-labelling g c)
+    IfOk-weaker c.into_rows.result (IsChl (Joined c.args.graph.now.edges) c.args.ranking.now) (IsWellFormed c.args.ranking.now)
+    (IsWellFormed-canonical c.args.graph.now.n c.args.graph.now.edges c.args.ranking.now c.n-n.ensures.graph c.n-p-end.ensures.ranking c.requires) (returns-clause-labelling g c)

@@ -14,7 +14,7 @@ use Rattle.plant_tree.proofs.TreeEnds.{Starts, starts, first_tree}
 use Rattle.plant_tree.proofs.TreeFacts.{IsTree, reach_of}
 use Rattle.plant_tree.proofs.TreeLabels.{labels-start, labels_kept, labels_more, once_more}
 use Rattle.plant_tree.proofs.TreeSize.{unsettled, unsettled-le, length-relaxed, IsSized-start, IsSized-round, unsettled-settled, IsArc, arcs_of_row, room_of_next, node_of_queued, fits_64, none_found, nothing_found}
-use Rattle.plant_tree.proofs.TreeSteps.{higher, offered, relaxed, relaxed_all, relaxed_all-next, relaxed_all-end}
+use Rattle.plant_tree.proofs.TreeSteps.{higher, offered, relaxed, relaxed_all, relaxed_unheeded, relaxed_all-next, relaxed_all-end}
 use Rattle.frontier.specs.Reaches as frontier
 use Rattle.plant_tree.proofs.TreeTypes.{Found, Reach}
 use Rattle.plant_tree.proofs.TreeWanted.{wants_one, wanted-le, wanted-relaxed, wanted-settled, wanted-start, none_wanted}
@@ -101,13 +101,27 @@ pos-requires-clause-within c = omega (arith, (arc_of (goal.at.pos-requires-claus
 pub reach-requires : goal.reach-requires
 reach-requires c = arc_inside (goal.at.reach-requires c).In-loop-arc
 
-pub overflow_add-found : goal.overflow_add-found
-overflow_add-found c =
+pub overflow_add-dist : goal.overflow_add-dist
+overflow_add-dist c =
     let queued = c.in-Some.ensures.queued in
     let node = node_of_queued _ _ _ _ c.in-Some.v c.in-Some.found c.loop-wanted.invariant.sized queued in
     let room = room_of_next _ _ _ _ c.in-Some.v c.in-Some.found c.loop-wanted.invariant.sized queued in
     let fits = fits_64 c.args.graph.now.n c.args.graph.now.edges c.in-Some.found.dist _ c.requires.graph (omega (arith, node)) room in
-    omega (arith, fits, (arc_of (goal.at.overflow_add-found c).In-loop-arc).light)
+    omega (arith, fits, (arc_of (goal.at.overflow_add-dist c).In-loop-arc).light)
+
+pub heeds-requires : goal.heeds-requires
+heeds-requires c = arc_inside (goal.at.heeds-requires c).In-loop-arc
+
+pub loop-arc-preserved-then-not-heeds : goal.loop-arc-preserved-then-not-heeds
+loop-arc-preserved-then-not-heeds c =
+    let a : Arc = get_or c.arcs-arc-items.result.now c.loop-arc.arc-index (record { to = 0; w = 0 }) in
+    let same : relaxed c.args.ranking.now c.in-Some.found a c.loop-arc.frontier ≡ c.loop-arc.frontier = relaxed_unheeded c.args.ranking.now c.in-Some.found a c.loop-arc.frontier (sym c.heeds.ensures ∙ c.if-not-heeds.true) in
+    record {
+      size = c.loop-arc.invariant.size;
+      rest = ap (relaxed_all c.args.ranking.now c.in-Some.found (drop (c.loop-arc.arc-index + 1) c.arcs-arc-items.result.now)) (sym same)
+          ∙ sym (relaxed_all-next c.args.ranking.now c.in-Some.found c.arcs-arc-items.result.now c.loop-arc.arc-index (record { to = 0; w = 0 }) c.loop-arc.frontier c.loop-arc-test.true) ∙ c.loop-arc.invariant.rest;
+      count = c.loop-arc.invariant.count;
+    }
 
 pub offer-requires-in-loop-arc : goal.offer-requires-in-loop-arc
 offer-requires-in-loop-arc c = arc_inside (goal.at.offer-requires-in-loop-arc c).In-loop-arc

@@ -6,9 +6,9 @@ use Rattle.frontier.proofs.frontier.Frontier.clear.Given as goal
 -- each node that is still reached is to come
 abbrev pub invariant-loop-node : goal.invariant-loop-node
 invariant-loop-node g l = record {
-  size : length l.self-inside.reaches.items ≡ length l.initial.self-inside.reaches.items;
-  reached : (x : ℕ) → reach_at l.self-inside.reaches.items x ≢ Unreached → Contains l.self-inside.touched.items x;
-  nodes : All (λ x. x < length l.self-inside.reaches.items) l.self-inside.touched.items;
+  size : length l.self-inside.reaches ≡ length l.initial.self-inside.reaches;
+  reached : (x : ℕ) → reach_at l.self-inside.reaches x ≢ Unreached → Contains l.self-inside.touched.items x;
+  nodes : All (λ x. x < length l.self-inside.reaches) l.self-inside.touched.items;
 }
 
 abbrev pub decreases-loop-node : goal.decreases-loop-node
