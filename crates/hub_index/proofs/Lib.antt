@@ -1,2 +1,7 @@
-pub mod RowItems
 pub mod CanonicalRows
+pub mod CoveredEntries
+pub mod NotedRows
+pub mod RowItems
+pub mod RowsGathered
+pub mod SquareEntries
+pub mod TouchedPositions

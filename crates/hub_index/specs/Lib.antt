@@ -1,3 +1,7 @@
 pub mod HubIndex
 pub mod WellFormed
 pub mod Laws
+pub mod RootDistances
+pub mod Touched
+pub mod Views
+pub mod PlainRows

@@ -1,0 +1,11 @@
+-- Which positions of a table have a distance.
+use Rattle.std.specs.Prelude.{◌≡◌, ◌≢◌, ◌↔◌, ℕ, ◌<◌, ◌≤◌, List, Option, None, All, AllPairs, Contains, length, take}
+use Rattle.hub_index.specs.RootDistances.{root_distance}
+
+-- the first `count` of the touched positions are those that have a distance, each once
+pub record HasTouched (table : List (Option ℕ)) (touched : List ℕ) (count : ℕ) : Type 0 where
+  pub room : length touched ≡ length table
+  pub few : count ≤ length touched
+  pub once : AllPairs (λ x y. x ≢ y) (take count touched)
+  pub within : All (λ x. x < length table) (take count touched)
+  pub each : (p : ℕ) → (root_distance table p ≢ None) ↔ Contains (take count touched) p

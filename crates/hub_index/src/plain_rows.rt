@@ -1,0 +1,92 @@
+ghost use Rattle.std.specs.Prelude.{◌≡◌, ℕ, [], length, replicate, IfOk};
+ghost use Rattle.hub_index.specs.PlainRows.{IsGathered};
+
+use crate::root_table::{RootTable, covered};
+use crate::row_list::RowList;
+use crate::row_view::{Offer, RowView};
+use rank_table::Ranking;
+use std::alloc::{AllocError, Global};
+use std::marker::Model;
+use std::snapshot::Snapshot;
+use walk_laws::{Entry, Graph};
+
+/// The rows of a graph's nodes under a ranking, for one thread. The graph and the ranking are kept for contracts alone,
+/// without bytes. Contracts see the edges, the order of the nodes and the rows.
+#[derive(Drop)]
+pub struct PlainRows {
+    rows: RowList,
+    graph: Snapshot<Graph>,
+    ranking: Snapshot<Ranking>,
+}
+
+impl Model for PlainRows {
+    ghost use Rattle.hub_index.specs.PlainRows.{GatheredRows, IsGathered};
+
+    ghost Value = { GatheredRows };
+
+    ghost view = { λ r. record { edges = r.graph.value.edges; order = r.ranking.value; rows = r.rows } };
+
+    ghost invariant = { λ r. IsGathered r.graph.value.edges r.ranking.value r.rows };
+}
+
+impl PlainRows {
+    /// An empty row for each node of the graph. The only error is that memory ran out.
+    pub fn new(alloc: Global, graph: &Graph, ranking: &Ranking) -> Result<PlainRows, AllocError>
+        requires { length ranking.now ≡ graph.now.n }
+        ensures edges { IfOk result (λ view. view.edges ≡ graph.now.edges) }
+        ensures order { IfOk result (λ view. view.order ≡ ranking.now) }
+        ensures rows { IfOk result (λ view. view.rows ≡ replicate graph.now.n []) }
+    {
+        Ok(PlainRows {
+            rows: RowList::new(alloc, graph.n())?,
+            graph: Snapshot::of(graph),
+            ranking: Snapshot::of(ranking),
+        })
+    }
+
+    /// The rows, with the entries that were put in them. It takes no memory.
+    pub fn into_rows(self) -> RowList
+        ensures rows { result ≡ self.rows }
+        ensures gathered { IsGathered self.edges self.order self.rows }
+    {
+        let PlainRows {
+            rows,
+            graph: _,
+            ranking: _,
+        } = self;
+        rows
+    }
+}
+
+/// The rows themselves are what was last seen of them, and all that was put.
+impl RowView for PlainRows {
+    ghost use Rattle.walk_laws.specs.Labelling.{label_row};
+
+    ghost edges = { λ view. view.edges };
+
+    ghost order = { λ view. view.order };
+
+    ghost seen = { λ view v. label_row view.rows v };
+
+    ghost puts = { λ view v. label_row view.rows v };
+
+    fn load_root(&mut self, h: u32, table: &mut RootTable) {
+        table.clear();
+        for entry in self.rows.row(h) {
+            table.note(*entry);
+        }
+    }
+
+    fn offer(&mut self, v: u32, entry: Entry, table: &RootTable) -> Offer {
+        if let Some(cover) = covered(self.rows.row(v), table, entry.pos, entry.dist) {
+            return Offer::Covered {
+                pos: cover.pos,
+                dist: cover.dist,
+            };
+        }
+        if self.rows.push(v, entry).is_err() {
+            return Offer::NoMemory;
+        }
+        Offer::Put
+    }
+}

@@ -1,0 +1,108 @@
+ghost use Rattle.std.specs.Prelude.{◌≡◌, ◌↔◌, ℕ, ◌<◌, ◌≤◌, Option, Some, None, All, length, replicate, take, slice_get, IfOk, IfSome, IfNone, IsTrue};
+ghost use Rattle.hub_index.specs.RootDistances.{root_distance, with_noted, IsCover};
+
+use std::alloc::{AllocError, Global};
+use std::marker::Model;
+use walk_laws::Entry;
+
+/// The hubs of one root: for each position, from 0, a distance or none. Contracts see the list of these.
+#[derive(Debug, Drop)]
+pub struct RootTable {
+    dists: Vec<Option<u64>>,
+    /// The positions that have a distance are the first `count` of these.
+    touched: Vec<u32>,
+    count: usize,
+}
+
+impl Model for RootTable {
+    ghost use Rattle.std.specs.Prelude.{ℕ, ◌^◌, ◌<◌, List, Option, length};
+    ghost use Rattle.hub_index.specs.Touched.{HasTouched};
+
+    ghost Value = { List (Option ℕ) };
+
+    ghost view = { λ t. t.dists.items };
+
+    ghost invariant = { λ t. HasTouched t.dists.items t.touched.items t.count };
+}
+
+impl RootTable {
+    /// A table for the positions 0..n, none of which has a distance. The only error is that memory ran out.
+    pub fn new(alloc: Global, n: u32) -> Result<RootTable, AllocError>
+        ensures { IfOk result (λ table. table ≡ replicate n None) }
+    {
+        Ok(RootTable {
+            dists: vec![in alloc; None; n as usize]?,
+            touched: vec![in alloc; 0u32; n as usize]?,
+            count: 0,
+        })
+    }
+
+    /// The distance at the position `pos`.
+    pub fn get(&self, pos: u32) -> Option<u64>
+        requires { pos < length self.now }
+        ensures { result ≡ root_distance self.now pos }
+    {
+        self.dists[pos as usize]
+    }
+
+    /// Forgets all distances, at the cost of the positions that have one.
+    pub fn clear(&mut self)
+        ensures { self.new ≡ replicate (length self.old) None }
+    {
+        while self.count > 0 {
+            let last = self.count - 1;
+            let pos = self.touched[last];
+            self.dists[pos as usize] = None;
+            self.count = last;
+        }
+    }
+
+    /// Notes an entry of the root's row: its position then has the lesser of the old and the new distance. It takes no
+    /// memory.
+    pub fn note(&mut self, entry: Entry)
+        requires { entry.pos < length self.old }
+        ensures { self.new ≡ with_noted self.old entry }
+    {
+        match self.dists[entry.pos as usize] {
+            None => {
+                self.touched[self.count] = entry.pos;
+                self.count += 1;
+                self.dists[entry.pos as usize] = Some(entry.dist);
+            }
+            Some(known) => {
+                self.dists[entry.pos as usize] = Some(known.min(entry.dist));
+            }
+        }
+    }
+
+    /// Whether the entry covers one at the position `pos` with the distance `dist`.
+    pub fn covers(&self, entry: Entry, pos: u32, dist: u64) -> bool
+        requires { pos ≤ length self.now }
+        ensures { IsTrue result ↔ IsCover self.now pos dist entry }
+    {
+        if entry.pos >= pos {
+            return false;
+        }
+        match self.dists[entry.pos as usize] {
+            None => false,
+            Some(root) => root <= dist && entry.dist <= dist - root,
+        }
+    }
+}
+
+/// The first entry of a row that covers one at the position `pos` with the distance `dist`: its hub ranks above the hub at
+/// `pos`, and its distance together with that of the root in the table is at most `dist`. None where no entry does. It
+/// goes along the row once, and takes no memory. (Pruned landmark labelling, SIGMOD 2013.)
+pub fn covered(row: &[Entry], table: &RootTable, pos: u32, dist: u64) -> Option<Entry>
+    requires { pos ≤ length table.now }
+    ensures first { IfSome result (λ e. (k : ℕ) × (slice_get row.now k ≡ Some e) × IsCover table.now pos dist e
+        × All (λ f. ¬ IsCover table.now pos dist f) (take k row.now)) }
+    ensures none { IfNone result (All (λ e. ¬ IsCover table.now pos dist e) row.now) }
+{
+    for entry in row {
+        if table.covers(*entry, pos, dist) {
+            return Some(*entry);
+        }
+    }
+    None
+}
