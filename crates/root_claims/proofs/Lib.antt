@@ -1,0 +1,5 @@
+mod Allowed
+mod Counting
+mod LiveSeats
+mod LiveTotals
+mod Steps

@@ -1,0 +1,10 @@
+use Rattle.std.proofs.Common.{sym, ◌∙◌, ap, arith}
+use Rattle.root_claims.proofs.Allowed.{draws_one}
+use Rattle.root_claims.proofs.claims.Claims.claim.Goals as goal
+
+pub fetch_add-number-requires : goal.fetch_add-number-requires
+fetch_add-number-requires c =
+    let i = c.seat.invariant in
+    let table = c.self.invariant in
+    let same = ap (λ d. d.claims) c.seat.view_is ∙ c.requires.seat ∙ sym c.self.view_is in
+    (ap (λ d. d.table) same, omega arith, draws_one _ _ _ _ i.2 (ap (λ d. d.over) c.seat.view_is ∙ c.requires.over))
