@@ -1,51 +1,56 @@
 -- What words ask for, by their first one.
-use Rattle.std.proofs.Common.{◌≡◌, ℕ, List, [], ◌∷◌, refl}
+use Rattle.std.proofs.Common.{◌≡◌, ℕ, List, [], ◌∷◌, ap, subst, arith}
 use Rattle.std.specs.Prelude.{codes}
-use Rattle.chl_cmd.specs.Words.{AsksFor, HasBuildOptions, IsPlainValue}
+use Rattle.chl_cmd.specs.Words.{AreBuildingOptions, AreTwoOptions, AsksFor}
 use Rattle.chl_cmd.specs.declared.words.asked.By.{By}
 use Rattle.chl_cmd.specs.declared.words.asked.Asked.{Asked}
-use Rattle.chl_cmd.specs.declared.words.asked.Asked.TheVariants.{List as ListRows, Build}
+use Rattle.chl_cmd.specs.declared.words.asked.Asked.TheVariants.{List as ListRows, Build, Solve, Query}
 
--- the options of `list`
-pub record AreListOptions (words : List (List ℕ)) : Type 0 where
+-- the first letter of the first word
+abbrev pub first_letter : List (List ℕ) → ℕ
+first_letter [] = 0
+first_letter ([] ∷ words) = 0
+first_letter ((letter ∷ word) ∷ words) = letter
+
+-- two options of these names
+pub record HasTwo (first second : List ℕ) (words : List (List ℕ)) : Type 0 where
+  pub a : List ℕ
+  pub b : List ℕ
+  pub are : AreTwoOptions first second words a b
+
+-- the options of a build, with a third file of this name
+pub record HasBuilding (third : List ℕ) (words : List (List ℕ)) : Type 0 where
   pub graph : List ℕ
   pub order : List ℕ
-  pub plain_graph : IsPlainValue graph
-  pub plain_order : IsPlainValue order
-  pub words_are : words ≡ codes "--graph" ∷ graph ∷ codes "--order" ∷ order ∷ []
-
--- the options of `build`
-pub record AreBuildOptions (words : List (List ℕ)) : Type 0 where
-  pub graph : List ℕ
-  pub order : List ℕ
-  pub out : List ℕ
-  pub options : List (List ℕ)
+  pub file : List ℕ
   pub by : By
   pub workers : ℕ
   pub cut : ℕ
-  pub plain_graph : IsPlainValue graph
-  pub plain_order : IsPlainValue order
-  pub plain_out : IsPlainValue out
-  pub words_are : words ≡ codes "--graph" ∷ graph ∷ codes "--order" ∷ order ∷ codes "--out" ∷ out ∷ options
-  pub has : HasBuildOptions options by workers cut
+  pub are : AreBuildingOptions third words graph order file by workers cut
 
-pub asks_to_list : (words : List (List ℕ)) (asked : Asked) → AsksFor (codes "list" ∷ words) asked → AreListOptions words
-asks_to_list words (ListRows graph order) asks = record { graph = graph; order = order; plain_graph = asks.1; plain_order = asks.2; words_are = let e = asks.0 in cc }
-asks_to_list words (Build graph order out by workers cut) asks = absurd (let e = asks.1 in cc)
+two_options_of : (first second : List ℕ) (words options : List (List ℕ)) (a b : List ℕ) → options ≡ words → AreTwoOptions first second options a b → HasTwo first second words
+two_options_of first second words options a b same are = record { a = a; b = b; are = subst (λ ws. AreTwoOptions first second ws a b) same are }
 
-pub asks_to_build : (words : List (List ℕ)) (asked : Asked) → AsksFor (codes "build" ∷ words) asked → AreBuildOptions words
-asks_to_build words (ListRows graph order) asks = absurd (let e = asks.0 in cc)
-asks_to_build words (Build graph order out by workers cut) asks = record {
-  graph = graph;
-  order = order;
-  out = out;
-  options = asks.0;
-  by = by;
-  workers = workers;
-  cut = cut;
-  plain_graph = asks.2;
-  plain_order = asks.3;
-  plain_out = asks.4;
-  words_are = let e = asks.1 in cc;
-  has = asks.5;
-}
+building_of : (third : List ℕ) (words options : List (List ℕ)) (graph order file : List ℕ) (by : By) (workers cut : ℕ) → options ≡ words → AreBuildingOptions third options graph order file by workers cut → HasBuilding third words
+building_of third words options graph order file by workers cut same are =
+    record { graph = graph; order = order; file = file; by = by; workers = workers; cut = cut; are = subst (λ ws. AreBuildingOptions third ws graph order file by workers cut) same are }
+
+pub asks_to_list : (words : List (List ℕ)) (asked : Asked) → AsksFor (codes "list" ∷ words) asked → HasTwo (codes "--graph") (codes "--order") words
+asks_to_list words (ListRows graph order) asks =
+    two_options_of (codes "--graph") (codes "--order") words asks.0 graph order (let e = asks.1 in cc) asks.2
+asks_to_list words other asks = absurd (omega (arith, ap first_letter asks.1))
+
+pub asks_to_build : (words : List (List ℕ)) (asked : Asked) → AsksFor (codes "build" ∷ words) asked → HasBuilding (codes "--out") words
+asks_to_build words (Build graph order out by workers cut) asks =
+    building_of (codes "--out") words asks.0 graph order out by workers cut (let e = asks.1 in cc) asks.2
+asks_to_build words other asks = absurd (omega (arith, ap first_letter asks.1))
+
+pub asks_to_solve : (words : List (List ℕ)) (asked : Asked) → AsksFor (codes "solve" ∷ words) asked → HasBuilding (codes "--pairs") words
+asks_to_solve words (Solve graph order pairs by workers cut) asks =
+    building_of (codes "--pairs") words asks.0 graph order pairs by workers cut (let e = asks.1 in cc) asks.2
+asks_to_solve words other asks = absurd (omega (arith, ap first_letter asks.1))
+
+pub asks_to_query : (words : List (List ℕ)) (asked : Asked) → AsksFor (codes "query" ∷ words) asked → HasTwo (codes "--index") (codes "--pairs") words
+asks_to_query words (Query index pairs) asks =
+    two_options_of (codes "--index") (codes "--pairs") words asks.0 index pairs (let e = asks.1 in cc) asks.2
+asks_to_query words other asks = absurd (omega (arith, ap first_letter asks.1))

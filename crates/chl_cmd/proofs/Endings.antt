@@ -14,14 +14,14 @@ use Rattle.chl_cmd.specs.Outcome.{Ends, Gives, GivesFront, GivesPart, given, Has
 use Rattle.chl_cmd.specs.Statuses.{status_of, status_after}
 use Rattle.chl_cmd.specs.Stops.{MayStop}
 use Rattle.chl_cmd.specs.declared.status.Status.{Status}
-use Rattle.chl_cmd.specs.declared.status.Status.TheVariants.{Done, Usage, GraphText, OrderText, Overflow, ReadFault, WriteFault, NoMemory, TooLong}
+use Rattle.chl_cmd.specs.declared.status.Status.TheVariants.{Done, Usage, GraphText, OrderText, PairsText, IndexBytes, Overflow, ReadFault, WriteFault, NoMemory, TooLong}
 use Rattle.chl_cmd.specs.declared.stop.Stop.{Stop}
 use Rattle.chl_cmd.specs.declared.stop.Stop.TheVariants as stops
 use Rattle.chl_cmd.specs.declared.words.asked.Asked.{Asked}
 use Rattle.chl_cmd.specs.Words.{IsCommand}
 use Rattle.chl_cmd.proofs.Decisions.{decides_once}
 use Rattle.chl_cmd.proofs.OneCommand.{one_command}
-use Rattle.chl_cmd.proofs.ToldChanges.{retold}
+use Rattle.chl_cmd.proofs.ToldChanges.{chained, retold}
 
 -- the stop of which a status tells, if it tells of one
 abbrev stop_in : Status → Option Stop
@@ -29,6 +29,8 @@ stop_in Done = None
 stop_in Usage = None
 stop_in (GraphText fault) = Some (stops.Graph fault)
 stop_in (OrderText fault) = Some (stops.Order fault)
+stop_in (PairsText fault) = Some (stops.Pairs fault)
+stop_in (IndexBytes fault) = Some (stops.Index fault)
 stop_in (Overflow n weight) = Some (stops.Overflow n weight)
 stop_in ReadFault = Some stops.ReadFailed
 stop_in WriteFault = None
@@ -39,6 +41,8 @@ stop_told : (stop : Stop) → stop_in (status_of stop) ≡ Some stop
 stop_told (stops.Graph fault) = refl
 stop_told (stops.Overflow n weight) = refl
 stop_told (stops.Order fault) = refl
+stop_told (stops.Pairs fault) = refl
+stop_told (stops.Index fault) = refl
 stop_told stops.TooLong = refl
 stop_told stops.ReadFailed = refl
 stop_told stops.NoMemory = refl
@@ -183,6 +187,11 @@ failed_from asked bytes (Some a) (Some b) (Some c) made front steady =
       (bytes, made.0, subst (λ x. GivesFront (place_of asked) bytes x c) made.1 front),
       λ held. steady (subst IsTrue (sym (ap (λ (x : Contents). x.steady) made.1 ∙ read_steady (inputs_of asked) a)) held),
     ))
+
+-- and one for which memory ran out so
+pub lost_from : (asked : Asked) (bytes : List ℕ) (old mid new : Option Contents) → Tells old mid (λ a b. Decides asked a.files (Ok bytes) × (b ≡ read_all (inputs_of asked) a)) → Tells mid new (GivesFront (place_of asked) bytes) → Tells old new (Ends asked NoMemory)
+lost_from asked bytes old mid new made front = chained old mid new made front (λ a b c m f.
+    inr (inr (inl (refl, (bytes, m.0, subst (λ x. GivesFront (place_of asked) bytes x c) m.1 f)))))
 
 -- the same of what a desk tells, of the command that the words are
 module _ (old new : Option Contents) (words : List (List ℕ)) (asked other : Asked) (status : Status) (first : IsCommand words asked) (second : IsCommand words other) (ends : Tells old new (Ends asked status)) where

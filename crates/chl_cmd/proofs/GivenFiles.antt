@@ -1,6 +1,6 @@
 -- A file that was created, and then written to.
-use Rattle.std.proofs.Common.{◌≡◌, inl, inr, ℕ, List, take, ap, ◌∙◌}
-use Rattle.std.specs.Prelude.{Option, Some, None}
+use Rattle.std.proofs.Common.{◌≡◌, inr, ℕ, List, take, ap, ◌∙◌}
+use Rattle.std.specs.Prelude.{Option, Some}
 use Rattle.desk_io.specs.Contents.{Contents, Tells, created, written}
 use Rattle.desk_io.specs.Takes.{Takes}
 use Rattle.desk_io.specs.declared.write_out.Out.TheVariants.{File}

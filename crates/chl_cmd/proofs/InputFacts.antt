@@ -1,5 +1,5 @@
 -- What the reading of an input has shown of it.
-use Rattle.std.proofs.Common.{◌≡◌, ◌⊎◌, inl, inr, ℕ, ◌+◌, ◌-◌, ◌<◌, ◌≤◌, Bool, true, false, cond, IsTrue, List, [], ◌∷◌, ◌++◌, length, take, nat_lt, refl, sym, ap, subst, ◌∙◌, arith}
+use Rattle.std.proofs.Common.{◌≡◌, ◌⊎◌, inl, inr, ℕ, ◌+◌, ◌-◌, ◌<◌, ◌≤◌, cond, IsTrue, List, [], ◌∷◌, ◌++◌, length, take, refl, sym, ap, subst, ◌∙◌, arith}
 use Rattle.std.specs.Prelude.{Option, Some, None, Result, Ok, Err}
 use Rattle.std.specs.List.{concat}
 use Rattle.std.specs.FinMap as finite_map
@@ -8,8 +8,8 @@ use Rattle.std.proofs.lemmas.List.{append_assoc, append-nil, length-append}
 use Rattle.std.proofs.Math.Seq.{take-append_seam, take-append-add}
 use Rattle.desk_io.specs.Contents.{Contents, Tells, IsSteady, opened}
 use Rattle.desk_io.specs.Feed.{TakesAll}
-use Rattle.desk_io.specs.Reader.{TakesPiece, Follows, StandsAt}
-use Rattle.desk_io.specs.Reading.{Reads, ReadsToEnd, HandsOn, HandsOnAll, PassesLimit, HandsOnUntil, OnFailed, OnTooLong, OnNoMemory, IfRefused, input_limit}
+use Rattle.desk_io.specs.Reader.{TakesPiece, StandsAt}
+use Rattle.desk_io.specs.Reading.{Reads, HandsOn, HandsOnAll, PassesLimit, HandsOnUntil, OnFailed, OnTooLong, OnNoMemory, IfRefused, input_limit}
 use Rattle.desk_io.specs.declared.read_all.ReadEnd.{ReadEnd}
 use Rattle.desk_io.specs.declared.read_all.ReadEnd.TheVariants.{Failed, TooLong, NoMemory, Refused}
 use Rattle.chl_cmd.specs.Inputs.{input_of, judged, past_limit, OpensInOrder, MayEnd}

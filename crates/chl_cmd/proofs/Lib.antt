@@ -2,8 +2,9 @@ pub mod OptionalWords
 pub mod AskedWords
 pub mod ToldChanges
 pub mod InputFacts
-pub mod RowPositions
 pub mod GivenFiles
 pub mod OneCommand
+pub mod PairAnswers
 pub mod Decisions
+pub mod ToldAnswers
 pub mod Endings

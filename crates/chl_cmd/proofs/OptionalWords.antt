@@ -1,8 +1,7 @@
 -- An option that may be left out has one value, and leaves one rest of the words.
-use Rattle.std.proofs.Common.{◌≡◌, ◌≤◌, ◌^◌, inl, inr, ℕ, List, [], ◌∷◌, sym, ap, subst, ◌∙◌, arith}
-use Rattle.std.specs.Fmt.{decimal}
+use Rattle.std.proofs.Common.{◌≡◌, ◌≤◌, ◌^◌, inl, inr, ℕ, List, ◌∷◌, sym, subst, ◌∙◌, arith}
 use Rattle.std.proofs.lemmas.Fmt.{decimal_injective}
-use Rattle.chl_cmd.specs.Words.{HasOptional, HasBuildOptions, IsConstruction, IsNumberUpTo, most_roots, most_workers}
+use Rattle.chl_cmd.specs.Words.{HasOptional, IsConstruction, IsNumberUpTo}
 use Rattle.chl_cmd.specs.declared.words.asked.By.{By}
 use Rattle.chl_cmd.specs.declared.words.asked.By.TheVariants.{Plant}
 

@@ -3,6 +3,7 @@ pub mod Inputs
 pub mod Stops
 pub mod Statuses
 pub mod PrintedRows
+pub mod PrintedAnswers
 pub mod Decides
 pub mod Outcome
 pub mod Laws

@@ -2,7 +2,7 @@
 use Rattle.std.specs.Prelude.{◌≡◌, ℕ, List, Result, Ok, Err}
 use Rattle.desk_io.specs.Counts.{Rises}
 use Rattle.chl_cmd.specs.declared.status.Status.{Status}
-use Rattle.chl_cmd.specs.declared.status.Status.TheVariants.{Done, Usage, GraphText, OrderText, Overflow, ReadFault, WriteFault, NoMemory, TooLong}
+use Rattle.chl_cmd.specs.declared.status.Status.TheVariants.{Done, Usage, GraphText, OrderText, PairsText, IndexBytes, Overflow, ReadFault, WriteFault, NoMemory, TooLong}
 use Rattle.chl_cmd.specs.declared.stop.Stop.{Stop}
 use Rattle.chl_cmd.specs.declared.stop.Stop.TheVariants as stops
 
@@ -12,6 +12,8 @@ number_of Done = 0
 number_of Usage = 2
 number_of (GraphText fault) = 3
 number_of (OrderText fault) = 4
+number_of (PairsText fault) = 5
+number_of (IndexBytes fault) = 6
 number_of (Overflow n weight) = 7
 number_of ReadFault = 8
 number_of WriteFault = 9
@@ -23,6 +25,8 @@ abbrev pub status_of : Stop → Status
 status_of (stops.Graph fault) = GraphText fault
 status_of (stops.Overflow n weight) = Overflow n weight
 status_of (stops.Order fault) = OrderText fault
+status_of (stops.Pairs fault) = PairsText fault
+status_of (stops.Index fault) = IndexBytes fault
 status_of stops.TooLong = TooLong
 status_of stops.ReadFailed = ReadFault
 status_of stops.NoMemory = NoMemory

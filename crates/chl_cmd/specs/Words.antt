@@ -4,7 +4,7 @@ use Rattle.std.specs.Fmt.{decimal}
 use Rattle.chl_cmd.specs.declared.words.asked.By.{By}
 use Rattle.chl_cmd.specs.declared.words.asked.By.TheVariants.{Plant}
 use Rattle.chl_cmd.specs.declared.words.asked.Asked.{Asked}
-use Rattle.chl_cmd.specs.declared.words.asked.Asked.TheVariants.{List as ListRows, Build}
+use Rattle.chl_cmd.specs.declared.words.asked.Asked.TheVariants.{List as ListRows, Build, Solve, Query}
 
 -- a value of an option: not empty, and not beginning with a dash
 abbrev pub IsPlainValue : List ℕ → Type 0
@@ -45,17 +45,37 @@ pub record HasBuildOptions (words : List (List ℕ)) (by : By) (workers cut : �
   pub has_workers : HasOptional (codes "--workers") (IsNumberUpTo most_workers) 1 after_by workers after_workers
   pub has_cut : HasOptional (codes "--cut") (IsNumberUpTo most_roots) 1024 after_workers cut []
 
--- the words behind the program's own name: the command, and its options in this order, each with a plain value
-abbrev pub AsksFor : List (List ℕ) → Asked → Type 0
-AsksFor words (ListRows graph order) =
-    (words ≡ codes "list" ∷ codes "--graph" ∷ graph ∷ codes "--order" ∷ order ∷ []) × IsPlainValue graph × IsPlainValue order
-AsksFor words (Build graph order out by workers cut) =
+-- the words are two options in this order, each with a plain value
+abbrev pub AreTwoOptions : List ℕ → List ℕ → List (List ℕ) → List ℕ → List ℕ → Type 0
+AreTwoOptions first second words a b = (words ≡ first ∷ a ∷ second ∷ b ∷ []) × IsPlainValue a × IsPlainValue b
+
+-- the words are the options of a graph, an order and a third file, each with a plain value, and then those of a build
+abbrev pub AreBuildingOptions : List ℕ → List (List ℕ) → List ℕ → List ℕ → List ℕ → By → ℕ → ℕ → Type 0
+AreBuildingOptions third words graph order file by workers cut =
     (options : List (List ℕ))
-    × (words ≡ codes "build" ∷ codes "--graph" ∷ graph ∷ codes "--order" ∷ order ∷ codes "--out" ∷ out ∷ options)
+    × (words ≡ codes "--graph" ∷ graph ∷ codes "--order" ∷ order ∷ third ∷ file ∷ options)
     × IsPlainValue graph
     × IsPlainValue order
-    × IsPlainValue out
+    × IsPlainValue file
     × HasBuildOptions options by workers cut
+
+-- the word of a command
+abbrev pub name_of : Asked → List ℕ
+name_of (ListRows graph order) = codes "list"
+name_of (Build graph order out by workers cut) = codes "build"
+name_of (Solve graph order pairs by workers cut) = codes "solve"
+name_of (Query index pairs) = codes "query"
+
+-- the words are the options of a command, in their order
+abbrev pub AreOptionsOf : List (List ℕ) → Asked → Type 0
+AreOptionsOf words (ListRows graph order) = AreTwoOptions (codes "--graph") (codes "--order") words graph order
+AreOptionsOf words (Build graph order out by workers cut) = AreBuildingOptions (codes "--out") words graph order out by workers cut
+AreOptionsOf words (Solve graph order pairs by workers cut) = AreBuildingOptions (codes "--pairs") words graph order pairs by workers cut
+AreOptionsOf words (Query index pairs) = AreTwoOptions (codes "--index") (codes "--pairs") words index pairs
+
+-- the words behind the program's own name: the command, and its options
+abbrev pub AsksFor : List (List ℕ) → Asked → Type 0
+AsksFor words asked = (options : List (List ℕ)) × (words ≡ name_of asked ∷ options) × AreOptionsOf options asked
 
 -- the words are this command: the program's own name, which is not judged, and what it asks for
 abbrev pub IsCommand : List (List ℕ) → Asked → Type 0
@@ -69,6 +89,8 @@ AreWithinLimits workers cut = (1 ≤ workers) × (workers ≤ most_workers) × (
 abbrev pub IsWithinLimits : Asked → Type 0
 IsWithinLimits (ListRows graph order) = Unit {0}
 IsWithinLimits (Build graph order out by workers cut) = AreWithinLimits workers cut
+IsWithinLimits (Solve graph order pairs by workers cut) = AreWithinLimits workers cut
+IsWithinLimits (Query index pairs) = Unit {0}
 
 -- the words are no command
 abbrev pub IsNoCommand : List (List ℕ) → Type 0

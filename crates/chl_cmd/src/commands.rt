@@ -8,16 +8,21 @@ ghost use Rattle.chl_cmd.specs.Words.{IsWithinLimits};
 
 mod build;
 mod list;
+mod query;
+mod solve;
 
 use crate::stop::Stop;
 use crate::words::{Asked, Construction};
 use build::file_bytes;
 use desk_io::{Desk, Gate};
 use list::rows_text;
+use query::replies_text;
+use solve::answers_text;
 use std::alloc::Global;
+use std::thread::Threads;
 
 /// The bytes that a command gives, or why it gives none. It reads its inputs and works, and writes nothing.
-pub fn output<R, D: Desk, G: Gate + Sync>(
+pub fn output<R: Threads + Sync, D: Desk, G: Gate + Sync>(
     rt: &R,
     alloc: Global,
     asked: &Asked,
@@ -49,5 +54,21 @@ pub fn output<R, D: Desk, G: Gate + Sync>(
             };
             file_bytes(rt, alloc, graph, order, construction, desk, gate)
         }
+        Asked::Solve {
+            graph,
+            order,
+            pairs,
+            by,
+            workers,
+            cut,
+        } => {
+            let construction = Construction {
+                by: *by,
+                workers: *workers,
+                cut: *cut,
+            };
+            answers_text(rt, alloc, graph, order, pairs, construction, desk, gate)
+        }
+        Asked::Query { index, pairs } => replies_text(rt, alloc, index, pairs, desk),
     }
 }

@@ -17,7 +17,7 @@ pub fn give<D: Desk>(desk: &mut D, asked: &Asked, bytes: &[u8]) -> Result<(), De
     ensures output_count { CountsFailure result (D.output_faults desk.old) (D.output_faults desk.new) }
 {
     match asked {
-        Asked::List { .. } => say(desk, bytes),
+        Asked::List { .. } | Asked::Solve { .. } | Asked::Query { .. } => say(desk, bytes),
         Asked::Build { out, .. } => write_file(desk, out, bytes),
     }
 }

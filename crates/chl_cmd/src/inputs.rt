@@ -2,15 +2,17 @@ ghost use Rattle.std.specs.Prelude.{◌≡◌, ℕ, List, [], ◌∷◌, Ok, Err
 ghost use Rattle.std.specs.FinMap as finite_map;
 ghost use Rattle.desk_io.specs.Contents.{Contents, Tells, opened};
 ghost use Rattle.desk_io.specs.Reading.{CountsReadFailure};
-ghost use Rattle.chl_cmd.specs.Decides.{AfterRanked, graph_at, order_at};
+ghost use Rattle.chl_cmd.specs.Decides.{After, AfterIndexed, AfterQuestions, AfterRanked, ArePairsWithin, graph_at, index_at, order_at, pairs_at};
 ghost use Rattle.chl_cmd.specs.Inputs.{input_of, read_all, OpensInOrder, MayEnd};
 ghost use Rattle.chl_cmd.specs.Statuses.{CountsStop};
 ghost use Rattle.chl_cmd.specs.Stops.{MayStop};
 
-use crate::stop::{Stop, graph_stop, order_stop};
+use crate::stop::{Stop, graph_stop, index_stop, order_stop, pairs_stop};
 use crate::words::Name;
 use desk_io::{Desk, DeskFault, ReadEnd, Reader, read_all_into};
-use dimacs_text::GrReader;
+use dimacs_text::{GrReader, Pairs, PairsReader};
+use hub_index::Index;
+use index_file::IndexReader;
 use rank_table::{OrderReader, Ranking};
 use std::alloc::Global;
 use walk_laws::Graph;
@@ -20,6 +22,66 @@ use walk_laws::Graph;
 pub struct Ranked {
     pub graph: Graph,
     pub ranking: Ranking,
+}
+
+/// A graph with a ranking of its nodes, and pairs of them.
+#[derive(Debug, Drop)]
+pub struct Questions {
+    pub ranked: Ranked,
+    pub pairs: Pairs,
+}
+
+/// An index, and pairs of its nodes.
+#[derive(Debug, Drop)]
+pub struct Indexed {
+    pub index: Index,
+    pub pairs: Pairs,
+}
+
+/// The graph of the first named text, the ranking of its nodes of the second, and the pairs of them of the third.
+pub fn read_questions<D: Desk>(
+    alloc: Global,
+    graph: &Name,
+    order: &Name,
+    pairs: &Name,
+    desk: &mut D,
+) -> Result<Questions, Stop>
+    ensures size { IfOk result (λ r. length r.ranked.ranking ≡ r.ranked.graph.n) }
+    ensures within { IfOk result (λ r. ArePairsWithin r.ranked.graph.n r.pairs) }
+    ensures value { IfOk result (λ r. Tells (D.told desk.old) (D.told desk.new) (λ a b.
+        (graph_at graph.now a.files ≡ Ok r.ranked.graph) × (order_at r.ranked.graph.n order.now a.files ≡ Ok r.ranked.ranking)
+        × (pairs_at r.ranked.graph.n pairs.now a.files ≡ Ok r.pairs) × (b ≡ read_all (graph.now ∷ order.now ∷ pairs.now ∷ []) a))) }
+    ensures stop { IfErr result (λ stop. Tells (D.told desk.old) (D.told desk.new) (λ a b.
+        MayStop a.steady stop (AfterQuestions graph.now order.now pairs.now a.files (Err stop) (λ _ _ _. ⊥))
+        × OpensInOrder (graph.now ∷ order.now ∷ pairs.now ∷ []) a b)) }
+    ensures input_count { CountsStop result (D.input_faults desk.old) (D.input_faults desk.new) }
+    ensures output_count { D.output_faults desk.new ≡ D.output_faults desk.old }
+{
+    let ranked = read_ranked(alloc, graph, order, desk)?;
+    let pairs = read_pairs(alloc, pairs, ranked.graph.n(), desk)?;
+    Ok(Questions { ranked, pairs })
+}
+
+/// The index of the first named file, and then the pairs of its nodes of the second.
+pub fn read_indexed<D: Desk>(
+    alloc: Global,
+    index: &Name,
+    pairs: &Name,
+    desk: &mut D,
+) -> Result<Indexed, Stop>
+    ensures within { IfOk result (λ r. ArePairsWithin (length r.index.order) r.pairs) }
+    ensures value { IfOk result (λ r. Tells (D.told desk.old) (D.told desk.new) (λ a b.
+        (index_at index.now a.files ≡ Ok r.index) × (pairs_at (length r.index.order) pairs.now a.files ≡ Ok r.pairs)
+        × (b ≡ read_all (index.now ∷ pairs.now ∷ []) a))) }
+    ensures stop { IfErr result (λ stop. Tells (D.told desk.old) (D.told desk.new) (λ a b.
+        MayStop a.steady stop (AfterIndexed index.now pairs.now a.files (Err stop) (λ _ _. ⊥))
+        × OpensInOrder (index.now ∷ pairs.now ∷ []) a b)) }
+    ensures input_count { CountsStop result (D.input_faults desk.old) (D.input_faults desk.new) }
+    ensures output_count { D.output_faults desk.new ≡ D.output_faults desk.old }
+{
+    let index = read_index(alloc, index, desk)?;
+    let pairs = read_pairs(alloc, pairs, index.n(), desk)?;
+    Ok(Indexed { index, pairs })
 }
 
 /// The graph of the first named text, and then the ranking of its nodes of the second.
@@ -74,6 +136,39 @@ fn read_order<D: Desk>(alloc: Global, name: &Name, n: u32, desk: &mut D) -> Resu
     match read_input(desk, name, reader) {
         Ok(ranking) => Ok(ranking),
         Err(end) => Err(order_stop(end)),
+    }
+}
+
+/// The pairs of the nodes 1..n of the named text.
+fn read_pairs<D: Desk>(alloc: Global, name: &Name, n: u32, desk: &mut D) -> Result<Pairs, Stop>
+    ensures within { IfOk result (λ p. ArePairsWithin n p) }
+    ensures value { IfOk result (λ p. Tells (D.told desk.old) (D.told desk.new) (λ a b.
+        (pairs_at n name.now a.files ≡ Ok p) × (b ≡ opened name.now [] a))) }
+    ensures stop { IfErr result (λ stop. Tells (D.told desk.old) (D.told desk.new) (λ a b.
+        MayStop a.steady stop (pairs_at n name.now a.files ≡ Err stop) × OpensInOrder (name.now ∷ []) a b)) }
+    ensures input_count { CountsStop result (D.input_faults desk.old) (D.input_faults desk.new) }
+    ensures output_count { D.output_faults desk.new ≡ D.output_faults desk.old }
+{
+    let reader = PairsReader::new(alloc, n)?;
+    match read_input(desk, name, reader) {
+        Ok(pairs) => Ok(pairs),
+        Err(end) => Err(pairs_stop(end)),
+    }
+}
+
+/// The index of the named file.
+fn read_index<D: Desk>(alloc: Global, name: &Name, desk: &mut D) -> Result<Index, Stop>
+    ensures value { IfOk result (λ i. Tells (D.told desk.old) (D.told desk.new) (λ a b.
+        (index_at name.now a.files ≡ Ok i) × (b ≡ opened name.now [] a))) }
+    ensures stop { IfErr result (λ stop. Tells (D.told desk.old) (D.told desk.new) (λ a b.
+        MayStop a.steady stop (index_at name.now a.files ≡ Err stop) × OpensInOrder (name.now ∷ []) a b)) }
+    ensures input_count { CountsStop result (D.input_faults desk.old) (D.input_faults desk.new) }
+    ensures output_count { D.output_faults desk.new ≡ D.output_faults desk.old }
+{
+    let reader = IndexReader::new(alloc)?;
+    match read_input(desk, name, reader) {
+        Ok(index) => Ok(index),
+        Err(end) => Err(index_stop(end)),
     }
 }
 

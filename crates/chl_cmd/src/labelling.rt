@@ -1,18 +1,20 @@
-ghost use Rattle.std.specs.Prelude.{◌≡◌, ◌∷◌, [], Err, IfOk, IfErr};
+ghost use Rattle.std.specs.Prelude.{◌≡◌, ◌∷◌, [], length, Err, IfOk, IfErr};
 ghost use Rattle.desk_io.specs.Contents.{Tells};
+ghost use Rattle.walk_laws.specs.Joined.{Joined};
+ghost use Rattle.walk_laws.specs.Labelling.{IsChl};
 ghost use Rattle.chl_cmd.specs.Decides.{AfterRanked, HasLabelling};
 ghost use Rattle.chl_cmd.specs.Inputs.{read_all, OpensInOrder};
 ghost use Rattle.chl_cmd.specs.Statuses.{CountsStop};
 ghost use Rattle.chl_cmd.specs.Stops.{MayStop};
 ghost use Rattle.chl_cmd.specs.Words.{AreWithinLimits};
 
-use crate::inputs::read_ranked;
+use crate::inputs::{Ranked, read_ranked};
 use crate::stop::Stop;
 use crate::words::{By, Construction, Name};
 use desk_io::{Desk, Gate};
 use hub_index::Index;
 use plant_build::build_plant;
-use std::alloc::Global;
+use std::alloc::{AllocError, Global};
 
 /// The index of the canonical hub labelling of the graph of the first named text under the order of the second.
 pub fn read_labelling<R, D: Desk, G: Gate + Sync>(
@@ -34,7 +36,24 @@ pub fn read_labelling<R, D: Desk, G: Gate + Sync>(
     ensures output_count { D.output_faults desk.new ≡ D.output_faults desk.old }
 {
     let ranked = read_ranked(alloc, graph, order, desk)?;
-    let index = match construction.by {
+    let index = labelling_of(rt, alloc, &ranked, construction, gate)?;
+    Ok(index)
+}
+
+/// The index of the canonical hub labelling of a graph under a ranking of its nodes.
+pub fn labelling_of<R, G: Gate + Sync>(
+    rt: &R,
+    alloc: Global,
+    ranked: &Ranked,
+    construction: Construction,
+    gate: &G,
+) -> Result<Index, AllocError>
+    requires size { length ranked.now.ranking ≡ ranked.now.graph.n }
+    requires limits { AreWithinLimits construction.workers construction.cut }
+    ensures order { IfOk result (λ index. index.order ≡ ranked.now.ranking) }
+    ensures labelling { IfOk result (λ index. IsChl (Joined ranked.now.graph.edges) ranked.now.ranking index.rows) }
+{
+    match construction.by {
         By::Plant => build_plant(
             rt,
             alloc,
@@ -43,7 +62,6 @@ pub fn read_labelling<R, D: Desk, G: Gate + Sync>(
             construction.workers,
             construction.cut,
             gate,
-        )?,
-    };
-    Ok(index)
+        ),
+    }
 }

@@ -1,7 +1,11 @@
-ghost use Rattle.std.specs.Prelude.{◌≡◌, ℕ, ◌<◌, ◌++◌, slice_index, IfOk, OnOk, length};
+ghost use Rattle.std.specs.Prelude.{◌≡◌, ℕ, ◌<◌, ◌∷◌, ◌++◌, map, slice_index, IfOk, OnOk, length};
+ghost use Rattle.std.specs.Fmt.{decimal};
+ghost use Rattle.hub_query.specs.Meant.{meant};
+ghost use Rattle.chl_cmd.specs.PrintedAnswers.{answer_line, answer_lines as lines_of_answers};
 ghost use Rattle.chl_cmd.specs.PrintedRows.{entry_words, row_line, lines_from, HasPositions};
 
 use hub_index::Index;
+use hub_query::Answer;
 use itoa::Buffer;
 use rank_table::Ranking;
 use std::alloc::{AllocError, Global};
@@ -53,4 +57,59 @@ fn hub_of(ranking: &Ranking, entry: Entry) -> u32
     ensures { result ≡ slice_index ranking.now entry.pos }
 {
     ranking.at(entry.pos)
+}
+
+/// The lines of pairs with their answers: `d S T D H` or `u S T` for the nodes S and T.
+pub fn answer_lines(
+    alloc: Global,
+    pairs: &[(u32, u32)],
+    answers: &[Answer],
+) -> Result<Vec<u8>, AllocError>
+    requires { length answers.now ≡ length pairs.now }
+    ensures { IfOk result (λ text. text.items ≡ lines_of_answers pairs.now (map meant answers.now)) }
+{
+    let mut text = Vec::new(alloc);
+    for i in 0..pairs.len() {
+        print_answer(&mut text, pairs[i], answers[i])?;
+    }
+    Ok(text)
+}
+
+/// Puts the line of a pair with its answer at the end of a text.
+fn print_answer(text: &mut Vec<u8>, pair: (u32, u32), answer: Answer) -> Result<(), AllocError>
+    ensures { OnOk result (text.new.items ≡ text.old.items ++ answer_line pair (meant answer)) }
+{
+    match answer {
+        Answer::Near { dist, hub } => {
+            text.extend_from_slice(b"d ")?;
+            print_pair(text, pair)?;
+            print_number(text, dist)?;
+            print_number(text, u64::from(hub))?;
+        }
+        Answer::Far => {
+            text.extend_from_slice(b"u ")?;
+            print_pair(text, pair)?;
+        }
+    }
+    text.push(b'\n')?;
+    Ok(())
+}
+
+/// Puts the nodes of a pair at the end of a text.
+fn print_pair(text: &mut Vec<u8>, pair: (u32, u32)) -> Result<(), AllocError>
+    ensures { OnOk result (text.new.items ≡ text.old.items ++ (decimal pair.0 ++ (32 ∷ decimal pair.1))) }
+{
+    let mut buffer = Buffer::new();
+    text.extend_from_slice(buffer.format(pair.0).as_bytes())?;
+    print_number(text, u64::from(pair.1))
+}
+
+/// Puts a space and a number at the end of a text.
+fn print_number(text: &mut Vec<u8>, number: u64) -> Result<(), AllocError>
+    ensures { OnOk result (text.new.items ≡ text.old.items ++ (32 ∷ decimal number)) }
+{
+    let mut buffer = Buffer::new();
+    text.push(b' ')?;
+    text.extend_from_slice(buffer.format(number).as_bytes())?;
+    Ok(())
 }

@@ -16,6 +16,7 @@ use crate::status::{Status, stopped};
 use crate::words::{AskFault, Asked, read_words};
 use desk_io::{Desk, DeskFault, Gate};
 use std::alloc::Global;
+use std::thread::Threads;
 
 /// Runs the command that the words ask for, over a desk, and says how it ended. What the named files decide of a command
 /// is `Decides` (specs/Decides). Over a desk that tells nothing, as the real one, the clauses with `Tells` say nothing.
@@ -24,8 +25,9 @@ use std::alloc::Global;
 /// ```text
 /// chl list --graph path_of_three.gr --order path_of_three.order
 /// chl build --graph path_of_three.gr --order path_of_three.order --out path_of_three.chl
+/// chl query --index path_of_three.chl --pairs path_of_three.p2p
 /// ```
-pub fn run<R, D: Desk, G: Gate + Sync>(
+pub fn run<R: Threads + Sync, D: Desk, G: Gate + Sync>(
     rt: &R,
     alloc: Global,
     words: &[String],
@@ -80,7 +82,7 @@ pub fn run<R, D: Desk, G: Gate + Sync>(
 }
 
 /// Carries out a command: all its bytes are made before the first is given.
-fn carry_out<R, D: Desk, G: Gate + Sync>(
+fn carry_out<R: Threads + Sync, D: Desk, G: Gate + Sync>(
     rt: &R,
     alloc: Global,
     asked: &Asked,

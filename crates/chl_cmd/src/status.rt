@@ -4,6 +4,7 @@ ghost use Rattle.chl_cmd.specs.declared.stop.Stop.{Stop as AnyStop};
 
 use crate::stop::Stop;
 use dimacs_text::TextFault;
+use index_file::IndexFault;
 use rank_table::OrderFault;
 use thiserror::Error;
 
@@ -22,6 +23,12 @@ pub enum Status {
     /// The order text has this first fault.
     #[error("chl: {0}")]
     OrderText(OrderFault),
+    /// The pairs text has this first fault.
+    #[error("chl: pairs {0}")]
+    PairsText(TextFault),
+    /// The index file has this first fault.
+    #[error("chl: {0}")]
+    IndexBytes(IndexFault),
     /// The graph's number of nodes times its greatest weight is 2^62 or more.
     #[error("chl: overflow: {n} nodes, weight {weight}")]
     Overflow { n: u32, weight: u64 },
@@ -49,6 +56,8 @@ impl Status {
             Status::Usage => 2,
             Status::GraphText(_) => 3,
             Status::OrderText(_) => 4,
+            Status::PairsText(_) => 5,
+            Status::IndexBytes(_) => 6,
             Status::Overflow { .. } => 7,
             Status::ReadFault => 8,
             Status::WriteFault => 9,
@@ -66,6 +75,8 @@ pub fn stopped(stop: Stop) -> Status
         Stop::Graph(fault) => Status::GraphText(fault),
         Stop::Overflow { n, weight } => Status::Overflow { n, weight },
         Stop::Order(fault) => Status::OrderText(fault),
+        Stop::Pairs(fault) => Status::PairsText(fault),
+        Stop::Index(fault) => Status::IndexBytes(fault),
         Stop::TooLong => Status::TooLong,
         Stop::ReadFailed => Status::ReadFault,
         Stop::NoMemory => Status::NoMemory,

@@ -2,15 +2,18 @@ ghost use Rattle.std.specs.Prelude.{◌<◌};
 
 mod desks;
 mod files;
+mod pairs;
 mod texts;
 
 use super::*;
 use desk_io::{Call, FreeGate, MemDesk};
 use dimacs_text::{TextFault, TextKind};
+use index_file::IndexFault;
 use rank_table::OrderFault;
 use std::alloc::{AllocError, Global};
 use std::process::Abort;
 use std::test::Fail;
+use std::thread::Threads;
 
 /// A run over a desk that has the files `g` and `o`, and what it is to come to.
 #[derive(Clone, Copy, Debug)]
@@ -63,7 +66,7 @@ fn desk_of(
 }
 
 /// Runs the words over a desk, and compares the line of the status, and what standard output has taken.
-fn expect<R: Abort + AllocGlobal>(
+fn expect<R: Abort + AllocGlobal + Threads + Sync>(
     rt: &R,
     desk: &mut MemDesk,
     words: &str,
@@ -79,7 +82,7 @@ fn expect<R: Abort + AllocGlobal>(
 }
 
 /// Runs each case in pieces of each size.
-fn expect_all<R: Abort + AllocGlobal>(rt: &R, cases: &[Case]) -> Result<(), Fail> {
+fn expect_all<R: Abort + AllocGlobal + Threads + Sync>(rt: &R, cases: &[Case]) -> Result<(), Fail> {
     for case in cases {
         for bite in BITES {
             assert!(rt; 0 < bite);
@@ -91,7 +94,7 @@ fn expect_all<R: Abort + AllocGlobal>(rt: &R, cases: &[Case]) -> Result<(), Fail
 }
 
 /// The line of each status on standard error, and its number.
-fn statuses() -> [(Status, &'static str, u8); 9] {
+fn statuses() -> [(Status, &'static str, u8); 11] {
     [
         (Status::Done, "chl: done", 0),
         (Status::Usage, "chl: usage", 2),
@@ -107,6 +110,19 @@ fn statuses() -> [(Status, &'static str, u8); 9] {
             Status::OrderText(OrderFault::Repeated { line: 3, node: 2 }),
             "chl: order line 3: repeated node 2",
             4,
+        ),
+        (
+            Status::PairsText(TextFault {
+                line: 2,
+                kind: TextKind::NodeRange,
+            }),
+            "chl: pairs line 2: node out of range",
+            5,
+        ),
+        (
+            Status::IndexBytes(IndexFault::Short { at: 95 }),
+            "chl: index: short 95",
+            6,
         ),
         (
             Status::Overflow { n: 2, weight: 7 },

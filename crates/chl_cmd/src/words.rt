@@ -1,5 +1,5 @@
 ghost use Rattle.std.specs.Prelude.{◌≡◌, ◌≢◌, ℕ, List, ◌∷◌, codes, map, string_bytes, IfOk, IfErr, IfSome, IfNone};
-ghost use Rattle.chl_cmd.specs.Words.{AsksFor, IsCommand, IsWithinLimits};
+ghost use Rattle.chl_cmd.specs.Words.{AreOptionsOf, AsksFor, IsCommand, IsWithinLimits, name_of};
 ghost use Rattle.chl_cmd.specs.declared.words.asked.AskFault.TheVariants.{Usage};
 ghost use Rattle.chl_cmd.specs.declared.words.asked.Asked.{Asked};
 
@@ -9,8 +9,8 @@ mod options;
 
 pub use asked::{AskFault, Asked, By, Name};
 pub use construction::Construction;
-use construction::construction_options;
-use options::{after_option, after_word, first_word};
+use construction::building_options;
+use options::{after_word, first_word, two_options};
 use std::alloc::{AllocError, Global};
 
 /// What the words of a command line ask for. The first is the program's own name and isn't judged.
@@ -39,6 +39,12 @@ fn asked_for(alloc: Global, words: &[String]) -> Result<Option<Asked>, AllocErro
     if let Some(options) = after_word(words, "build") {
         return build_options(alloc, options);
     }
+    if let Some(options) = after_word(words, "solve") {
+        return solve_options(alloc, options);
+    }
+    if let Some(options) = after_word(words, "query") {
+        return query_options(alloc, options);
+    }
     Ok(None)
 }
 
@@ -47,15 +53,9 @@ fn list_options(alloc: Global, words: &[String]) -> Result<Option<Asked>, AllocE
     ensures found { IfOk result (λ asked. IfSome asked (AsksFor (codes "list" ∷ map string_bytes words.now))) }
     ensures none { IfOk result (λ asked. IfNone asked ((other : Asked) → ¬ AsksFor (codes "list" ∷ map string_bytes words.now) other)) }
 {
-    let Some((graph, words)) = after_option(words, "--graph") else {
+    let Some((graph, order)) = two_options(words, "--graph", "--order") else {
         return Ok(None);
     };
-    let Some((order, words)) = after_option(words, "--order") else {
-        return Ok(None);
-    };
-    if !words.is_empty() {
-        return Ok(None);
-    }
     let graph = Name::new(alloc, graph)?;
     let order = Name::new(alloc, order)?;
     Ok(Some(Asked::List { graph, order }))
@@ -66,16 +66,7 @@ fn build_options(alloc: Global, words: &[String]) -> Result<Option<Asked>, Alloc
     ensures found { IfOk result (λ asked. IfSome asked (AsksFor (codes "build" ∷ map string_bytes words.now))) }
     ensures none { IfOk result (λ asked. IfNone asked ((other : Asked) → ¬ AsksFor (codes "build" ∷ map string_bytes words.now) other)) }
 {
-    let Some((graph, words)) = after_option(words, "--graph") else {
-        return Ok(None);
-    };
-    let Some((order, words)) = after_option(words, "--order") else {
-        return Ok(None);
-    };
-    let Some((out, words)) = after_option(words, "--out") else {
-        return Ok(None);
-    };
-    let Some(Construction { by, workers, cut }) = construction_options(words) else {
+    let Some((graph, order, out, built)) = building_options(words, "--out") else {
         return Ok(None);
     };
     let graph = Name::new(alloc, graph)?;
@@ -85,8 +76,42 @@ fn build_options(alloc: Global, words: &[String]) -> Result<Option<Asked>, Alloc
         graph,
         order,
         out,
-        by,
-        workers,
-        cut,
+        by: built.by,
+        workers: built.workers,
+        cut: built.cut,
     }))
+}
+
+/// The command `solve`, where these are its options.
+fn solve_options(alloc: Global, words: &[String]) -> Result<Option<Asked>, AllocError>
+    ensures found { IfOk result (λ asked. IfSome asked (AsksFor (codes "solve" ∷ map string_bytes words.now))) }
+    ensures none { IfOk result (λ asked. IfNone asked ((other : Asked) → ¬ AsksFor (codes "solve" ∷ map string_bytes words.now) other)) }
+{
+    let Some((graph, order, pairs, built)) = building_options(words, "--pairs") else {
+        return Ok(None);
+    };
+    let graph = Name::new(alloc, graph)?;
+    let order = Name::new(alloc, order)?;
+    let pairs = Name::new(alloc, pairs)?;
+    Ok(Some(Asked::Solve {
+        graph,
+        order,
+        pairs,
+        by: built.by,
+        workers: built.workers,
+        cut: built.cut,
+    }))
+}
+
+/// The command `query`, where these are its options.
+fn query_options(alloc: Global, words: &[String]) -> Result<Option<Asked>, AllocError>
+    ensures found { IfOk result (λ asked. IfSome asked (AsksFor (codes "query" ∷ map string_bytes words.now))) }
+    ensures none { IfOk result (λ asked. IfNone asked ((other : Asked) → ¬ AsksFor (codes "query" ∷ map string_bytes words.now) other)) }
+{
+    let Some((index, pairs)) = two_options(words, "--index", "--pairs") else {
+        return Ok(None);
+    };
+    let index = Name::new(alloc, index)?;
+    let pairs = Name::new(alloc, pairs)?;
+    Ok(Some(Asked::Query { index, pairs }))
 }

@@ -182,7 +182,7 @@ index_of-layout at rows is = let all = (Goes-all at rows is).way 8 in ap end_of 
 
 -- ---- and only the layout
 
-ends_there : (size : ℕ) (next : Next) (done : HubIndex) → end_of_fields size next ≡ Ok done → next ≡ End done
+pub ends_there : (size : ℕ) (next : Next) (done : HubIndex) → end_of_fields size next ≡ Ok done → next ≡ End done
 ends_there size Letter done is = absurd cc
 ends_there size Version done is = absurd cc
 ends_there size Size done is = absurd cc
@@ -192,7 +192,7 @@ ends_there size (Position rows part) done is = absurd cc
 ends_there size (Distance rows part pos) done is = absurd cc
 ends_there size (End rows) done is = ap End (ok_is rows done is)
 
-IsWellFormed-rows : (done : HubIndex) → AreRows done → length done.rows ≡ length done.order → IsWellFormed done.order done.rows
+pub IsWellFormed-rows : (done : HubIndex) → AreRows done → length done.rows ≡ length done.order → IsWellFormed done.order done.rows
 IsWellFormed-rows done are whole = record {
   ranking = are.ranking;
   small = are.small;

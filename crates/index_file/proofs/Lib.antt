@@ -5,6 +5,7 @@ pub mod SoundFields
 pub mod SoundBytes
 pub mod Sizes
 pub mod Layouts
+pub mod SoundIndexes
 pub mod Steps
 pub mod PutBehind
 pub mod Pieces

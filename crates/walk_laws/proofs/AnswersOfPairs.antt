@@ -1,10 +1,9 @@
 -- What a pair is answered: there is one answer, and the rows of the canonical hub labelling give it.
-use Rattle.std.proofs.Common.{◌≡◌, ◌↔◌, ℕ, ◌≤◌, ◌<◌, List, length, slice_get, Some, None, Option, All, refl, subst, sym, ap, ◌∙◌, inl, inr, nat_cmp, Ordering, Less, Equal, Greater}
+use Rattle.std.proofs.Common.{◌≡◌, ◌↔◌, ℕ, ◌≤◌, ◌<◌, List, length, Some, None, Option, All, refl, subst, sym, ap, ◌∙◌, inl, inr, nat_cmp, Ordering, Less, Equal, Greater}
 use Rattle.std.specs.Cmp.Lexicographic.{slice_cmp}
 use Rattle.std.specs.FinMap.{slice_cmp-IsAntisymmetric, nat_cmp-IsAntisymmetric}
 use Rattle.std.specs.Ordering.{ordering_reverse}
 use Rattle.std.proofs.lemmas.Cmp.{nat_list_cmp_total}
-use Rattle.std.proofs.lemmas.Option.{same_Some}
 use Rattle.walk_laws.specs.declared.graph.Edge.{Edge}
 use Rattle.walk_laws.specs.declared.entry.Entry.{Entry}
 use Rattle.walk_laws.specs.Joined.{Joined}
@@ -17,7 +16,7 @@ use Rattle.walk_laws.proofs.JoinedEdges.{Joined-sym}
 use Rattle.walk_laws.proofs.LeastWalks.{IsLeast-unique}
 use Rattle.walk_laws.proofs.Tops.{IsTop-node, IsTop-unique}
 use Rattle.walk_laws.proofs.JoinedDecisions.{IsLeast-or_apart, IsTop-joined_exists}
-use Rattle.walk_laws.proofs.CommonHubs.{HasSum-walk, IsLeastSum-top, IsLeastSum-unique}
+use Rattle.walk_laws.proofs.CommonHubs.{HasSum-walk, IsLeastSum-top, IsMeet-unique}
 
 module _ (J : ℕ → ℕ → ℕ → Type 0) where
   -- a pair has one answer at most
@@ -75,15 +74,6 @@ module _ (edges : List Edge) (weights : All (λ e. 1 ≤ e.w) edges) (at : List 
         let top_node = IsTop-node (Joined edges) at u v a.1 node known.1 in
         (position_of at a.1, slice_get-at_position at a.1 top_node, IsLeastSum-top (Joined edges) (Joined-sym edges) at u v (label_row rows u) (label_row rows v) (chl.row u from_one up_to_n) (chl.row v other_from_one other_up_to_n) ranking a.1 a.0 top_node known.1 known.0)
 
-    IsMeet-unique : (a b : Option (ℕ × ℕ)) → IsMeet at rows u v a → IsMeet at rows u v b → a ≡ b
-    IsMeet-unique None None first second = refl
-    IsMeet-unique None (Some b) first second = absurd (first second.0 b.0 second.2.sum)
-    IsMeet-unique (Some a) None first second = absurd (second first.0 a.0 first.2.sum)
-    IsMeet-unique (Some a) (Some b) first second =
-        let same = IsLeastSum-unique (label_row rows u) (label_row rows v) first.0 second.0 a.0 b.0 first.2 second.2 in
-        let same_node = same_Some a.1 b.1 (sym first.1 ∙ ap (slice_get at) same.0 ∙ second.1) in
-        ap (λ d. Some (d, a.1)) same.1 ∙ ap (λ x. Some (b.0, x)) same_node
-
     pub IsMeet-IsAnswer : (answer : Option (ℕ × ℕ)) → IsMeet at rows u v answer ↔ IsAnswer (Joined edges) at u v answer
     IsMeet-IsAnswer answer =
-        (λ meet. let known = IsAnswer-exists in subst (IsAnswer (Joined edges) at u v) (IsMeet-unique known.0 answer (IsMeet-from_answer known.0 known.1) meet) known.1, IsMeet-from_answer answer)
+        (λ meet. let known = IsAnswer-exists in subst (IsAnswer (Joined edges) at u v) (IsMeet-unique at rows u v known.0 answer (IsMeet-from_answer known.0 known.1) meet) known.1, IsMeet-from_answer answer)

@@ -1,5 +1,5 @@
 -- The hubs that two nodes share tell how far they are apart, and the highest-ranked node between them.
-use Rattle.std.proofs.Common.{◌≡◌, ℕ, ◌+◌, ◌≤◌, ◌<◌, List, length, slice_get, Some, subst, sym, ◌∙◌, inl, inr, arith}
+use Rattle.std.proofs.Common.{◌≡◌, ℕ, ◌+◌, ◌≤◌, ◌<◌, List, length, slice_get, Some, None, Option, refl, subst, sym, ap, ◌∙◌, inl, inr, arith}
 use Rattle.std.proofs.lemmas.Bool.{cases_lt}
 use Rattle.std.proofs.lemmas.Option.{same_Some, slice_get_within, get_or_from_slice_get}
 use Rattle.walk_laws.specs.declared.entry.Entry.{Entry}
@@ -8,8 +8,8 @@ use Rattle.walk_laws.specs.Least.{IsLeast}
 use Rattle.walk_laws.specs.On.{IsOn}
 use Rattle.walk_laws.specs.Top.{IsTop}
 use Rattle.walk_laws.specs.Ranking.{IsRanking, position_of}
-use Rattle.walk_laws.specs.Labelling.{IsRow}
-use Rattle.walk_laws.specs.Meet.{HasSum, IsLeastSum}
+use Rattle.walk_laws.specs.Labelling.{IsRow, label_row}
+use Rattle.walk_laws.specs.Meet.{HasSum, IsLeastSum, IsMeet}
 use Rattle.walk_laws.proofs.Positions.{slice_get-at_position, position-get_or}
 use Rattle.walk_laws.proofs.Walks.{HasWalk-same, HasWalk-append}
 use Rattle.walk_laws.proofs.LeastWalks.{IsLeast-unique, IsLeast-same}
@@ -93,3 +93,13 @@ pub IsLeastSum-unique : (first second : List Entry) (p q d e : ℕ) → IsLeastS
 IsLeastSum-unique first second p q d e a b =
     let same : d ≡ e = omega (arith, a.least q e b.sum, b.least p d a.sum) in
     (omega (arith, a.highest q (subst (HasSum first second q) (sym same) b.sum), b.highest p (subst (HasSum first second p) same a.sum)), same)
+
+-- so two rows say one thing at most of their pair
+pub IsMeet-unique : (at : List ℕ) (rows : List (List Entry)) (u v : ℕ) (a b : Option (ℕ × ℕ)) → IsMeet at rows u v a → IsMeet at rows u v b → a ≡ b
+IsMeet-unique at rows u v None None first second = refl
+IsMeet-unique at rows u v None (Some b) first second = absurd (first second.0 b.0 second.2.sum)
+IsMeet-unique at rows u v (Some a) None first second = absurd (second first.0 a.0 first.2.sum)
+IsMeet-unique at rows u v (Some a) (Some b) first second =
+    let same = IsLeastSum-unique (label_row rows u) (label_row rows v) first.0 second.0 a.0 b.0 first.2 second.2 in
+    let same_node = same_Some a.1 b.1 (sym first.1 ∙ ap (slice_get at) same.0 ∙ second.1) in
+    ap (λ d. Some (d, a.1)) same.1 ∙ ap (λ x. Some (b.0, x)) same_node

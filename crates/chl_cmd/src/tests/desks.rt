@@ -3,7 +3,7 @@ ghost use Rattle.std.specs.Prelude.{◌<◌};
 use super::*;
 
 /// Runs `list` of the path of three over a desk of which one call fails.
-fn list_failing<R: Abort + AllocGlobal>(
+fn list_failing<R: Abort + AllocGlobal + Threads + Sync>(
     rt: &R,
     bite: u32,
     fails: (Call, u32),
@@ -68,7 +68,19 @@ fn words_and_names_are_judged(rt: HostRuntime) -> Result<(), Fail> {
         ),
         ("chl build --graph g --order o --out x --cut", "chl: usage"),
         ("chl build --graph g --order o --workers 1", "chl: usage"),
+        (
+            "chl solve --graph g --order o --pairs p --workers 65",
+            "chl: usage",
+        ),
+        ("chl solve --graph g --order o --out x", "chl: usage"),
+        ("chl query --pairs p --index x", "chl: usage"),
+        ("chl query --index x --pairs p --workers 1", "chl: usage"),
         ("chl list --graph missing --order o", "chl: read failed"),
+        (
+            "chl solve --graph g --order o --pairs missing",
+            "chl: read failed",
+        ),
+        ("chl query --index missing --pairs p", "chl: read failed"),
         ("chl list --graph g --order missing", "chl: read failed"),
         (
             "chl build --graph g --order missing --out x",

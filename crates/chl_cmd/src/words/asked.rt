@@ -60,6 +60,22 @@ pub enum Asked {
         /// How many roots a worker takes at a time: 1..2^30.
         cut: u32,
     },
+    /// Say the distance of each pair of nodes of a graph, with the highest-ranked node between under an order.
+    Solve {
+        graph: Name,
+        order: Name,
+        pairs: Name,
+        by: By,
+        /// How many workers build: 1..64.
+        workers: u32,
+        /// How many roots a worker takes at a time: 1..2^30.
+        cut: u32,
+    },
+    /// Say what the rows of an index say of each pair of its nodes.
+    Query {
+        index: Name,
+        pairs: Name,
+    },
 }
 
 /// Why a command line asks for nothing.

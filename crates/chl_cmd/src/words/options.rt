@@ -1,6 +1,6 @@
 ghost use Rattle.std.specs.Prelude.{◌≡◌, ◌≢◌, ◌≤◌, ◌^◌, ◌<◌, ℕ, List, ◌∷◌, codes, map, string_bytes, IfSome, IfNone, IsTrue, ◌↔◌};
 ghost use Rattle.std.specs.Fmt.{decimal};
-ghost use Rattle.chl_cmd.specs.Words.{HasOptional, IsConstruction, IsNumberUpTo, IsPlainValue};
+ghost use Rattle.chl_cmd.specs.Words.{AreTwoOptions, HasOptional, IsConstruction, IsNumberUpTo, IsPlainValue};
 ghost use Rattle.chl_cmd.specs.declared.words.asked.By.{By as Construction};
 ghost use Rattle.chl_cmd.specs.declared.words.asked.By.TheVariants.{Plant};
 
@@ -40,6 +40,23 @@ pub fn after_option<'a>(words: &'a [String], name: &str) -> Option<(&'a String, 
         return None;
     }
     Some((value, behind))
+}
+
+/// The values of the options of these two names, where the words are these options in this order, each with a plain value.
+pub fn two_options<'a>(
+    words: &'a [String],
+    first: &str,
+    second: &str,
+) -> Option<(&'a String, &'a String)>
+    ensures found { IfSome result (λ r. AreTwoOptions first.now second.now (map string_bytes words.now) (string_bytes r.0.now) (string_bytes r.1.now)) }
+    ensures none { IfNone result ((a b : List ℕ) → ¬ AreTwoOptions first.now second.now (map string_bytes words.now) a b) }
+{
+    let (a, words) = after_option(words, first)?;
+    let (b, words) = after_option(words, second)?;
+    if !words.is_empty() {
+        return None;
+    }
+    Some((a, b))
 }
 
 /// The construction that the option `--by` at the front of the words names, planting where it isn't there, and the

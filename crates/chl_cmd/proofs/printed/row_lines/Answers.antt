@@ -1,5 +1,5 @@
 use Rattle.std.proofs.Common.{arith}
-use Rattle.chl_cmd.proofs.RowPositions.{row_positions}
+use Rattle.hub_query.proofs.RowFacts.{row_positions}
 use Rattle.chl_cmd.proofs.printed.row_lines.Goals as goal
 
 pub print_row-requires : goal.print_row-requires

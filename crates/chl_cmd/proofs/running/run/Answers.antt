@@ -1,5 +1,5 @@
 use Rattle.chl_cmd.specs.Outcome.{OpensNoOther}
-use Rattle.chl_cmd.proofs.Endings.{unchanged, opens_nothing, told_done, told_decided, told_failed, told_lost, told_opens, told_files}
+use Rattle.chl_cmd.proofs.Endings.{unchanged, opens_nothing, told_done, told_decided, told_stopped, told_steady, told_failed, told_lost, told_opens, told_files}
 use Rattle.chl_cmd.proofs.running.run.Goals as goal
 
 pub returns-in-Ok-clause-usage : goal.returns-in-Ok-clause-usage
@@ -8,6 +8,13 @@ returns-in-Ok-clause-usage g c = λ none. absurd (none c.in-Ok.asked c.in-Ok.ens
 pub returns-in-Ok-clause-done : goal.returns-in-Ok-clause-done
 returns-in-Ok-clause-done g c = λ asked is done.
     told_done _ _ _ _ asked _ c.in-Ok.ensures.ok is c.carry_out.ensures.ends done
+
+pub returns-in-Ok-clause-stopped : goal.returns-in-Ok-clause-stopped
+returns-in-Ok-clause-stopped g c = λ asked stop is status memory.
+    told_stopped _ _ _ _ asked _ c.in-Ok.ensures.ok is c.carry_out.ensures.ends stop status memory
+
+pub returns-in-Ok-clause-steady : goal.returns-in-Ok-clause-steady
+returns-in-Ok-clause-steady g c = told_steady _ _ c.in-Ok.asked _ c.carry_out.ensures.ends
 
 pub returns-in-Ok-clause-decided : goal.returns-in-Ok-clause-decided
 returns-in-Ok-clause-decided g c = λ asked answer is.

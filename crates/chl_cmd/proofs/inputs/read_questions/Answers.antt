@@ -1,0 +1,11 @@
+use Rattle.std.proofs.Common.{[], ◌∷◌}
+use Rattle.std.specs.Prelude.{Err}
+use Rattle.std.proofs.lemmas.Result.{err_from_is_err_and}
+use Rattle.chl_cmd.specs.Decides.{AfterRanked}
+use Rattle.chl_cmd.proofs.Decisions.{told_stop, ranked_stop}
+use Rattle.chl_cmd.proofs.inputs.read_questions.Goals as goal
+
+pub returns-in_err-ranked-clause-stop : goal.returns-in_err-ranked-clause-stop
+returns-in_err-ranked-clause-stop g c =
+    let p = err_from_is_err_and c.from_residual.result c.from_residual.ensures.1 in
+    rw (p.1, p.2) (told_stop (λ files. AfterRanked c.args.graph.now c.args.order.now files (Err c.in_err-ranked.field-0.0) (λ _ _. ⊥)) _ (λ files. ranked_stop c.args.graph.now c.args.order.now c.args.pairs.now files (Err c.in_err-ranked.field-0.0)) c.in_err-ranked.field-0.0 (c.args.graph.now ∷ c.args.order.now ∷ []) (c.args.pairs.now ∷ []) _ _ c.in_err-ranked.ensures.stop)

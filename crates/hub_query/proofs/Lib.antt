@@ -1,0 +1,5 @@
+pub mod Sums
+pub mod Walked
+pub mod RowFacts
+pub mod Meetings
+pub mod TestRows
