@@ -1,5 +1,6 @@
 pub mod CanonicalRows
 pub mod CoveredEntries
+pub mod FoundRows
 pub mod NotedRows
 pub mod RowItems
 pub mod RowsGathered

@@ -107,7 +107,6 @@ HasTouched-known table touched count p known d has was =
 -- the last one is forgotten
 pub held-but_last : (table : List (Option ℕ)) (touched : List ℕ) (count : ℕ) → count < length touched → get_or touched count 0 < length table → ((p : ℕ) → root_distance table p ≢ None → Contains (take (count + 1) touched) p) → (p : ℕ) → root_distance (set table (get_or touched count 0) None) p ≢ None → Contains (take count touched) p
 held-but_last table touched count room inside held p has =
-    let last = get_or touched count 0 in
     elim (cases_eq p (get_or touched count 0)) [
       | inl here ↦ absurd (has (ap (λ x. root_distance (set table (get_or touched count 0) None) x) here ∙ get_or-set_same table (get_or touched count 0) None None inside))
       | inr other ↦

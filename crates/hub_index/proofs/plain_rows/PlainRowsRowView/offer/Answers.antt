@@ -18,7 +18,6 @@ row_of c = c.row.ensures ∙ ap (λ g. label_row g.rows c.args.v) c.self.view_is
 pub returns-in-Some-clause-found : goal.returns-in-Some-clause-found
 returns-in-Some-clause-found c =
     let up = (goal.at.returns-in-Some-clause-found c).After-row in
-    let row = c.row.result.now in
     let first = c.in-Some.ensures.first in
     let there : Contains c.row.result.now c.in-Some.cover = (first.0, slice_get_within c.row.result.now first.0 c.in-Some.cover first.1, get_or_from_slice_get c.row.result.now first.0 c.in-Some.cover c.in-Some.cover first.1) in (
       label_row c.args.self.now.rows c.args.v,

@@ -1,0 +1,7 @@
+pub mod CompleteTrees
+pub mod CoveredRoots
+pub mod GrownRows
+pub mod OfferedNodes
+pub mod RelaxedArcs
+pub mod TreeCounts
+pub mod TreeRounds

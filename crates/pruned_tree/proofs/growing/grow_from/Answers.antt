@@ -1,0 +1,213 @@
+use Rattle.std.proofs.Common.{◌≡◌, ◌≢◌, ℕ, ◌+◌, ◌*◌, ◌<◌, ◌≤◌, List, [], ◌∷◌, ◌++◌, length, replicate, sym, ap, subst, ◌∙◌, arith}
+use Rattle.std.specs.Prelude.{Some, slice_get}
+use Rattle.std.proofs.Math.ListN.{length-set}
+use Rattle.std.proofs.lemmas.List.{length-replicate, append-nil}
+use Rattle.walk_laws.specs.declared.entry.Entry.{Entry}
+use Rattle.walk_laws.specs.Graph.{greatest_weight}
+use Rattle.walk_laws.specs.Joined.{Joined}
+use Rattle.walk_laws.specs.Labelling.{EntryFits}
+use Rattle.frontier.specs.declared.reach.Reach.{Reach}
+use Rattle.frontier.specs.declared.reach.Reach.TheVariants.{Unreached}
+use Rattle.frontier.specs.Reaches.{settled, with_offer}
+use Rattle.hub_index.specs.Views.{IsFound}
+use Rattle.pruned_tree.specs.declared.bare.Bare.{Bare}
+use Rattle.pruned_tree.specs.Relaxed.{IsRelaxed}
+use Rattle.pruned_tree.proofs.CompleteTrees.{IsComplete, all_gained}
+use Rattle.pruned_tree.proofs.GrownRows.{IsGrowth, IsPruned-from_growth}
+use Rattle.pruned_tree.proofs.OfferedNodes.{node_inside, queued_distance}
+use Rattle.pruned_tree.proofs.TreeCounts.{unsettled, unsettled-le, unsettled-settled, unsettled-same, IsBounded, IsBounded-start, IsBounded-settled, IsBounded-relaxed, room_of_next, fits_64, arcs_of_row, entries-put, entries-kept}
+use Rattle.pruned_tree.proofs.TreeRounds.{first_come, started, same_at_all, weights_positive, only_root, IsGrowth-start, IsComplete-start, offer_fits, StillStand-found, root_position, IsGrowth-round_over, IsComplete-round_over, IsGrowth-round_put, IsGrowth-round, IsComplete-round}
+use Rattle.pruned_tree.proofs.growing.grow_from.Given as given
+use Rattle.pruned_tree.proofs.growing.grow_from.Goals as goal
+use Rattle.pruned_tree.proofs.growing.grow_from.Goals.{In_ok-offer, In-Some, In-Put}
+
+-- the frontier as it is at first: the root alone is queued
+first_nodes : (g : given.Over) (c : In_ok-offer g) → c.offer.new.self ≡ with_offer first_come (replicate (c.args.graph.now.n + 1) Unreached) c.at.result (record { dist = 0; carried = record {} })
+first_nodes g c = started (c.args.graph.now.n + 1) c.at.result c.clear.new.self c.offer.new.self (c.clear.ensures ∙ ap (λ k. replicate {A = Reach Bare} k Unreached) c.requires.nodes) c.in_ok-offer.ensures.ok
+
+root_inside : (g : given.Over) (c : In_ok-offer g) → c.at.result < length (replicate {A = Reach Bare} (c.args.graph.now.n + 1) Unreached)
+root_inside g c = omega (arith, length-replicate {A = Reach Bare} (c.args.graph.now.n + 1) Unreached, c.at.ensures.within, c.requires.ranked)
+
+first_size : (g : given.Over) (c : In_ok-offer g) → length c.offer.new.self ≡ c.args.graph.now.n + 1
+first_size g c = ap length (first_nodes g c) ∙ length-set (replicate {A = Reach Bare} (c.args.graph.now.n + 1) Unreached) c.at.result _ ∙ length-replicate {A = Reach Bare} (c.args.graph.now.n + 1) Unreached
+
+pub loop-v-init : goal.loop-v-init
+loop-v-init g c =
+    let size = first_size g c in
+    let same : (h : ℕ) → slice_get c.args.ranking.now c.args.p ≡ Some h → c.at.result ≡ h = λ h root. let both : Some c.at.result ≡ Some h = sym c.at.ensures.value ∙ root in cc in
+    let now : (h : ℕ) → c.at.result ≡ h → c.offer.new.self ≡ with_offer first_come (replicate (c.args.graph.now.n + 1) Unreached) h (record { dist = 0; carried = record {} }) =
+    λ h is. first_nodes g c ∙ ap (λ x. with_offer first_come (replicate {A = Reach Bare} (c.args.graph.now.n + 1) Unreached) x (record { dist = 0; carried = record {} })) is in
+    let inside : (h : ℕ) → c.at.result ≡ h → h < length (replicate {A = Reach Bare} (c.args.graph.now.n + 1) Unreached) = λ h is. subst (λ x. x < length (replicate {A = Reach Bare} (c.args.graph.now.n + 1) Unreached)) is (root_inside g c) in
+    record {
+      edges = c.requires.edges;
+      order = c.requires.order;
+      size = size;
+      bounded = IsBounded-start (greatest_weight c.args.graph.now.edges) c.args.graph.now.n c.offer.new.self size (λ x d there.
+          (only_root c.args.graph.now.n c.args.graph.now.edges c.args.ranking.now c.at.result c.args.p c.requires.graph c.requires.ranked c.requires.ranking c.at.ensures.value (g.R.RowView.puts c.args.view.now) (g.R.RowView.seen c.args.view.now) c.offer.new.self (first_nodes g c) (root_inside g c) x d there).1);
+      growth = λ h root. IsGrowth-start c.args.graph.now.n c.args.graph.now.edges c.args.ranking.now h c.args.p c.requires.graph c.requires.ranked c.requires.ranking root (g.R.RowView.puts c.args.view.now) (g.R.RowView.seen c.args.view.now) c.offer.new.self (now h (same h root)) (inside h (same h root));
+      complete = λ h root. IsComplete-start c.args.graph.now.n c.args.graph.now.edges c.args.ranking.now h c.args.p c.requires.graph c.requires.ranked c.requires.ranking root (g.R.RowView.puts c.args.view.now) (g.R.RowView.seen c.args.view.now) c.offer.new.self (now h (same h root)) (inside h (same h root));
+      seen = λ x e from_one there. there;
+      counted = omega arith;
+      few = omega (arith, unsettled-le c.offer.new.self, size);
+    }
+
+-- the node that is taken
+record Taken (g : given.Over) (c : In-Some g) : Type 0 where
+  pub from_one : 1 ≤ c.in-Some.v
+  pub up_to_n : c.in-Some.v ≤ c.args.graph.now.n
+  pub fits : EntryFits (Joined c.args.graph.now.edges) c.args.ranking.now c.in-Some.v (record { pos = c.args.p; dist = c.in-Some.found.dist })
+  pub room : c.in-Some.found.dist + greatest_weight c.args.graph.now.edges < 18446744073709551616
+
+taken : (g : given.Over) (c : In-Some g) → Taken g c
+taken g c =
+    let inv = c.loop-v.invariant in
+    let root = c.at.ensures.value in
+    let growth = inv.growth c.at.result root in
+    let there = queued_distance _ c.in-Some.found c.in-Some.ensures.queued in
+    let from_one = growth.from_one c.in-Some.v c.in-Some.found.dist there in
+    let inside = node_inside c.loop-v.frontier c.in-Some.v c.in-Some.found.dist there in
+    let up_to_n : c.in-Some.v ≤ c.args.graph.now.n = omega (arith, inside, inv.size) in
+    let room = room_of_next _ _ c.loop-v.frontier c.in-Some.v c.in-Some.found c.in-Some.ensures.queued inv.bounded in
+    record {
+      from_one = from_one;
+      up_to_n = up_to_n;
+      fits = offer_fits c.args.graph.now.n c.args.graph.now.edges c.args.ranking.now c.at.result c.args.p c.requires.graph c.requires.ranked c.requires.ranking root (g.R.RowView.puts c.args.view.now) (g.R.RowView.seen c.args.view.now)
+          c.loop-v.frontier (g.R.RowView.puts c.loop-v.view) (g.R.RowView.seen c.loop-v.view) c.args.table.now (c.requires.root c.at.result root) growth (inv.complete c.at.result root) inv.seen c.in-Some.v c.in-Some.found c.in-Some.ensures.queued c.in-Some.ensures.nearest;
+      room = fits_64 c.args.graph.now.n c.args.graph.now.edges c.in-Some.found.dist _ c.requires.graph (omega (arith, from_one, up_to_n)) room;
+    }
+
+pub offer-requires-in-Some-clause-node : goal.offer-requires-in-Some-clause-node
+offer-requires-in-Some-clause-node g c =
+    let t = taken g (goal.at.offer-requires-in-Some-clause-node g c).In-Some in
+    record { from_one = t.from_one; up_to_n = omega (arith, t.up_to_n, c.requires.ranked, ap length c.loop-v.invariant.order) }
+
+pub offer-requires-in-Some-clause-fits : goal.offer-requires-in-Some-clause-fits
+offer-requires-in-Some-clause-fits g c =
+    let t = taken g (goal.at.offer-requires-in-Some-clause-fits g c).In-Some in
+    subst (λ es. EntryFits (Joined es) (g.R.RowView.order c.loop-v.view) c.in-Some.v (record { pos = c.args.p; dist = c.in-Some.found.dist })) (sym c.loop-v.invariant.edges)
+    (subst (λ at. EntryFits (Joined c.args.graph.now.edges) at c.in-Some.v (record { pos = c.args.p; dist = c.in-Some.found.dist })) (sym c.loop-v.invariant.order) t.fits)
+
+pub arcs-requires-clause-node : goal.arcs-requires-clause-node
+arcs-requires-clause-node g c = (taken g (goal.at.arcs-requires-clause-node g c).In-Some).from_one
+
+pub arcs-requires-clause-within : goal.arcs-requires-clause-within
+arcs-requires-clause-within g c = (taken g (goal.at.arcs-requires-clause-within g c).In-Some).up_to_n
+
+pub relax-requires-clause-ends : goal.relax-requires-clause-ends
+relax-requires-clause-ends g c = λ k d lt.
+    let arc = arcs_of_row c.args.graph.now.n c.args.graph.now.edges c.in-Some.v c.arcs.result.now c.requires.graph c.arcs.ensures.joined k d lt in
+    (arc.from_one, omega (arith, arc.up_to_n, c.requires.ranked))
+
+pub relax-requires-clause-fits : goal.relax-requires-clause-fits
+relax-requires-clause-fits g c = λ k d lt.
+    let arc = arcs_of_row c.args.graph.now.n c.args.graph.now.edges c.in-Some.v c.arcs.result.now c.requires.graph c.arcs.ensures.joined k d lt in
+    omega (arith, arc.light, (taken g (goal.at.relax-requires-clause-fits g c).In-Some).room)
+
+pub loop-v-smaller-in-Covered : goal.loop-v-smaller-in-Covered
+loop-v-smaller-in-Covered g c = omega (arith, ap unsettled c.in-Some.ensures.settles, unsettled-settled c.loop-v.frontier c.in-Some.v c.in-Some.found c.in-Some.ensures.queued)
+
+pub loop-v-smaller : goal.loop-v-smaller
+loop-v-smaller g c =
+    let relaxed = c.in_ok-relax.ensures.relaxed in
+    omega (arith, ap unsettled c.in-Some.ensures.settles, unsettled-settled c.loop-v.frontier c.in-Some.v c.in-Some.found c.in-Some.ensures.queued, unsettled-same c.relax.new.frontier c.take.new.self relaxed.size relaxed.settled)
+
+-- a row that the view finds is one of this graph and ranking
+found_here : (g : given.Over) (c : In-Some g) (row : List Entry) → IsFound (Joined (g.R.RowView.edges c.loop-v.view)) (g.R.RowView.order c.loop-v.view) c.in-Some.v (g.R.RowView.seen c.loop-v.view c.in-Some.v) row → IsFound (Joined c.args.graph.now.edges) c.args.ranking.now c.in-Some.v (g.R.RowView.seen c.loop-v.view c.in-Some.v) row
+found_here g c row found =
+    subst (λ es. IsFound (Joined es) c.args.ranking.now c.in-Some.v (g.R.RowView.seen c.loop-v.view c.in-Some.v) row) c.loop-v.invariant.edges
+    (subst (λ at. IsFound (Joined (g.R.RowView.edges c.loop-v.view)) at c.in-Some.v (g.R.RowView.seen c.loop-v.view c.in-Some.v) row) c.loop-v.invariant.order found)
+
+-- the growth where nothing is put
+growth_over : (g : given.Over) (c : In-Some g) (row : List Entry) (now : ℕ → List Entry) → IsFound (Joined c.args.graph.now.edges) c.args.ranking.now c.in-Some.v (g.R.RowView.seen c.loop-v.view c.in-Some.v) row → ((x : ℕ) → 1 ≤ x → now x ≡ g.R.RowView.puts c.loop-v.view x) → (h : ℕ) → slice_get c.args.ranking.now c.args.p ≡ Some h → IsGrowth (Joined c.args.graph.now.edges) c.args.ranking.now h c.args.p (g.R.RowView.puts c.args.view.now) (settled c.loop-v.frontier c.in-Some.v c.in-Some.found) now
+growth_over g c row now found same h root =
+    IsGrowth-round_over c.args.graph.now.n c.args.graph.now.edges c.args.ranking.now h c.args.p c.requires.graph c.requires.ranked c.requires.ranking root (g.R.RowView.puts c.args.view.now) (g.R.RowView.seen c.args.view.now)
+    c.loop-v.frontier (g.R.RowView.puts c.loop-v.view) (g.R.RowView.seen c.loop-v.view) c.args.table.now (c.requires.root h root) (c.loop-v.invariant.growth h root) (c.loop-v.invariant.complete h root) c.loop-v.invariant.seen c.in-Some.v c.in-Some.found c.in-Some.ensures.queued c.in-Some.ensures.nearest
+    row found now same
+
+-- and where the entry is
+growth_put : (g : given.Over) (c : In-Some g) (row : List Entry) (now : ℕ → List Entry) → IsFound (Joined c.args.graph.now.edges) c.args.ranking.now c.in-Some.v (g.R.RowView.seen c.loop-v.view c.in-Some.v) row → now c.in-Some.v ≡ g.R.RowView.puts c.loop-v.view c.in-Some.v ++ record { pos = c.args.p; dist = c.in-Some.found.dist } ∷ [] → ((x : ℕ) → 1 ≤ x → x ≢ c.in-Some.v → now x ≡ g.R.RowView.puts c.loop-v.view x) → (h : ℕ) → slice_get c.args.ranking.now c.args.p ≡ Some h → IsGrowth (Joined c.args.graph.now.edges) c.args.ranking.now h c.args.p (g.R.RowView.puts c.args.view.now) (settled c.loop-v.frontier c.in-Some.v c.in-Some.found) now
+growth_put g c row now found put same h root =
+    IsGrowth-round_put c.args.graph.now.n c.args.graph.now.edges c.args.ranking.now h c.args.p c.requires.graph c.requires.ranked c.requires.ranking root (g.R.RowView.puts c.args.view.now) (g.R.RowView.seen c.args.view.now)
+    c.loop-v.frontier (g.R.RowView.puts c.loop-v.view) (g.R.RowView.seen c.loop-v.view) c.args.table.now (c.requires.root h root) (c.loop-v.invariant.growth h root) (c.loop-v.invariant.complete h root) c.loop-v.invariant.seen c.in-Some.v c.in-Some.found c.in-Some.ensures.queued c.in-Some.ensures.nearest
+    row found now put same
+
+pub loop-v-preserved-in-Covered : goal.loop-v-preserved-in-Covered
+loop-v-preserved-in-Covered g c =
+    let up = (goal.at.loop-v-preserved-in-Covered g c).In-Some in
+    let inv = c.loop-v.invariant in
+    let offered = c.in-Covered.ensures in
+    let found = found_here g up offered.found.0 offered.found.1 in
+    let same = same_at_all (g.R.RowView.puts c.loop-v.view) (g.R.RowView.puts c.offer-in-Some.new.self) c.in-Some.v offered.puts offered.others_puts in
+    let now = c.in-Some.ensures.settles in
+    record {
+      edges = offered.edges ∙ inv.edges;
+      order = offered.order ∙ inv.order;
+      size = ap length now ∙ length-set c.loop-v.frontier c.in-Some.v _ ∙ inv.size;
+      bounded = subst (IsBounded (greatest_weight c.args.graph.now.edges) ((c.args.graph.now.n + 1) * greatest_weight c.args.graph.now.edges)) (sym now) (IsBounded-settled _ _ c.loop-v.frontier c.in-Some.v c.in-Some.found c.in-Some.ensures.queued inv.bounded);
+      growth = λ h root. subst (λ ns. IsGrowth (Joined c.args.graph.now.edges) c.args.ranking.now h c.args.p (g.R.RowView.puts c.args.view.now) ns (g.R.RowView.puts c.offer-in-Some.new.self)) (sym now) (growth_over g up offered.found.0 (g.R.RowView.puts c.offer-in-Some.new.self) found same h root);
+      complete = λ h root. subst (λ ns. IsComplete (Joined c.args.graph.now.edges) c.args.ranking.now h c.args.p (g.R.RowView.puts c.args.view.now) (g.R.RowView.seen c.args.view.now) ns (g.R.RowView.puts c.offer-in-Some.new.self)) (sym now)
+          (IsComplete-round_over c.args.graph.now.n c.args.graph.now.edges c.args.ranking.now h c.args.p c.requires.graph c.requires.ranked c.requires.ranking root (g.R.RowView.puts c.args.view.now) (g.R.RowView.seen c.args.view.now)
+          c.loop-v.frontier (g.R.RowView.puts c.loop-v.view) (g.R.RowView.seen c.loop-v.view) c.args.table.now (c.requires.root h root) (inv.growth h root) (inv.complete h root) inv.seen c.in-Some.v c.in-Some.found c.in-Some.ensures.queued c.in-Some.ensures.nearest
+          offered.found.0 found (g.R.RowView.puts c.offer-in-Some.new.self) (record { pos = c.in-Covered.pos; dist = c.in-Covered.dist }) offered.found.2.0 offered.found.2.1 same);
+      seen = StillStand-found (g.R.RowView.seen c.args.view.now) (g.R.RowView.seen c.loop-v.view) (g.R.RowView.seen c.offer-in-Some.new.self) c.in-Some.v offered.found.0 [] inv.seen found.goes_on (offered.found.3 ∙ sym (append-nil offered.found.0)) offered.others_seen;
+      counted = entries-kept c.args.ranking.now (g.R.RowView.puts c.loop-v.view) (g.R.RowView.puts c.offer-in-Some.new.self) c.requires.ranking same ∙ inv.counted;
+      few = omega (arith, ap unsettled now, unsettled-settled c.loop-v.frontier c.in-Some.v c.in-Some.found c.in-Some.ensures.queued, inv.few);
+    }
+
+pub loop-v-preserved : goal.loop-v-preserved
+loop-v-preserved g c =
+    let up = (goal.at.loop-v-preserved g c).In-Some in
+    let inv = c.loop-v.invariant in
+    let offered = c.in-Put.ensures in
+    let found = found_here g up offered.found.0 offered.found.1 in
+    let now = c.in-Some.ensures.settles in
+    let t = taken g up in
+    let relaxed : IsRelaxed c.args.ranking.now c.args.p c.in-Some.found.dist (length c.arcs.result.now) c.arcs.result.now (settled c.loop-v.frontier c.in-Some.v c.in-Some.found) c.relax.new.frontier =
+    subst (λ ns. IsRelaxed c.args.ranking.now c.args.p c.in-Some.found.dist (length c.arcs.result.now) c.arcs.result.now ns c.relax.new.frontier) now c.in_ok-relax.ensures.relaxed in
+    record {
+      edges = offered.edges ∙ inv.edges;
+      order = offered.order ∙ inv.order;
+      size = relaxed.size ∙ length-set c.loop-v.frontier c.in-Some.v _ ∙ inv.size;
+      bounded = IsBounded-relaxed _ _ c.args.ranking.now c.args.p c.in-Some.found.dist (length c.arcs.result.now) c.arcs.result.now (settled c.loop-v.frontier c.in-Some.v c.in-Some.found) c.relax.new.frontier
+          (λ k d lt. (arcs_of_row c.args.graph.now.n c.args.graph.now.edges c.in-Some.v c.arcs.result.now c.requires.graph c.arcs.ensures.joined k d lt).light)
+          (room_of_next _ _ c.loop-v.frontier c.in-Some.v c.in-Some.found c.in-Some.ensures.queued inv.bounded) relaxed
+          (IsBounded-settled _ _ c.loop-v.frontier c.in-Some.v c.in-Some.found c.in-Some.ensures.queued inv.bounded);
+      growth = λ h root.
+          IsGrowth-round c.args.graph.now.n c.args.graph.now.edges c.args.ranking.now h c.args.p c.requires.graph c.requires.ranked c.requires.ranking root (g.R.RowView.puts c.args.view.now) (g.R.RowView.seen c.args.view.now)
+          c.loop-v.frontier (g.R.RowView.puts c.loop-v.view) (g.R.RowView.seen c.loop-v.view) c.args.table.now (c.requires.root h root) (inv.growth h root) (inv.complete h root) inv.seen c.in-Some.v c.in-Some.found c.in-Some.ensures.queued c.in-Some.ensures.nearest
+          offered.found.0 found (g.R.RowView.puts c.offer-in-Some.new.self) offered.puts offered.others_puts c.arcs.result.now c.arcs.ensures.joined c.relax.new.frontier relaxed;
+      complete = λ h root.
+          IsComplete-round c.args.graph.now.n c.args.graph.now.edges c.args.ranking.now h c.args.p c.requires.graph c.requires.ranked c.requires.ranking root (g.R.RowView.puts c.args.view.now) (g.R.RowView.seen c.args.view.now)
+          c.loop-v.frontier (g.R.RowView.puts c.loop-v.view) (g.R.RowView.seen c.loop-v.view) c.args.table.now (c.requires.root h root) (inv.growth h root) (inv.complete h root) inv.seen c.in-Some.v c.in-Some.found c.in-Some.ensures.queued c.in-Some.ensures.nearest
+          offered.found.0 found (g.R.RowView.puts c.offer-in-Some.new.self) offered.puts offered.others_puts c.arcs.result.now c.arcs.ensures.joined c.relax.new.frontier relaxed offered.found.2;
+      seen = StillStand-found (g.R.RowView.seen c.args.view.now) (g.R.RowView.seen c.loop-v.view) (g.R.RowView.seen c.offer-in-Some.new.self) c.in-Some.v offered.found.0 (record { pos = c.args.p; dist = c.in-Some.found.dist } ∷ []) inv.seen found.goes_on offered.found.3 offered.others_seen;
+      counted = omega (arith, inv.counted, entries-put c.args.ranking.now (g.R.RowView.puts c.loop-v.view) (g.R.RowView.puts c.offer-in-Some.new.self) c.in-Some.v (record { pos = c.args.p; dist = c.in-Some.found.dist }) c.requires.ranking t.from_one (omega (arith, t.up_to_n, c.requires.ranked)) offered.puts offered.others_puts);
+      few = omega (arith, unsettled-same c.relax.new.frontier (settled c.loop-v.frontier c.in-Some.v c.in-Some.found) relaxed.size relaxed.settled, unsettled-settled c.loop-v.frontier c.in-Some.v c.in-Some.found c.in-Some.ensures.queued, inv.few);
+    }
+
+pub returns-in_err-relax-clause-pruned : goal.returns-in_err-relax-clause-pruned
+returns-in_err-relax-clause-pruned g c =
+    let up = (goal.at.returns-in_err-relax-clause-pruned g c).In-Some in
+    let offered = c.in-Put.ensures in
+    IsPruned-from_growth (Joined c.args.graph.now.edges) c.args.ranking.now c.at.result c.args.p (g.R.RowView.puts c.args.view.now) (settled c.loop-v.frontier c.in-Some.v c.in-Some.found) (g.R.RowView.puts c.offer-in-Some.new.self)
+    (growth_put g up offered.found.0 (g.R.RowView.puts c.offer-in-Some.new.self) (found_here g up offered.found.0 offered.found.1) offered.puts offered.others_puts c.at.result c.at.ensures.value) c.at.ensures.value
+
+pub returns-in-NoMemory-clause-pruned : goal.returns-in-NoMemory-clause-pruned
+returns-in-NoMemory-clause-pruned g c =
+    let up = (goal.at.returns-in-NoMemory-clause-pruned g c).In-Some in
+    let offered = c.in-NoMemory.ensures in
+    let same = same_at_all (g.R.RowView.puts c.loop-v.view) (g.R.RowView.puts c.offer-in-Some.new.self) c.in-Some.v offered.puts offered.others_puts in
+    IsPruned-from_growth (Joined c.args.graph.now.edges) c.args.ranking.now c.at.result c.args.p (g.R.RowView.puts c.args.view.now) (settled c.loop-v.frontier c.in-Some.v c.in-Some.found) (g.R.RowView.puts c.offer-in-Some.new.self)
+    (growth_over g up offered.found.0 (g.R.RowView.puts c.offer-in-Some.new.self) (found_here g up offered.found.0 offered.found.1) same c.at.result c.at.ensures.value) c.at.ensures.value
+
+pub returns-clause-pruned : goal.returns-clause-pruned
+returns-clause-pruned g c =
+    IsPruned-from_growth (Joined c.args.graph.now.edges) c.args.ranking.now c.at.result c.args.p (g.R.RowView.puts c.args.view.now) c.loop-v.frontier (g.R.RowView.puts c.loop-v.view) (c.loop-v.invariant.growth c.at.result c.at.ensures.value) c.at.ensures.value
+
+pub returns-clause-complete : goal.returns-clause-complete
+returns-clause-complete g c = λ h v d root hub.
+    all_gained (Joined c.args.graph.now.edges) (weights_positive c.args.graph.now.n c.args.graph.now.edges c.requires.graph) c.args.ranking.now h c.args.p (root_position c.args.ranking.now h c.args.p c.requires.ranking root) (g.R.RowView.puts c.args.view.now) (g.R.RowView.seen c.args.view.now)
+    c.loop-v.frontier (g.R.RowView.puts c.loop-v.view) (c.loop-v.invariant.complete h root) (λ x f queued. c.in_default.ensures.none x f queued) v d hub
+
+pub returns-clause-exact : goal.returns-clause-exact
+returns-clause-exact g c = λ higher h v d root from_one gained. (c.loop-v.invariant.complete h root).exact v d from_one gained higher

@@ -1,0 +1,127 @@
+ghost use Rattle.std.specs.Prelude.{◌≡◌, ℕ, ◌+◌, ◌^◌, ◌<◌, ◌≤◌, All, Some, length, slice_get, IfOk, OnOk};
+ghost use Rattle.walk_laws.specs.Canonical.{IsCanonical};
+ghost use Rattle.walk_laws.specs.Graph.{IsGraph};
+ghost use Rattle.walk_laws.specs.Joined.{Joined};
+ghost use Rattle.walk_laws.specs.Ranking.{IsRanking};
+ghost use Rattle.pruned_tree.specs.Grown.{Gains, IsPruned, HoldsHigher, entries_of};
+ghost use Rattle.pruned_tree.specs.Loaded.{IsRootTable};
+ghost use Rattle.pruned_tree.specs.Relaxed.{IsRelaxed};
+
+use crate::bare::Bare;
+use crate::work::Work;
+use frontier::Frontier;
+use hub_index::{Entry, Offer, RootTable, RowView};
+use rank_table::Ranking;
+use std::alloc::{AllocError, Global};
+use walk_laws::{Arc, Graph};
+
+/// Grows the pruned tree of the root at the position `p`, which counts from 0, and answers how many entries it put.
+///
+/// It takes nodes by rising distance from the root, but none that ranks above it, and offers each the root's entry; where
+/// that is put, the node's arcs are gone along. Whatever rows the view finds, the root is put as a hub of each node for
+/// which it is canonical; over rows that have all hubs that rank above it, as a hub of no other. The only error is that
+/// memory ran out; the entries put by then stay.
+pub fn grow<R: RowView>(
+    _alloc: Global,
+    graph: &Graph,
+    ranking: &Ranking,
+    p: u32,
+    view: &mut R,
+    work: &mut Work,
+) -> Result<u32, AllocError>
+    requires nodes { work.old ≡ graph.now.n }
+    requires ranked { length ranking.now ≡ graph.now.n }
+    requires position { p < length ranking.now }
+    requires edges { R.edges view.old ≡ graph.now.edges }
+    requires order { R.order view.old ≡ ranking.now }
+    ensures same { work.new ≡ work.old }
+    ensures edges { R.edges view.new ≡ graph.now.edges }
+    ensures order { R.order view.new ≡ ranking.now }
+    ensures pruned { IsPruned (Joined graph.now.edges) ranking.now (R.puts view.old) (R.puts view.new) p }
+    ensures count { IfOk result (λ count. entries_of ranking.now (R.puts view.new) ≡ entries_of ranking.now (R.puts view.old) + count) }
+    ensures complete { IfOk result (λ _. (h v d : ℕ) → slice_get ranking.now p ≡ Some h
+        → IsCanonical (Joined graph.now.edges) ranking.now h v d → Gains (R.puts view.old) (R.puts view.new) p v d) }
+    ensures exact { IfOk result (λ _. HoldsHigher (Joined graph.now.edges) ranking.now p (R.seen view.old)
+        → (h v d : ℕ) → slice_get ranking.now p ≡ Some h → 1 ≤ v → Gains (R.puts view.old) (R.puts view.new) p v d
+        → IsCanonical (Joined graph.now.edges) ranking.now h v d) }
+{
+    let nodes = graph.n();
+    prove!(nodes == work.n);
+    let ranked = ranking.n();
+    prove!(ranked == nodes);
+    view.load_root(ranking.at(p), &mut work.table);
+    grow_from(&mut work.frontier, graph, ranking, p, view, &work.table)
+}
+
+/// Grows the tree in a frontier for the nodes of the graph, whatever it held before, where the table has the distances of
+/// the row that was last seen of the root.
+fn grow_from<R: RowView>(
+    frontier: &mut Frontier<Bare>,
+    graph: &Graph,
+    ranking: &Ranking,
+    p: u32,
+    view: &mut R,
+    table: &RootTable,
+) -> Result<u32, AllocError>
+    requires nodes { length frontier.old ≡ graph.now.n + 1 }
+    requires size { length table.now ≡ graph.now.n }
+    requires graph { IsGraph graph.now.n graph.now.edges }
+    requires ranked { length ranking.now ≡ graph.now.n }
+    requires ranking { IsRanking ranking.now }
+    requires position { p < length ranking.now }
+    requires edges { R.edges view.old ≡ graph.now.edges }
+    requires order { R.order view.old ≡ ranking.now }
+    requires root { (h : ℕ) → slice_get ranking.now p ≡ Some h
+        → IsRootTable (Joined graph.now.edges) ranking.now h (R.seen view.old h) table.now }
+    ensures same { length frontier.new ≡ length frontier.old }
+    ensures edges { R.edges view.new ≡ graph.now.edges }
+    ensures order { R.order view.new ≡ ranking.now }
+    ensures pruned { IsPruned (Joined graph.now.edges) ranking.now (R.puts view.old) (R.puts view.new) p }
+    ensures count { IfOk result (λ count. entries_of ranking.now (R.puts view.new) ≡ entries_of ranking.now (R.puts view.old) + count) }
+    ensures complete { IfOk result (λ _. (h v d : ℕ) → slice_get ranking.now p ≡ Some h
+        → IsCanonical (Joined graph.now.edges) ranking.now h v d → Gains (R.puts view.old) (R.puts view.new) p v d) }
+    ensures exact { IfOk result (λ _. HoldsHigher (Joined graph.now.edges) ranking.now p (R.seen view.old)
+        → (h v d : ℕ) → slice_get ranking.now p ≡ Some h → 1 ≤ v → Gains (R.puts view.old) (R.puts view.new) p v d
+        → IsCanonical (Joined graph.now.edges) ranking.now h v d) }
+{
+    frontier.clear();
+    frontier.offer(ranking.at(p), 0, Bare {})?;
+    let mut count = 0;
+    while let Some((v, found)) = frontier.take() {
+        let entry = Entry {
+            pos: p,
+            dist: found.dist,
+        };
+        match view.offer(v, entry, table) {
+            Offer::Put => {}
+            Offer::Covered { .. } => continue,
+            Offer::NoMemory => return Err(AllocError),
+        }
+        count += 1;
+        relax(frontier, graph.arcs(v), ranking, p, found.dist)?;
+    }
+    Ok(count)
+}
+
+/// Offers the walks along the arcs of a node that is `dist` from the root at the position `p` to the nodes at their ends
+/// that don't rank above the root.
+fn relax(
+    frontier: &mut Frontier<Bare>,
+    arcs: &[Arc],
+    ranking: &Ranking,
+    p: u32,
+    dist: u64,
+) -> Result<(), AllocError>
+    requires ends { All (λ a. (1 ≤ a.to) × (a.to ≤ length ranking.now)) arcs.now }
+    requires fits { All (λ a. dist + a.w < 2 ^ 64) arcs.now }
+    requires nodes { length frontier.old ≡ length ranking.now + 1 }
+    ensures same { length frontier.new ≡ length frontier.old }
+    ensures relaxed { OnOk result (IsRelaxed ranking.now p dist (length arcs.now) arcs.now frontier.old frontier.new) }
+{
+    for arc in arcs {
+        if ranking.pos(arc.to) >= p {
+            frontier.offer(arc.to, dist + arc.w, Bare {})?;
+        }
+    }
+    Ok(())
+}
