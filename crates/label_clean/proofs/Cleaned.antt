@@ -1,0 +1,161 @@
+-- In tables that hold every hub up to a position, exactly the hubs' entries are not needless.
+use Rattle.std.proofs.Common.{◌≡◌, ◌↔◌, ℕ, ◌<◌, ◌≤◌, List, [], ◌++◌, Contains, length, map, refl, sym, subst, ◌∙◌, inl, inr, arith}
+use Rattle.std.specs.Prelude.{Some, slice_get, Result, Ok, Err, IfOk}
+use Rattle.std.specs.List.Sorted.{IsStrictlyIncreasing}
+use Rattle.std.proofs.lemmas.List.Elements.{All-contains, Contains-append_left, Contains-append_right, Contains-append_cases}
+use Rattle.std.proofs.lemmas.Option.{get_or_from_slice_get, slice_get_within, same_Some}
+use Rattle.walk_laws.specs.declared.graph.Edge.{Edge}
+use Rattle.walk_laws.specs.declared.entry.Entry.{Entry}
+use Rattle.walk_laws.specs.Joined.{Joined}
+use Rattle.walk_laws.specs.Walk.{HasWalk}
+use Rattle.walk_laws.specs.Canonical.{IsCanonical}
+use Rattle.walk_laws.specs.Cover.{CoveringHub}
+use Rattle.walk_laws.specs.Ranking.{IsRanking, RanksAbove, position_of}
+use Rattle.walk_laws.specs.Labelling.{EntryFits, IsHubEntry, label_row}
+use Rattle.walk_laws.proofs.Members.{Contains-empty}
+use Rattle.walk_laws.proofs.Positions.{position-get_or, slice_get-at_position}
+use Rattle.walk_laws.proofs.JoinedEdges.{Joined-sym}
+use Rattle.walk_laws.proofs.JoinedDecisions.{IsCanonical-or_joined_cover}
+use Rattle.walk_laws.proofs.CanonicalHubs.{IsCanonical-no_cover}
+use Rattle.label_clean.specs.RawRows.{both_rows}
+use Rattle.label_clean.specs.Needless.{IsNeedless, IsSurvivingRow}
+use Rattle.label_clean.specs.Sorted.{IsSortedRow}
+use Rattle.label_clean.specs.Below.{HoldsBelow, IsRowBelow, IsChlBelow}
+use Rattle.label_clean.proofs.Covering.{pos_of, entry, covered, IsCovered-more}
+use Rattle.label_clean.proofs.RowFacts.{same_entry}
+
+module _ (at : List ℕ) (ranking : IsRanking at) where
+  hub_place : (p h : ℕ) → slice_get at p ≡ Some h → position_of at h ≡ p
+  hub_place p h is =
+      subst (λ y. position_of at y ≡ p) (get_or_from_slice_get at p h 0 is) (position-get_or at p 0 ranking.once (slice_get_within at p h is))
+
+  hub_node : (p h : ℕ) → slice_get at p ≡ Some h → (1 ≤ h) × (h ≤ length at)
+  hub_node p h is =
+      let node = ranking.node p 0 (slice_get_within at p h is) in
+      subst (λ y. (1 ≤ y) × (y ≤ length at)) (get_or_from_slice_get at p h 0 is) node
+
+  -- tables with more entries make as much needless
+  pub IsNeedless-more : (global raw others later : List (List Entry)) → ((v : ℕ) → 1 ≤ v → v ≤ length at → (e : Entry) → Contains (both_rows global raw v) e → Contains (both_rows others later v) e) → (v : ℕ) → 1 ≤ v → v ≤ length at → (e : Entry) → IsNeedless at global raw v e → IsNeedless at others later v e
+  IsNeedless-more global raw others later more v from_one up_to_n e n =
+      let node = hub_node e.pos n.hub n.hub_is in
+      record {
+        hub = n.hub;
+        hub_is = n.hub_is;
+        covered = IsCovered-more (both_rows global raw n.hub) (both_rows global raw v) (both_rows others later n.hub) (both_rows others later v) e.pos e.dist (more n.hub node.0 node.1) (more v from_one up_to_n) n.covered;
+      }
+
+  module _ (edges : List Edge) (c : ℕ) (global raw : List (List Entry)) (holds : HoldsBelow edges at c global raw) (v : ℕ) (from_one : 1 ≤ v) (up_to_n : v ≤ length at) where
+    -- no hub's entry is needless
+    pub hub_stays : (e : Entry) → IsHubEntry (Joined edges) at v e → IsNeedless at global raw v e → ⊥
+    hub_stays e hub n =
+        let h = n.hub in
+        let q = n.covered.position in
+        let a = n.covered.shared.before in
+        let b = n.covered.shared.after in
+        let node = hub_node e.pos h n.hub_is in
+        let is_hub : IsCanonical (Joined edges) at h v e.dist = subst (λ x. IsCanonical (Joined edges) at x v e.dist) (same_Some hub.0 h (sym hub.1 ∙ n.hub_is)) hub.2 in
+        let to_hub : EntryFits (Joined edges) at h (entry q a) = All-contains (EntryFits (Joined edges) at h) (both_rows global raw h) (entry q a) (holds.fit h node.0 node.1) n.covered.shared.in_first in
+        let to_node : EntryFits (Joined edges) at v (entry q b) = All-contains (EntryFits (Joined edges) at v) (both_rows global raw v) (entry q b) (holds.fit v from_one up_to_n) n.covered.shared.in_second in
+        let one : to_node.walk.0 ≡ to_hub.walk.0 = same_Some to_node.walk.0 to_hub.walk.0 (sym to_node.walk.1 ∙ to_hub.walk.1) in
+        let on_to_node : HasWalk (Joined edges) to_hub.walk.0 v b = subst (λ x. HasWalk (Joined edges) x v b) one to_node.walk.2 in
+        let above : RanksAbove at to_hub.walk.0 h = omega (arith, hub_place q to_hub.walk.0 to_hub.walk.1, hub_place e.pos h n.hub_is, n.covered.above) in
+        IsCanonical-no_cover (Joined edges) at (Joined-sym edges) h v to_hub.walk.0 e.dist a b is_hub above to_hub.walk.2 on_to_node (omega (arith, n.covered.shared.long, n.covered.short))
+
+    cover_stands : (e : Entry) (h : ℕ) → slice_get at e.pos ≡ Some h → e.pos < c → CoveringHub (Joined edges) at h v e.dist → IsNeedless at global raw v e
+    cover_stands e h is below cover =
+        let p = position_of at cover.hub in
+        let node = hub_node e.pos h is in
+        let above : p < e.pos = omega (arith, cover.above, hub_place e.pos h is) in
+        let stands = slice_get-at_position at cover.hub (omega (arith, above, slice_get_within at e.pos h is)) in
+        record {
+          hub = h;
+          hub_is = is;
+          covered = covered (both_rows global raw h) (both_rows global raw v) e.pos e.dist p cover.before cover.after above
+              (holds.hubs h node.0 node.1 (entry p cover.before) (cover.hub, stands, cover.to_start) (omega (arith, above, below)))
+              (holds.hubs v from_one up_to_n (entry p cover.after) (cover.hub, stands, cover.to_end) (omega (arith, above, below))) cover.short;
+        }
+
+    -- and each other entry is
+    pub others_go : (e : Entry) → Contains (both_rows global raw v) e → (IsNeedless at global raw v e → ⊥) → IsHubEntry (Joined edges) at v e
+    others_go e there kept =
+        let fits : EntryFits (Joined edges) at v e = All-contains (EntryFits (Joined edges) at v) (both_rows global raw v) e (holds.fit v from_one up_to_n) there in
+        let below : e.pos < c = All-contains (λ (x : Entry). x.pos < c) (both_rows global raw v) e (holds.below v from_one up_to_n) there in
+        let h = fits.walk.0 in
+        let node = hub_node e.pos h fits.walk.1 in
+        elim (IsCanonical-or_joined_cover edges holds.weights at ranking h v e.dist node.0 node.1 fits.walk.2) [
+          | inr cover ↦ absurd (kept (cover_stands e h fits.walk.1 below cover))
+          | inl hub ↦
+              let stands = holds.hubs v from_one up_to_n (entry e.pos hub.0) (h, fits.walk.1, hub.2) below in
+              let same : entry e.pos hub.0 ≡ e = same_entry (both_rows global raw v) (entry e.pos hub.0) e (holds.once v from_one up_to_n) stands there refl in
+              subst (IsHubEntry (Joined edges) at v) same (h, fits.walk.1, hub.2)
+        ]
+
+    -- so the entries of both tables that are not needless are the hubs
+    pub IsRowBelow-from_kept : (row : List Entry) → IsStrictlyIncreasing (map pos_of row) → ((e : Entry) → Contains row e ↔ (Contains (both_rows global raw v) e × (IsNeedless at global raw v e → ⊥))) → IsRowBelow edges at c v row
+    IsRowBelow-from_kept row rising each = record {
+      rising = rising;
+      each = λ e. (
+        λ here. let kept = (each e).0 here in (others_go e kept.0 kept.1, All-contains (λ (x : Entry). x.pos < c) (both_rows global raw v) e (holds.below v from_one up_to_n) kept.0),
+        λ hub. (each e).1 (holds.hubs v from_one up_to_n e hub.0 hub.1, hub_stays e hub.0),
+      );
+    }
+
+-- the raw rows as they are tested: sorted, beside the global ones
+module _ (at : List ℕ) (ranking : IsRanking at) (none sorted : List (List Entry)) (none_is : (v : ℕ) → 1 ≤ v → v ≤ length at → label_row none v ≡ []) where
+  -- behind an empty row stands nothing new
+  beside_none : (others : List (List Entry)) (v : ℕ) (e : Entry) → 1 ≤ v → v ≤ length at → Contains (both_rows none others v) e → Contains (label_row others v) e
+  beside_none others v e from_one up_to_n h = elim (Contains-append_cases (label_row none v) (label_row others v) e h) [
+    | inl here ↦ absurd (Contains-empty e (subst (λ row. Contains row e) (none_is v from_one up_to_n) here))
+    | inr there ↦ there
+  ]
+
+  module _ (global raw : List (List Entry)) where
+    -- where all rows are sorted together, what is kept of them is the labelling up to the position
+    module _ (sorted_is : (v : ℕ) → 1 ≤ v → v ≤ length at → IsSortedRow (both_rows global raw v) (label_row sorted v)) where
+      all_there : (v : ℕ) → 1 ≤ v → v ≤ length at → (e : Entry) → Contains (both_rows none sorted v) e → Contains (both_rows global raw v) e
+      all_there v from_one up_to_n e h = ((sorted_is v from_one up_to_n).each e).0 (beside_none sorted v e from_one up_to_n h)
+
+      all_back : (v : ℕ) → 1 ≤ v → v ≤ length at → (e : Entry) → Contains (both_rows global raw v) e → Contains (both_rows none sorted v) e
+      all_back v from_one up_to_n e h = Contains-append_right (label_row none v) (label_row sorted v) e (((sorted_is v from_one up_to_n).each e).1 h)
+
+      pub IsChlBelow-from_surviving : (rows : List (List Entry)) → length rows ≡ length at → ((v : ℕ) → 1 ≤ v → v ≤ length at → IsSurvivingRow at none sorted v (label_row rows v)) → (edges : List Edge) (c : ℕ) → HoldsBelow edges at c global raw → IsChlBelow edges at c rows
+      IsChlBelow-from_surviving rows size survive edges c holds = record {
+        size = size;
+        row = λ v from_one up_to_n.
+            let row = survive v from_one up_to_n in
+            IsRowBelow-from_kept at ranking edges c global raw holds v from_one up_to_n (label_row rows v) row.rising (λ e. (
+              λ here. let known = (row.each e).0 here in (((sorted_is v from_one up_to_n).each e).0 known.0, λ needless. known.1 (IsNeedless-more at ranking global raw none sorted all_back v from_one up_to_n e needless)),
+              λ kept. (row.each e).1 (((sorted_is v from_one up_to_n).each e).1 kept.0, λ needless. kept.1 (IsNeedless-more at ranking none sorted global raw all_there v from_one up_to_n e needless)),
+            ));
+      }
+
+    -- where the raw rows are sorted by themselves, the same of them is kept
+    module _ (sorted_is : (v : ℕ) → 1 ≤ v → v ≤ length at → IsSortedRow (both_rows none raw v) (label_row sorted v)) where
+      pub raw_there : (v : ℕ) → 1 ≤ v → v ≤ length at → (e : Entry) → Contains (label_row sorted v) e → Contains (label_row raw v) e
+      raw_there v from_one up_to_n e h = beside_none raw v e from_one up_to_n (((sorted_is v from_one up_to_n).each e).0 h)
+
+      raw_back : (v : ℕ) → 1 ≤ v → v ≤ length at → (e : Entry) → Contains (label_row raw v) e → Contains (label_row sorted v) e
+      raw_back v from_one up_to_n e h = ((sorted_is v from_one up_to_n).each e).1 (Contains-append_right (label_row none v) (label_row raw v) e h)
+
+      beside : (xs ys zs : List Entry) → ((e : Entry) → Contains ys e → Contains zs e) → (e : Entry) → Contains (xs ++ ys) e → Contains (xs ++ zs) e
+      beside xs ys zs more e h = elim (Contains-append_cases xs ys e h) [ inl here ↦ Contains-append_left xs zs e here | inr there ↦ Contains-append_right xs zs e (more e there) ]
+
+      pub IsSurvivingRow-from_sorted : (v : ℕ) (row : List Entry) → 1 ≤ v → v ≤ length at → IsSurvivingRow at global sorted v row → IsSurvivingRow at global raw v row
+      IsSurvivingRow-from_sorted v row from_one up_to_n is = record {
+        rising = is.rising;
+        each = λ e. (
+          λ here. let known = (is.each e).0 here in (raw_there v from_one up_to_n e known.0, λ needless. known.1 (IsNeedless-more at ranking global raw global sorted (λ x low high. beside (label_row global x) (label_row raw x) (label_row sorted x) (raw_back x low high)) v from_one up_to_n e needless)),
+          λ kept. (is.each e).1 (raw_back v from_one up_to_n e kept.0, λ needless. kept.1 (IsNeedless-more at ranking global sorted global raw (λ x low high. beside (label_row global x) (label_row sorted x) (label_row raw x) (raw_there x low high)) v from_one up_to_n e needless)),
+        );
+      }
+
+-- what survives are the hubs of the raw rows
+pub surviving_hubs : (at : List ℕ) (ranking : IsRanking at) (edges : List Edge) (c : ℕ) (global raw : List (List Entry)) → HoldsBelow edges at c global raw → (v : ℕ) → 1 ≤ v → v ≤ length at → (row : List Entry) → IsSurvivingRow at global raw v row → (e : Entry) → Contains row e ↔ (Contains (label_row raw v) e × IsHubEntry (Joined edges) at v e)
+surviving_hubs at ranking edges c global raw holds v from_one up_to_n row is e = (
+  λ here. let known = (is.each e).0 here in (known.0, others_go at ranking edges c global raw holds v from_one up_to_n e (Contains-append_right (label_row global v) (label_row raw v) e known.0) known.1),
+  λ hub. (is.each e).1 (hub.0, hub_stays at ranking edges c global raw holds v from_one up_to_n e hub.1),
+)
+
+pub both_ok : {T E : Type 0} (r : Result T E) (P Q S : T → Type 0) → IfOk r P → IfOk r Q → ((x : T) → P x → Q x → S x) → IfOk r S
+both_ok (Ok x) P Q S p q f = f x p q
+both_ok (Err e) P Q S p q f = tt

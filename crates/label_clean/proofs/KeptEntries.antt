@@ -1,0 +1,99 @@
+-- What is kept of a row, entry by entry.
+use Rattle.std.proofs.Common.{◌≡◌, ◌↔◌, ℕ, ◌+◌, ◌<◌, ◌≤◌, List, [], ◌∷◌, ◌++◌, Contains, length, map, get_or, take, sym, ap, subst, ◌∙◌, inl, inr, arith, add-one}
+use Rattle.std.specs.List.Sorted.{IsStrictlyIncreasing}
+use Rattle.std.proofs.Math.Seq.{take-suc}
+use Rattle.std.proofs.lemmas.List.{take_all, length-map, length-take, get_or-map, get_or-take, map-append}
+use Rattle.std.proofs.lemmas.List.Elements.{Contains-append_left, Contains-append_right, Contains-append_cases, Contains-get_or}
+use Rattle.std.proofs.lemmas.List.Kept.{AllPairs-from_increasing}
+use Rattle.std.proofs.lemmas.List.Quantifiers.{all_pairs_push}
+use Rattle.walk_laws.specs.declared.entry.Entry.{Entry}
+use Rattle.walk_laws.proofs.LabelRows.{Rises}
+use Rattle.walk_laws.proofs.Members.{Contains-first, Contains-cons_cases, Contains-empty}
+use Rattle.label_clean.proofs.Covering.{pos_of}
+
+-- the row without the entries of one kind
+pub record IsKept (P : Entry → Type 0) (row kept : List Entry) : Type 0 where
+  pub rises : Rises pos_of kept
+  pub each : (e : Entry) → Contains kept e ↔ (Contains row e × ¬ P e)
+
+-- a rising row still rises with an entry behind it that is above all others
+Rises-push : (xs : List Entry) (x : Entry) → Rises pos_of xs → ((e : Entry) → Contains xs e → e.pos < x.pos) → Rises pos_of (xs ++ x ∷ [])
+Rises-push xs x up below =
+    subst (λ ks. (i j d : ℕ) → i < j → j < length ks → get_or ks i d < get_or ks j d) (sym (map-append pos_of xs (x ∷ [])))
+    (all_pairs_push (λ a b. a < b) (map pos_of xs) x.pos up far)
+  where
+    far : (k d : ℕ) → k < length (map pos_of xs) → get_or (map pos_of xs) k d < x.pos
+    far k d lt =
+        let within : k < length xs = omega (arith, length-map xs pos_of) in
+        omega (arith, get_or-map pos_of xs k x d within, below (get_or xs k x) (Contains-get_or xs k x within))
+
+-- in a rising row the entries before a place are below the one that stands there
+before_place : (row : List Entry) (i : ℕ) (d e : Entry) → IsStrictlyIncreasing (map pos_of row) → i < length row → Contains (take i row) e → e.pos < (get_or row i d).pos
+before_place row i d e rising within (k, k_within, is) =
+    let before : k < i = omega (arith, length-take i row) in
+    let there : get_or row k e ≡ e = sym (get_or-take i row k e before) ∙ is in
+    let up = AllPairs-from_increasing (map pos_of row) rising k i 0 before (omega (arith, length-map row pos_of)) in
+    omega (arith, up, get_or-map pos_of row k e 0 (omega arith), get_or-map pos_of row i d 0 within, ap pos_of there)
+
+module _ (P : Entry → Type 0) where
+  pub IsKept-none : IsKept P [] []
+  IsKept-none = record {
+    rises = λ i j d lt within. absurd (omega (arith, within));
+    each = λ e. (λ h. absurd (Contains-empty e h), λ h. absurd (Contains-empty e h.0));
+  }
+
+  one_more_kept : (row kept : List Entry) (x : Entry) → IsKept P row kept → ((e : Entry) → Contains row e → e.pos < x.pos) → ¬ P x → IsKept P (row ++ x ∷ []) (kept ++ x ∷ [])
+  one_more_kept row kept x so_far below good = record {
+    rises = Rises-push kept x so_far.rises (λ e h. below e ((so_far.each e).0 h).0);
+    each = λ e. (there e, back e);
+  }
+    where
+      there : (e : Entry) → Contains (kept ++ x ∷ []) e → Contains (row ++ x ∷ []) e × ¬ P e
+      there e h = elim (Contains-append_cases kept (x ∷ []) e h) [
+        | inl earlier ↦ let known = (so_far.each e).0 earlier in (Contains-append_left row (x ∷ []) e known.0, known.1)
+        | inr last ↦ elim (Contains-cons_cases x e [] last) [
+          | inl same ↦ subst (λ y. Contains (row ++ x ∷ []) y × ¬ P y) same (Contains-append_right row (x ∷ []) x (Contains-first x []), good)
+          | inr none ↦ absurd (Contains-empty e none)
+        ]
+      ]
+
+      back : (e : Entry) → Contains (row ++ x ∷ []) e × ¬ P e → Contains (kept ++ x ∷ []) e
+      back e h = elim (Contains-append_cases row (x ∷ []) e h.0) [
+        | inl earlier ↦ Contains-append_left kept (x ∷ []) e ((so_far.each e).1 (earlier, h.1))
+        | inr last ↦ Contains-append_right kept (x ∷ []) e last
+      ]
+
+  one_left_out : (row kept : List Entry) (x : Entry) → IsKept P row kept → P x → IsKept P (row ++ x ∷ []) kept
+  one_left_out row kept x so_far bad = record {
+    rises = so_far.rises;
+    each = λ e. (λ h. let known = (so_far.each e).0 h in (Contains-append_left row (x ∷ []) e known.0, known.1), back e);
+  }
+    where
+      back : (e : Entry) → Contains (row ++ x ∷ []) e × ¬ P e → Contains kept e
+      back e h = elim (Contains-append_cases row (x ∷ []) e h.0) [
+        | inl earlier ↦ (so_far.each e).1 (earlier, h.1)
+        | inr last ↦ elim (Contains-cons_cases x e [] last) [
+          | inl same ↦ absurd (h.1 (subst P same bad))
+          | inr none ↦ absurd (Contains-empty e none)
+        ]
+      ]
+
+  module _ (row kept : List Entry) (i : ℕ) (d : Entry) (within : i < length row) (so_far : IsKept P (take i row) kept) where
+    cut : take (i + 1) row ≡ take i row ++ get_or row i d ∷ []
+    cut = rw add-one (take-suc row i d within)
+
+    -- the entry at the place is kept
+    pub IsKept-with : IsStrictlyIncreasing (map pos_of row) → ¬ P (get_or row i d) → IsKept P (take (i + 1) row) (kept ++ get_or row i d ∷ [])
+    IsKept-with rising good =
+        subst (λ xs. IsKept P xs (kept ++ get_or row i d ∷ [])) (sym cut) (one_more_kept (take i row) kept (get_or row i d) so_far (λ e h. before_place row i d e rising within h) good)
+
+    -- or left out
+    pub IsKept-without : P (get_or row i d) → IsKept P (take (i + 1) row) kept
+    IsKept-without bad = subst (λ xs. IsKept P xs kept) (sym cut) (one_left_out (take i row) kept (get_or row i d) so_far bad)
+
+  -- behind the last entry the whole row has been gone through
+  pub IsKept-whole : (row kept : List Entry) (i : ℕ) → length row ≤ i → IsKept P (take i row) kept → IsKept P row kept
+  IsKept-whole row kept i over so_far = subst (λ xs. IsKept P xs kept) (take_all i row over) so_far
+
+  pub IsKept-rising : (row kept : List Entry) → IsKept P row kept → IsStrictlyIncreasing (map pos_of kept)
+  IsKept-rising row kept all k within = all.rises k (k + 1) 0 (omega arith) within

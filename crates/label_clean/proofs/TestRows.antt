@@ -1,0 +1,86 @@
+-- The rows of the tests may be cleaned.
+use Rattle.std.proofs.Common.{ℕ, zero, suc, ◌<◌, ◌≤◌, List, [], ◌∷◌, map, replicate, refl, arith, rules}
+use Rattle.std.specs.List.{IsDistinct, AllByRecursion}
+use Rattle.std.specs.List.Sorted.{IsStrictlyIncreasing}
+use Rattle.std.proofs.lemmas.List.Elements.{All-from_recursion}
+use Rattle.walk_laws.specs.declared.entry.Entry.{Entry}
+use Rattle.walk_laws.specs.Labelling.{label_row}
+use Rattle.walk_laws.specs.Ranking.{IsRanking}
+use Rattle.walk_laws.specs.Worked.{entry}
+use Rattle.label_clean.specs.RawRows.{HasEachOnce, IsRawRow, both_rows}
+use Rattle.label_clean.specs.Sorted.{RowsRise}
+
+-- the ten entries of the square
+abbrev pub ten : List (List Entry)
+ten = (entry 0 0 ∷ []) ∷ (entry 1 0 ∷ entry 0 1 ∷ []) ∷ (entry 1 1 ∷ entry 0 2 ∷ entry 2 0 ∷ []) ∷ (entry 1 2 ∷ entry 0 1 ∷ entry 2 1 ∷ entry 3 0 ∷ []) ∷ []
+
+-- those of the first two hubs, and of the other two
+abbrev pub two_hubs : List (List Entry)
+two_hubs = (entry 0 0 ∷ []) ∷ (entry 0 1 ∷ entry 1 0 ∷ []) ∷ (entry 0 2 ∷ entry 1 1 ∷ []) ∷ (entry 0 1 ∷ []) ∷ []
+
+abbrev pub later : List (List Entry)
+later = [] ∷ [] ∷ (entry 2 0 ∷ []) ∷ (entry 3 0 ∷ entry 2 1 ∷ []) ∷ []
+
+raw_row : (row : List Entry) → AllByRecursion (λ e. e.pos < 4) row → HasEachOnce row → IsRawRow 4 row
+raw_row row within once = record { within = All-from_recursion (λ (e : Entry). e.pos < 4) row within; once = once }
+
+pub ten_may : (v : ℕ) → 1 ≤ v → v ≤ 4 → IsRawRow 4 (label_row ten v)
+unfolding IsDistinct
+ten_may zero low high = absurd (omega (arith, low))
+ten_may (suc zero) low high = raw_row (label_row ten 1) (search rules) (search rules)
+ten_may (suc (suc zero)) low high = raw_row (label_row ten 2) (search rules) (search rules)
+ten_may (suc (suc (suc zero))) low high = raw_row (label_row ten 3) (search rules) (search rules)
+ten_may (suc (suc (suc (suc zero)))) low high = raw_row (label_row ten 4) (search rules) (search rules)
+ten_may (suc (suc (suc (suc (suc v))))) low high = absurd (omega (arith, high))
+
+pub ten_beside_none_may : (v : ℕ) → 1 ≤ v → v ≤ 4 → IsRawRow 4 (both_rows (replicate 4 []) ten v)
+unfolding IsDistinct
+ten_beside_none_may zero low high = absurd (omega (arith, low))
+ten_beside_none_may (suc zero) low high = raw_row (label_row ten 1) (search rules) (search rules)
+ten_beside_none_may (suc (suc zero)) low high = raw_row (label_row ten 2) (search rules) (search rules)
+ten_beside_none_may (suc (suc (suc zero))) low high = raw_row (label_row ten 3) (search rules) (search rules)
+ten_beside_none_may (suc (suc (suc (suc zero)))) low high = raw_row (label_row ten 4) (search rules) (search rules)
+ten_beside_none_may (suc (suc (suc (suc (suc v))))) low high = absurd (omega (arith, high))
+
+pub both_may : (v : ℕ) → 1 ≤ v → v ≤ 4 → IsRawRow 4 (both_rows two_hubs later v)
+unfolding IsDistinct
+both_may zero low high = absurd (omega (arith, low))
+both_may (suc zero) low high = raw_row (both_rows two_hubs later 1) (search rules) (search rules)
+both_may (suc (suc zero)) low high = raw_row (both_rows two_hubs later 2) (search rules) (search rules)
+both_may (suc (suc (suc zero))) low high = raw_row (both_rows two_hubs later 3) (search rules) (search rules)
+both_may (suc (suc (suc (suc zero)))) low high = raw_row (both_rows two_hubs later 4) (search rules) (search rules)
+both_may (suc (suc (suc (suc (suc v))))) low high = absurd (omega (arith, high))
+
+pub later_may : (v : ℕ) → 1 ≤ v → v ≤ 4 → IsRawRow 4 (label_row later v)
+unfolding IsDistinct
+later_may zero low high = absurd (omega (arith, low))
+later_may (suc zero) low high = raw_row [] (search rules) (search rules)
+later_may (suc (suc zero)) low high = raw_row [] (search rules) (search rules)
+later_may (suc (suc (suc zero))) low high = raw_row (label_row later 3) (search rules) (search rules)
+later_may (suc (suc (suc (suc zero)))) low high = raw_row (label_row later 4) (search rules) (search rules)
+later_may (suc (suc (suc (suc (suc v))))) low high = absurd (omega (arith, high))
+
+rises_none : IsStrictlyIncreasing []
+rises_none k within = absurd (omega (arith, within))
+
+rises_one : (a : ℕ) → IsStrictlyIncreasing (a ∷ [])
+rises_one a k within = absurd (omega (arith, within))
+
+rises_two : (a b : ℕ) → a < b → IsStrictlyIncreasing (a ∷ b ∷ [])
+rises_two a b first zero within = first
+rises_two a b first (suc k) within = absurd (omega (arith, within))
+
+two_hubs_rise : (v : ℕ) → 1 ≤ v → v ≤ 4 → IsStrictlyIncreasing (map (λ e. e.pos) (label_row two_hubs v))
+two_hubs_rise zero low high = absurd (omega (arith, low))
+two_hubs_rise (suc zero) low high = rises_one 0
+two_hubs_rise (suc (suc zero)) low high = rises_two 0 1 (omega arith)
+two_hubs_rise (suc (suc (suc zero))) low high = rises_two 0 1 (omega arith)
+two_hubs_rise (suc (suc (suc (suc zero)))) low high = rises_one 0
+two_hubs_rise (suc (suc (suc (suc (suc v))))) low high = absurd (omega (arith, high))
+
+pub two_hubs_may : RowsRise 4 two_hubs
+two_hubs_may = record { size = refl; rising = two_hubs_rise }
+
+pub no_nodes : IsRanking []
+unfolding IsDistinct
+no_nodes = record { node = λ k d within. absurd (omega (arith, within)); once = search rules }

@@ -1,0 +1,126 @@
+ghost use Rattle.std.specs.Prelude.{◌≡◌, ℕ, [], ◌∷◌, IfOk};
+ghost use Rattle.walk_laws.specs.Worked.{entry as entry_of, first_four};
+
+use crate::{clean, survivors};
+use hub_index::RowList;
+use rank_table::Ranking;
+use std::alloc::Global;
+use std::test::Fail;
+use walk_laws::Entry;
+
+fn entry(pos: u32, dist: u64) -> Entry
+    ensures { result ≡ entry_of pos dist }
+{
+    Entry { pos, dist }
+}
+
+fn one_to_four(alloc: Global) -> Result<Ranking, Fail>
+    ensures { IfOk result (λ ranking. ranking ≡ first_four) }
+{
+    Ok(Ranking::new(alloc, vec![in alloc; 1, 2, 3, 4]?)?)
+}
+
+/// What trees of all four roots put in the square 1-2-3-4-1 of weights 1, of which a smaller number ranks higher, where
+/// that of 2 didn't see that of 1.
+fn ten_entries(alloc: Global) -> Result<RowList, Fail>
+    ensures { IfOk result (λ rows. rows ≡
+        (entry_of 0 0 ∷ [])
+        ∷ (entry_of 1 0 ∷ entry_of 0 1 ∷ [])
+        ∷ (entry_of 1 1 ∷ entry_of 0 2 ∷ entry_of 2 0 ∷ [])
+        ∷ (entry_of 1 2 ∷ entry_of 0 1 ∷ entry_of 2 1 ∷ entry_of 3 0 ∷ []) ∷ []) }
+{
+    let first = vec![in alloc; entry(0, 0)]?;
+    let second = vec![in alloc; entry(1, 0), entry(0, 1)]?;
+    let third = vec![in alloc; entry(1, 1), entry(0, 2), entry(2, 0)]?;
+    let fourth = vec![in alloc; entry(1, 2), entry(0, 1), entry(2, 1), entry(3, 0)]?;
+    let rows = vec![in alloc; first, second, third, fourth]?;
+    Ok(RowList::from_rows(rows))
+}
+
+/// The hubs 1 and 2 of the square's nodes, by rising position.
+fn first_two_hubs(alloc: Global) -> Result<RowList, Fail>
+    ensures { IfOk result (λ rows. rows ≡
+        (entry_of 0 0 ∷ [])
+        ∷ (entry_of 0 1 ∷ entry_of 1 0 ∷ [])
+        ∷ (entry_of 0 2 ∷ entry_of 1 1 ∷ [])
+        ∷ (entry_of 0 1 ∷ []) ∷ []) }
+{
+    let first = vec![in alloc; entry(0, 0)]?;
+    let second = vec![in alloc; entry(0, 1), entry(1, 0)]?;
+    let third = vec![in alloc; entry(0, 2), entry(1, 1)]?;
+    let fourth = vec![in alloc; entry(0, 1)]?;
+    let rows = vec![in alloc; first, second, third, fourth]?;
+    Ok(RowList::from_rows(rows))
+}
+
+/// What the roots 3 and 4 put.
+fn later_entries(alloc: Global) -> Result<RowList, Fail>
+    ensures { IfOk result (λ rows. rows ≡
+        [] ∷ [] ∷ (entry_of 2 0 ∷ []) ∷ (entry_of 3 0 ∷ entry_of 2 1 ∷ []) ∷ []) }
+{
+    let third = vec![in alloc; entry(2, 0)]?;
+    let fourth = vec![in alloc; entry(3, 0), entry(2, 1)]?;
+    let rows = vec![in alloc; Vec::new(alloc), Vec::new(alloc), third, fourth]?;
+    Ok(RowList::from_rows(rows))
+}
+
+/// Of the ten entries (1, 2) at node 4 alone is deleted.
+#[test]
+fn nine_of_ten_entries_stay(rt: HostRuntime) -> Result<(), Fail> {
+    let ranking = one_to_four(rt.alloc())?;
+    let none = RowList::new(rt.alloc(), 4)?;
+    let raw = ten_entries(rt.alloc())?;
+    let table: [&[Entry]; 4] = [
+        &[entry(0, 0)],
+        &[entry(0, 1), entry(1, 0)],
+        &[entry(0, 2), entry(1, 1), entry(2, 0)],
+        &[entry(0, 1), entry(2, 1), entry(3, 0)],
+    ];
+    let rows = clean(&rt, rt.alloc(), &ranking, &none, &raw)?;
+    let kept = survivors(&rt, rt.alloc(), &ranking, &none, &raw)?;
+    assert_eq!(rt; rows.n(), 4);
+    assert_eq!(rt; kept.n(), 4);
+    for (place, row) in table.iter().enumerate() {
+        let v = place as u32 + 1;
+        assert_eq!(rt; rows.row(v), *row, "{v}");
+        assert_eq!(rt; kept.row(v), *row, "{v}");
+    }
+    Ok(())
+}
+
+/// The same where the hubs 1 and 2 stand in the global table, and those of 3 and 4 are raw.
+#[test]
+fn a_global_table_is_gone_on_with(rt: HostRuntime) -> Result<(), Fail> {
+    let ranking = one_to_four(rt.alloc())?;
+    let global = first_two_hubs(rt.alloc())?;
+    let raw = later_entries(rt.alloc())?;
+    let table: [(&[Entry], &[Entry]); 4] = [
+        (&[entry(0, 0)], &[]),
+        (&[entry(0, 1), entry(1, 0)], &[]),
+        (&[entry(0, 2), entry(1, 1), entry(2, 0)], &[entry(2, 0)]),
+        (
+            &[entry(0, 1), entry(2, 1), entry(3, 0)],
+            &[entry(2, 1), entry(3, 0)],
+        ),
+    ];
+    let rows = clean(&rt, rt.alloc(), &ranking, &global, &raw)?;
+    let kept = survivors(&rt, rt.alloc(), &ranking, &global, &raw)?;
+    assert_eq!(rt; rows.n(), 4);
+    assert_eq!(rt; kept.n(), 4);
+    for (place, (row, later)) in table.iter().enumerate() {
+        let v = place as u32 + 1;
+        assert_eq!(rt; rows.row(v), *row, "{v}");
+        assert_eq!(rt; kept.row(v), *later, "{v}");
+    }
+    Ok(())
+}
+
+#[test]
+fn no_nodes_have_no_rows(rt: HostRuntime) -> Result<(), Fail> {
+    let ranking = Ranking::new(rt.alloc(), Vec::new(rt.alloc()))?;
+    let none = RowList::new(rt.alloc(), 0)?;
+    let raw = RowList::new(rt.alloc(), 0)?;
+    assert_eq!(rt; clean(&rt, rt.alloc(), &ranking, &none, &raw)?.n(), 0);
+    assert_eq!(rt; survivors(&rt, rt.alloc(), &ranking, &none, &raw)?.n(), 0);
+    Ok(())
+}
