@@ -3,14 +3,14 @@ use Rattle.std.proofs.Common.{◌≡◌, ℕ, List, [], ◌∷◌, ap, subst, ar
 use Rattle.std.specs.Prelude.{codes}
 use Rattle.chl_cmd.specs.Words.{AreBuildingOptions, AreTwoOptions, AsksFor}
 use Rattle.chl_cmd.specs.declared.words.asked.By.{By}
+use Rattle.chl_cmd.proofs.OptionalWords.{first_letter}
 use Rattle.chl_cmd.specs.declared.words.asked.Asked.{Asked}
 use Rattle.chl_cmd.specs.declared.words.asked.Asked.TheVariants.{List as ListRows, Build, Solve, Query}
 
 -- the first letter of the first word
-abbrev pub first_letter : List (List ℕ) → ℕ
-first_letter [] = 0
-first_letter ([] ∷ words) = 0
-first_letter ((letter ∷ word) ∷ words) = letter
+abbrev letter_of_words : List (List ℕ) → ℕ
+letter_of_words [] = 0
+letter_of_words (word ∷ words) = first_letter word
 
 -- two options of these names
 pub record HasTwo (first second : List ℕ) (words : List (List ℕ)) : Type 0 where
@@ -38,19 +38,19 @@ building_of third words options graph order file by workers cut same are =
 pub asks_to_list : (words : List (List ℕ)) (asked : Asked) → AsksFor (codes "list" ∷ words) asked → HasTwo (codes "--graph") (codes "--order") words
 asks_to_list words (ListRows graph order) asks =
     two_options_of (codes "--graph") (codes "--order") words asks.0 graph order (let e = asks.1 in cc) asks.2
-asks_to_list words other asks = absurd (omega (arith, ap first_letter asks.1))
+asks_to_list words other asks = absurd (omega (arith, ap letter_of_words asks.1))
 
 pub asks_to_build : (words : List (List ℕ)) (asked : Asked) → AsksFor (codes "build" ∷ words) asked → HasBuilding (codes "--out") words
 asks_to_build words (Build graph order out by workers cut) asks =
     building_of (codes "--out") words asks.0 graph order out by workers cut (let e = asks.1 in cc) asks.2
-asks_to_build words other asks = absurd (omega (arith, ap first_letter asks.1))
+asks_to_build words other asks = absurd (omega (arith, ap letter_of_words asks.1))
 
 pub asks_to_solve : (words : List (List ℕ)) (asked : Asked) → AsksFor (codes "solve" ∷ words) asked → HasBuilding (codes "--pairs") words
 asks_to_solve words (Solve graph order pairs by workers cut) asks =
     building_of (codes "--pairs") words asks.0 graph order pairs by workers cut (let e = asks.1 in cc) asks.2
-asks_to_solve words other asks = absurd (omega (arith, ap first_letter asks.1))
+asks_to_solve words other asks = absurd (omega (arith, ap letter_of_words asks.1))
 
 pub asks_to_query : (words : List (List ℕ)) (asked : Asked) → AsksFor (codes "query" ∷ words) asked → HasTwo (codes "--index") (codes "--pairs") words
 asks_to_query words (Query index pairs) asks =
     two_options_of (codes "--index") (codes "--pairs") words asks.0 index pairs (let e = asks.1 in cc) asks.2
-asks_to_query words other asks = absurd (omega (arith, ap first_letter asks.1))
+asks_to_query words other asks = absurd (omega (arith, ap letter_of_words asks.1))

@@ -2,6 +2,7 @@
 use Rattle.std.proofs.Common.{◌≡◌, ◌≤◌, inl, inr, ℕ, Bool, true, false, cond, List, length, take, nat_lt, refl, sym, ap, subst, ◌∙◌, arith, [], ◌∷◌, ◌++◌}
 use Rattle.std.specs.Prelude.{Option, Some, None, Result, Ok, Err}
 use Rattle.std.specs.FinMap as finite_map
+use Rattle.std.proofs.lemmas.Bool.{le-ltb}
 use Rattle.desk_io.specs.Contents.{Contents, Files, Tells, opened}
 use Rattle.desk_io.specs.Reading.{input_limit}
 use Rattle.desk_io.specs.declared.read_all.ReadEnd.{ReadEnd}
@@ -10,10 +11,13 @@ use Rattle.dimacs_text.specs.PairsText.{pairs_of_text, pairs_fault_within}
 use Rattle.dimacs_text.proofs.TextsAccepted.{graph_accepted, pairs_accepted}
 use Rattle.hub_index.specs.HubIndex.{HubIndex}
 use Rattle.hub_index.specs.WellFormed.{IsWellFormed}
+use Rattle.hub_index.proofs.CanonicalRows.{IsWellFormed-canonical}
 use Rattle.hub_query.proofs.Meetings.{meet_exists, meet_unique}
 use Rattle.index_file.specs.Judging.{index_of, fault_within}
 use Rattle.index_file.proofs.SoundIndexes.{IsWellFormed-index_of}
 use Rattle.index_file.specs.Layout.{index_bytes}
+use Rattle.index_file.proofs.Layouts.{index_of-layout}
+use Rattle.chl_cmd.specs.declared.words.asked.By.{By}
 use Rattle.rank_table.specs.OrderText.{order_of_text, order_fault_within}
 use Rattle.rank_table.proofs.OrderNodes.{orders_rank}
 use Rattle.walk_laws.specs.declared.entry.Entry.{Entry}
@@ -253,3 +257,53 @@ pub told_stop : (P Q : Files → Type 0) → ((files : Files) → P files → Q 
     Tells old new (λ a b. MayStop a.steady stop (Q a.files) × OpensInOrder (names ++ more) a b)
 told_stop P Q h stop names more old new told =
     retold old new told (λ a b both. (may_stop a.steady stop (h a.files) both.0, in_order_front names more a b both.1))
+
+-- behind an input with a value
+after_ok : {V : Type 0} (r : Result V Stop) (bytes : List ℕ) (P : V → Type 0) → After r (Ok bytes) P → (v : V) × (r ≡ Ok v) × P v
+after_ok (Ok v) bytes P after = (v, refl, after)
+after_ok (Err stop) bytes P after = absurd cc
+
+-- what is behind an input, told in other words that hold of its value
+after_told : {V : Type 0} (r : Result V Stop) (answer : Result (List ℕ) Stop) (P Q : V → Type 0) → ((v : V) → r ≡ Ok v → P v → Q v) → After r answer P → After r answer Q
+after_told (Ok v) answer P Q h after = h v refl after
+after_told (Err stop) answer P Q h after = after
+
+abbrev Bytes : Type 0
+Bytes = Result (List ℕ) Stop
+
+abbrev ok_of : List ℕ → Bytes
+ok_of bytes = Ok bytes
+
+ok_bytes : (bytes other : List ℕ) → ok_of bytes ≡ ok_of other → bytes ≡ other
+ok_bytes bytes other same = cc
+
+-- a file that has the layout of a well formed index is read as that
+index_of_layout : (index : List ℕ) (files : Files) (bytes at : List ℕ) (rows : List (List Entry)) → finite_map.get files index ≡ Some bytes → length bytes ≤ input_limit → IsWellFormed at rows → bytes ≡ index_bytes at rows → index_at index files ≡ Ok (record { order = at; rows = rows })
+index_of_layout index files bytes at rows held short well same =
+    ap (λ file. stage index_stop (input_of fault_within index_of file)) held
+    ∙ ap (λ b. stage index_stop (cond b (past_limit (fault_within (take input_limit bytes))) (judged (index_of bytes)))) (le-ltb _ _ short)
+    ∙ ap (λ r. stage index_stop (judged r)) (ap index_of same ∙ index_of-layout at rows well)
+
+-- what a query says of an index file that was built is what is said of the graph
+pub queries_answer : (graph order out index pairs : List ℕ) (by : By) (workers cut : ℕ) (files others : Files) (bytes : List ℕ) (answer : Result (List ℕ) Stop) → Decides (Build graph order out by workers cut) files (Ok bytes) → finite_map.get others index ≡ Some bytes → length bytes ≤ input_limit → finite_map.get others pairs ≡ finite_map.get files pairs → Decides (Query index pairs) others answer → Decides (Solve graph order pairs by workers cut) files answer
+queries_answer graph order out index pairs by workers cut files others bytes answer built held short same_pairs asks =
+    let behind_graph = after_ok (graph_at graph files) bytes (λ g. After (order_at g.n order files) (Ok bytes) (λ at. Behind index_bytes g at (Ok bytes))) built in
+    let g = behind_graph.0 in
+    let behind_order = after_ok (order_at g.n order files) bytes (λ at. Behind index_bytes g at (Ok bytes)) behind_graph.2 in
+    let at = behind_order.0 in
+    let rows = behind_order.2.0 in
+    let chl = behind_order.2.1 in
+    let is_graph = graph_of_stage graph files g behind_graph.1 in
+    let rank = ranking_of_stage g.n order files at behind_order.1 in
+    let same = ok_bytes bytes (index_bytes at rows) behind_order.2.2 in
+    let index_is = index_of_layout index others bytes at rows held short (IsWellFormed-canonical g.n g.edges at is_graph rank.0 rank.1 rows chl) same in
+    let of_rows : After (pairs_at (length at) pairs others) answer (λ asked. SaysAnswers (IsMeet at rows) asked answer) =
+    subst (λ r. After r answer (λ (i : HubIndex). After (pairs_at (length i.order) pairs others) answer (λ asked. SaysAnswers (IsMeet i.order i.rows) asked answer))) index_is asks in
+    let of_nodes : After (pairs_at g.n pairs others) answer (λ asked. SaysAnswers (IsMeet at rows) asked answer) =
+    subst (λ n. After (pairs_at n pairs others) answer (λ asked. SaysAnswers (IsMeet at rows) asked answer)) rank.1 of_rows in
+    let of_files : After (pairs_at g.n pairs files) answer (λ asked. SaysAnswers (IsMeet at rows) asked answer) =
+    subst (λ file. After (stage pairs_stop (input_of (pairs_fault_within g.n) (pairs_of_text g.n) file)) answer (λ asked. SaysAnswers (IsMeet at rows) asked answer)) same_pairs of_nodes in
+    after_value (graph_at graph files) g answer _ behind_graph.1
+    (after_value (order_at g.n order files) at answer _ behind_order.1
+    (after_told (pairs_at g.n pairs files) answer _ _ (λ asked pairs_is says.
+    (says.0, answers_of_rows g is_graph at rank.0 rank.1 rows chl asked (pairs_of_stage g.n pairs files asked pairs_is) says.0 says.1, says.2)) of_files))

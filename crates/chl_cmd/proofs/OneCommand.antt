@@ -1,13 +1,12 @@
 -- Words are one command at most.
-use Rattle.std.proofs.Common.{◌≡◌, ℕ, List, [], ◌∷◌, sym, ap, subst, ◌∙◌, arith}
+use Rattle.std.proofs.Common.{◌≡◌, ℕ, List, [], sym, ap, subst, ◌∙◌, arith}
 use Rattle.std.specs.Prelude.{codes}
 use Rattle.chl_cmd.specs.Words.{AreBuildingOptions, AreOptionsOf, AreTwoOptions, AsksFor, IsCommand, HasBuildOptions, HasOptional, IsConstruction, IsNumberUpTo, most_roots, most_workers, name_of}
 use Rattle.chl_cmd.specs.declared.words.asked.By.{By}
 use Rattle.chl_cmd.specs.declared.words.asked.By.TheVariants.{Plant}
 use Rattle.chl_cmd.specs.declared.words.asked.Asked.{Asked}
 use Rattle.chl_cmd.specs.declared.words.asked.Asked.TheVariants.{List as ListRows, Build, Solve, Query}
-use Rattle.chl_cmd.proofs.AskedWords.{first_letter}
-use Rattle.chl_cmd.proofs.OptionalWords.{one_optional, one_construction, one_number}
+use Rattle.chl_cmd.proofs.OptionalWords.{first_letter, one_optional, one_construction, one_number}
 
 -- what the options of a build come to
 pub record SameConstruction (by other_by : By) (workers other_workers cut other_cut : ℕ) : Type 0 where
@@ -59,7 +58,7 @@ one_asked words (Solve g o pairs by workers cut) (Solve h p asked other more roo
 one_asked words (Query i p) (Query j q) name first second =
     let same = one_pair (codes "--index") (codes "--pairs") words i p j q first second in
     cc (same.0, same.1)
-one_asked words a b name first second = absurd (omega (arith, ap (λ w. first_letter (w ∷ [])) name))
+one_asked words a b name first second = absurd (omega (arith, ap first_letter name))
 
 pub one_command : (words : List (List ℕ)) (a b : Asked) → IsCommand words a → IsCommand words b → a ≡ b
 one_command words a b first second =

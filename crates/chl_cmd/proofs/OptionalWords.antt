@@ -1,13 +1,21 @@
 -- An option that may be left out has one value, and leaves one rest of the words.
-use Rattle.std.proofs.Common.{◌≡◌, ◌≤◌, ◌^◌, inl, inr, ℕ, List, ◌∷◌, sym, subst, ◌∙◌, arith}
+use Rattle.std.proofs.Common.{◌≡◌, ◌≤◌, refl, ◌^◌, inl, inr, ℕ, List, ◌∷◌, sym, subst, ◌∙◌, arith, [], ap}
 use Rattle.std.proofs.lemmas.Fmt.{decimal_injective}
 use Rattle.chl_cmd.specs.Words.{HasOptional, IsConstruction, IsNumberUpTo}
 use Rattle.chl_cmd.specs.declared.words.asked.By.{By}
-use Rattle.chl_cmd.specs.declared.words.asked.By.TheVariants.{Plant}
+use Rattle.chl_cmd.specs.declared.words.asked.By.TheVariants.{Plant, Lcc}
+
+-- the first letter of a word
+abbrev pub first_letter : List ℕ → ℕ
+first_letter [] = 0
+first_letter (letter ∷ word) = letter
 
 -- a word spells one construction
 pub one_construction : (word : List ℕ) (a b : By) → IsConstruction word a → IsConstruction word b → a ≡ b
-one_construction word Plant Plant first second = λ i. Plant
+one_construction word Plant Plant first second = refl
+one_construction word Plant Lcc first second = absurd (omega (arith, ap first_letter (sym first ∙ second)))
+one_construction word Lcc Plant first second = absurd (omega (arith, ap first_letter (sym first ∙ second)))
+one_construction word Lcc Lcc first second = refl
 
 -- and one number, below 2^64
 pub one_number : (limit : ℕ) → limit ≤ 2 ^ 32 → (word : List ℕ) (a b : ℕ) → IsNumberUpTo limit word a → IsNumberUpTo limit word b → a ≡ b

@@ -2,7 +2,7 @@
 use Rattle.std.specs.Prelude.{◌≡◌, ◌≢◌, ◌≤◌, ◌^◌, ◌⊎◌, ℕ, List, [], ◌∷◌, codes}
 use Rattle.std.specs.Fmt.{decimal}
 use Rattle.chl_cmd.specs.declared.words.asked.By.{By}
-use Rattle.chl_cmd.specs.declared.words.asked.By.TheVariants.{Plant}
+use Rattle.chl_cmd.specs.declared.words.asked.By.TheVariants.{Plant, Lcc}
 use Rattle.chl_cmd.specs.declared.words.asked.Asked.{Asked}
 use Rattle.chl_cmd.specs.declared.words.asked.Asked.TheVariants.{List as ListRows, Build, Solve, Query}
 
@@ -18,6 +18,7 @@ IsNumberUpTo limit word n = (word ≡ decimal n) × (1 ≤ n) × (n ≤ limit)
 -- the word of a construction
 abbrev pub IsConstruction : List ℕ → By → Type 0
 IsConstruction word Plant = word ≡ codes "plant"
+IsConstruction word Lcc = word ≡ codes "lcc"
 
 -- how many workers there may be, and how many roots one may take at a time
 abbrev pub most_workers : ℕ

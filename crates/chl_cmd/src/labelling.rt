@@ -13,11 +13,13 @@ use crate::stop::Stop;
 use crate::words::{By, Construction, Name};
 use desk_io::{Desk, Gate};
 use hub_index::Index;
+use lcc_build::build_lcc;
 use plant_build::build_plant;
 use std::alloc::{AllocError, Global};
+use std::thread::Threads;
 
 /// The index of the canonical hub labelling of the graph of the first named text under the order of the second.
-pub fn read_labelling<R, D: Desk, G: Gate + Sync>(
+pub fn read_labelling<R: Threads + Sync, D: Desk, G: Gate + Sync>(
     rt: &R,
     alloc: Global,
     graph: &Name,
@@ -41,7 +43,7 @@ pub fn read_labelling<R, D: Desk, G: Gate + Sync>(
 }
 
 /// The index of the canonical hub labelling of a graph under a ranking of its nodes.
-pub fn labelling_of<R, G: Gate + Sync>(
+pub fn labelling_of<R: Threads + Sync, G: Gate + Sync>(
     rt: &R,
     alloc: Global,
     ranked: &Ranked,
@@ -61,6 +63,14 @@ pub fn labelling_of<R, G: Gate + Sync>(
             &ranked.ranking,
             construction.workers,
             construction.cut,
+            gate,
+        ),
+        By::Lcc => build_lcc(
+            rt,
+            alloc,
+            &ranked.graph,
+            &ranked.ranking,
+            construction.workers,
             gate,
         ),
     }

@@ -1,6 +1,6 @@
 //! The laws of what the files decide. Each function does nothing: its contract is the law, over every command and every
 //! table of files.
-ghost use Rattle.chl_cmd.specs.Laws.{TheFilesDecide, TheFilesDecideOnce};
+ghost use Rattle.chl_cmd.specs.Laws.{TheFilesDecide, TheFilesDecideOnce, AQueryOfABuiltFileSolves};
 
 /// Every command over every table of files has an answer.
 pub fn the_files_decide()
@@ -10,4 +10,9 @@ pub fn the_files_decide()
 /// And one answer at most.
 pub fn the_files_decide_once()
     ensures { TheFilesDecideOnce }
+{}
+
+/// A query of an index file that was built says what solving says.
+pub fn a_query_of_a_built_file_solves()
+    ensures { AQueryOfABuiltFileSolves }
 {}

@@ -37,6 +37,15 @@ const PATH_ROWS: &str = "l 1 2 1 1 0\nl 2 2 0\nl 3 2 1 3 0\n";
 
 const SQUARE: &str = "p sp 4 4\na 1 2 1\na 2 3 1\na 3 4 1\na 4 1 1\n";
 
+/// A town of 12 crossings and 18 streets.
+const TOWN: &str = "p sp 12 18
+a 1 2 140\na 2 3 95\na 3 4 210\na 5 6 160\na 6 7 80\na 7 8 175
+a 9 10 130\na 10 11 110\na 11 12 190\na 1 5 120\na 2 6 70\na 3 7 85
+a 4 8 240\na 5 9 150\na 6 10 90\na 7 11 100\na 8 12 65\na 6 11 105
+";
+
+const TOWN_ORDER: &str = "6\n7\n11\n2\n3\n5\n8\n10\n1\n4\n9\n12\n";
+
 /// How many bytes one call of the desk moves at most: a case is run at each.
 const BITES: [u32; 5] = [1, 2, 3, 7, 4096];
 

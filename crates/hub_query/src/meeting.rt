@@ -1,5 +1,10 @@
-ghost use Rattle.std.specs.Prelude.{ℕ, ◌^◌, ◌<◌, ◌≤◌, All, length, map, MatchOption};
+ghost use Rattle.std.specs.Prelude.{ℕ, ◌^◌, ◌<◌, ◌≤◌, List, All, length, map, MatchOption};
 ghost use Rattle.std.specs.List.Sorted.{IsStrictlyIncreasing};
+ghost use Rattle.walk_laws.specs.declared.graph.Edge.{Edge};
+ghost use Rattle.walk_laws.specs.Answer.{IsAnswer};
+ghost use Rattle.walk_laws.specs.Joined.{Joined};
+ghost use Rattle.walk_laws.specs.Labelling.{IsChl};
+ghost use Rattle.walk_laws.specs.Laws.{WeighAtLeastOne};
 ghost use Rattle.walk_laws.specs.Meet.{IsLeastSum, ShareNone, IsMeet};
 ghost use Rattle.hub_query.specs.Meant.{meant};
 
@@ -21,7 +26,9 @@ pub fn ask(index: &Index, u: u32, v: u32) -> Answer
     requires first_within { u ≤ length index.now.order }
     requires second { 1 ≤ v }
     requires second_within { v ≤ length index.now.order }
-    ensures { IsMeet index.now.order index.now.rows u v (meant result) }
+    ensures meet { IsMeet index.now.order index.now.rows u v (meant result) }
+    ensures answer { (edges : List Edge) → WeighAtLeastOne edges → IsChl (Joined edges) index.now.order index.now.rows
+        → IsAnswer (Joined edges) index.now.order u v (meant result) }
 {
     match least_sum(index.row(u), index.row(v)) {
         None => Answer::Far,

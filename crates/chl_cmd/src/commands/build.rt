@@ -13,9 +13,10 @@ use crate::words::{Construction, Name};
 use desk_io::{Desk, Gate};
 use index_file::encode;
 use std::alloc::Global;
+use std::thread::Threads;
 
 /// The bytes of the index file of the canonical hub labelling of a graph under an order.
-pub fn file_bytes<R, D: Desk, G: Gate + Sync>(
+pub fn file_bytes<R: Threads + Sync, D: Desk, G: Gate + Sync>(
     rt: &R,
     alloc: Global,
     graph: &Name,

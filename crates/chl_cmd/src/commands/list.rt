@@ -12,9 +12,10 @@ use crate::stop::Stop;
 use crate::words::{By, Construction, Name};
 use desk_io::{Desk, FreeGate};
 use std::alloc::Global;
+use std::thread::Threads;
 
 /// The lines of the rows of the canonical hub labelling of a graph under an order, planted on one thread.
-pub fn rows_text<R, D: Desk>(
+pub fn rows_text<R: Threads + Sync, D: Desk>(
     rt: &R,
     alloc: Global,
     graph: &Name,

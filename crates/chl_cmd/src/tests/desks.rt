@@ -59,7 +59,7 @@ fn words_and_names_are_judged(rt: HostRuntime) -> Result<(), Fail> {
             "chl: usage",
         ),
         (
-            "chl build --graph g --order o --out x --by lcc",
+            "chl build --graph g --order o --out x --by gll",
             "chl: usage",
         ),
         (

@@ -61,6 +61,9 @@ fn one_file_for_all_workers(rt: HostRuntime) -> Result<(), Fail> {
         "chl build --graph g --order o --out x --workers 2 --cut 1",
         "chl build --graph g --order o --out x --workers 64 --cut 1",
         "chl build --graph g --order o --out x --by plant --cut 1073741824",
+        "chl build --graph g --order o --out x --by lcc --workers 1 --cut 1",
+        "chl build --graph g --order o --out x --by lcc --workers 2 --cut 1",
+        "chl build --graph g --order o --out x --by lcc --workers 64 --cut 1",
     ] {
         desk.put_file(
             "x",
@@ -69,6 +72,53 @@ fn one_file_for_all_workers(rt: HostRuntime) -> Result<(), Fail> {
         expect(&rt, &mut desk, words, "chl: done", "")?;
         let again = hex_of(rt.alloc(), &desk, "x")?;
         assert_eq!(rt; again.as_str(), first.as_str());
+    }
+    Ok(())
+}
+
+/// The text of a grid of side 6: node 6 r + c + 1 at row r and column c, an edge to the right and one down.
+fn grid_of_side_6(alloc: Global) -> Result<String, AllocError> {
+    let mut text = String::from_str(alloc, "p sp 36 60\n")?;
+    for v in 1..37u32 {
+        if v % 6 != 0 {
+            let line = format!(in alloc; "a {} {} {}\n", v, v + 1, v % 7 + 1)?;
+            text.push_str(line.as_str())?;
+        }
+        if v <= 30 {
+            let line = format!(in alloc; "a {} {} {}\n", v, v + 6, v % 5 + 1)?;
+            text.push_str(line.as_str())?;
+        }
+    }
+    Ok(text)
+}
+
+/// The order of 36 nodes by steps of 7.
+fn order_by_steps(alloc: Global) -> Result<String, AllocError> {
+    let mut text = String::new(alloc);
+    for k in 0..36u32 {
+        let line = format!(in alloc; "{}\n", k * 7 % 36 + 1)?;
+        text.push_str(line.as_str())?;
+    }
+    Ok(text)
+}
+
+/// Both constructions give one file for the town and for a grid.
+#[test]
+fn one_file_for_all_constructions(rt: HostRuntime) -> Result<(), Fail> {
+    let grid = grid_of_side_6(rt.alloc())?;
+    let steps = order_by_steps(rt.alloc())?;
+    for (graph, order) in [(TOWN, TOWN_ORDER), (grid.as_str(), steps.as_str())] {
+        let mut desk = desk_of(rt.alloc(), 4096, &[], graph, order)?;
+        expect(&rt, &mut desk, BUILD, "chl: done", "")?;
+        let planted = hex_of(rt.alloc(), &desk, "x")?;
+        expect(
+            &rt,
+            &mut desk,
+            "chl build --graph g --order o --out x --by lcc",
+            "chl: done",
+            "",
+        )?;
+        assert_eq!(rt; hex_of(rt.alloc(), &desk, "x")?.as_str(), planted.as_str());
     }
     Ok(())
 }

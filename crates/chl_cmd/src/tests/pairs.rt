@@ -4,6 +4,8 @@ const BUILD: &str = "chl build --graph g --order o --out x";
 
 const SOLVE: &str = "chl solve --graph g --order o --pairs p";
 
+const SOLVE_BY_LCC: &str = "chl solve --graph g --order o --pairs p --by lcc --workers 2 --cut 1";
+
 const QUERY: &str = "chl query --index x --pairs p";
 
 /// A graph, an order and pairs, and what is said of them.
@@ -57,6 +59,9 @@ fn expect_pairs<R: Abort + AllocGlobal + Threads + Sync>(
             expect(rt, &mut desk, SOLVE, case.line, case.said)?;
             let mut desk = desk_of(rt.alloc(), bite, &[], case.graph, case.order)?;
             desk.put_file("p", case.pairs.as_bytes())?;
+            expect(rt, &mut desk, SOLVE_BY_LCC, case.line, case.said)?;
+            let mut desk = desk_of(rt.alloc(), bite, &[], case.graph, case.order)?;
+            desk.put_file("p", case.pairs.as_bytes())?;
             expect(rt, &mut desk, BUILD, "chl: done", "")?;
             expect(rt, &mut desk, QUERY, case.line, case.said)?;
         }
@@ -65,14 +70,6 @@ fn expect_pairs<R: Abort + AllocGlobal + Threads + Sync>(
 }
 
 const ROUND: &str = "1\n2\n3\n4\n";
-
-const TOWN: &str = "p sp 12 18
-a 1 2 140\na 2 3 95\na 3 4 210\na 5 6 160\na 6 7 80\na 7 8 175
-a 9 10 130\na 10 11 110\na 11 12 190\na 1 5 120\na 2 6 70\na 3 7 85
-a 4 8 240\na 5 9 150\na 6 10 90\na 7 11 100\na 8 12 65\na 6 11 105
-";
-
-const TOWN_ORDER: &str = "6\n7\n11\n2\n3\n5\n8\n10\n1\n4\n9\n12\n";
 
 /// Hubs that tie, one node, two that are apart, parallel edges beside a loop, the greatest weight, a pair that stands
 /// twice, no pairs, and a town: solving says what a query of the built index says.

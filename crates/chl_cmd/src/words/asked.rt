@@ -38,6 +38,8 @@ impl Name {
 pub enum By {
     /// Planted trees: each root by itself, with no look at the rows of others.
     Plant,
+    /// Pruned trees: each root prunes its tree by the rows that stand already, and the rows are cleaned in the end.
+    Lcc,
 }
 
 /// What a command line asks for.

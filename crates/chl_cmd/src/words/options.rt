@@ -70,10 +70,22 @@ pub fn construction_option(words: &[String]) -> Option<(By, &[String])>
         return Some((By::Plant, words));
     };
     let (word, behind) = first_word(behind)?;
-    if word.as_str() != "plant" {
-        return None;
+    let by = construction_of(word.as_str())?;
+    Some((by, behind))
+}
+
+/// The construction that a word names.
+fn construction_of(word: &str) -> Option<By>
+    ensures found { IfSome result (λ by. IsConstruction word.now by) }
+    ensures none { IfNone result ((by : Construction) → ¬ IsConstruction word.now by) }
+{
+    if word == "plant" {
+        return Some(By::Plant);
     }
-    Some((By::Plant, behind))
+    if word == "lcc" {
+        return Some(By::Lcc);
+    }
+    None
 }
 
 /// The number that the option of this name at the front of the words has, or the default where it isn't there, and the
