@@ -17,6 +17,16 @@ fn draws_each_root_and_then_the_end(rt: HostRuntime) -> Result<(), Fail> {
     Ok(())
 }
 
+/// As many seats as there may be, and no number to draw.
+#[test]
+fn many_seats_find_nothing_to_draw(rt: HostRuntime) -> Result<(), Fail> {
+    let (claims, mut seat) = Claims::new(rt.alloc(), 2, 2, 64)?;
+    assert_eq!(rt; seat.left(), 63);
+    assert_eq!(rt; claims.claim(&mut seat), Claim::End);
+    assert_eq!(rt; claims.close(seat), 2);
+    Ok(())
+}
+
 #[test]
 fn two_seats_draw_in_turns(rt: HostRuntime) -> Result<(), Fail> {
     let (claims, mut one) = Claims::new(rt.alloc(), 5, 8, 4)?;

@@ -139,6 +139,13 @@ fn pairs_texts_are_judged(rt: HostRuntime) -> Result<(), Fail> {
             ),
             bad_pairs("p aux sp p2p 1\nq 1\n", "chl: pairs line 2: bad field"),
             bad_pairs("p aux sp p2p 4294967296\n", "chl: pairs line 1: too many"),
+            Pairs {
+                graph: SQUARE,
+                order: ROUND,
+                pairs: "p aux sp p2p 1\nq 1 5\n",
+                line: "chl: pairs line 2: node out of range",
+                said: "",
+            },
         ],
     )
 }
