@@ -1,13 +1,12 @@
 -- A table in which the entries of a row are noted holds the least distance of each of its positions.
 use Rattle.std.proofs.Common.{◌≡◌, ◌≢◌, ◌↔◌, ℕ, ◌+◌, ◌<◌, ◌≤◌, min, inl, inr, Option, Some, None, List, [], ◌∷◌, ◌++◌, Contains, length, get_or, take, replicate, get_or-set_other, get_or-set_same, refl, sym, ap, subst, ◌∙◌, add-one, arith}
-use Rattle.std.proofs.Math.ListN.{get_or-eq_default}
 use Rattle.std.proofs.Math.Seq.{take-suc}
 use Rattle.std.proofs.lemmas.Bool.{cases_eq, cases_lt}
-use Rattle.std.proofs.lemmas.List.{get_or-replicate, length-replicate, take_all}
+use Rattle.std.proofs.lemmas.List.{take_all}
 use Rattle.std.proofs.lemmas.List.Elements.{Contains-append_left, Contains-append_right, Contains-append_cases}
 use Rattle.walk_laws.specs.declared.entry.Entry.{Entry}
 use Rattle.hub_index.specs.RootDistances.{root_distance, lesser, with_noted, IsLeastAt, HoldsRow}
-use Rattle.hub_index.proofs.TouchedPositions.{one_of, none_in}
+use Rattle.hub_index.proofs.TouchedPositions.{one_of, none_in, nothing_noted}
 
 -- the entry of a position and a distance
 abbrev pub at_position : ℕ → ℕ → Entry
@@ -30,20 +29,6 @@ row_from_at row p d (Some k) least = (
 
 pub HoldsRow-from_each : (table : List (Option ℕ)) (row : List Entry) → HoldsEach table row → HoldsRow table row
 HoldsRow-from_each table row each p d = row_from_at row p d (root_distance table p) (each p)
-
-no_distance : Option ℕ
-no_distance = None
-
--- nothing is noted
-nothing_noted : (n p : ℕ) → root_distance (replicate n None) p ≡ None
-unfolding no_distance
-nothing_noted n p = elim (cases_lt p n) [
-  | inl within ↦ get_or-replicate n p None None within
-  | inr outside ↦ get_or-eq_default (replicate n None) None (none_longer n p outside)
-]
-  where
-    none_longer : (n p : ℕ) → n ≤ p → length (replicate n no_distance) ≤ p
-    none_longer n p le = rw length-replicate le
 
 pub HoldsEach-none : (n : ℕ) (table : List (Option ℕ)) → table ≡ replicate n None → HoldsEach table []
 HoldsEach-none n table is p = subst (HoldsAt [] p) (sym (ap (λ t. root_distance t p) is ∙ nothing_noted n p)) (λ d there. none_in (at_position p d) there)

@@ -1,17 +1,17 @@
 -- The positions of a table that have a distance, as they are noted and forgotten.
-use Rattle.std.proofs.Common.{◌≡◌, ◌≢◌, ◌↔◌, ℕ, zero, suc, ◌+◌, ◌<◌, ◌≤◌, inl, inr, eqb, Option, Some, None, List, [], ◌∷◌, ◌++◌, All, AllPairs, Contains, length, get_or, take, replicate, get_or-set_other, get_or-set_same, refl, sym, ap, subst, ◌∙◌, add-one, arith}
+use Rattle.std.proofs.Common.{◌≡◌, ◌≢◌, ◌↔◌, ℕ, zero, suc, ◌+◌, ◌-◌, ◌^◌, ◌<◌, ◌≤◌, inl, inr, eqb, Option, Some, None, List, [], ◌∷◌, ◌++◌, All, AllPairs, Contains, length, map, get_or, take, replicate, get_or-set_other, get_or-set_same, refl, sym, ap, subst, ◌∙◌, add-one, arith}
 use Rattle.std.proofs.Math.ListN.{set, length-set, get_or-eq_default}
 use Rattle.std.proofs.Math.Seq.{take-suc, take-suc-set}
 use Rattle.std.proofs.lemmas.Bool.{cases_eq, cases_lt, eqb-true}
 use Rattle.std.proofs.lemmas.Bool.Decides.{Decides-eqb}
-use Rattle.std.proofs.lemmas.List.{ext_get_or, get_or-replicate, length-replicate, length-append}
+use Rattle.std.proofs.lemmas.List.{ext_get_or, get_or-replicate, length-replicate, length-append, length-map, map-set}
 use Rattle.std.proofs.lemmas.List.Elements.{All-push, All-contains, Contains-get_or, Contains-append_left, Contains-append_right, Contains-append_cases}
 use Rattle.std.proofs.lemmas.List.Quantifiers.{all_pairs_push}
 use Rattle.std.proofs.lemmas.Map.Made.{IsDistinct-from_AllPairs}
 use Rattle.std.proofs.lemmas.Map.Steps.{length-le_from_distinct_below}
 use Rattle.std.proofs.lemmas.Map.Views.{Contains-from_any}
 use Rattle.hub_index.specs.RootDistances.{root_distance}
-use Rattle.hub_index.specs.Touched.{HasTouched}
+use Rattle.hub_index.specs.Touched.{HasTouched, nearest_of}
 
 pub one_of : {X : Type 0} (y x : X) → Contains (y ∷ []) x → y ≡ x
 one_of y x (zero, lt, is) = is
@@ -145,3 +145,31 @@ last_within n touched count room all =
       λ k d lt. All-contains (λ x. x < n) (take count touched ++ get_or touched count 0 ∷ []) (get_or (take count touched) k d) both (Contains-append_left (take count touched) (get_or touched count 0 ∷ []) (get_or (take count touched) k d) (Contains-get_or (take count touched) k d lt)),
       All-contains (λ x. x < n) (take count touched ++ get_or touched count 0 ∷ []) (get_or touched count 0) both (Contains-append_right (take count touched) (get_or touched count 0 ∷ []) (get_or touched count 0) (0, omega arith, refl)),
     )
+
+-- nothing is noted
+pub nothing_noted : (n p : ℕ) → root_distance (replicate n None) p ≡ None
+unfolding no_distance
+nothing_noted n p = elim (cases_lt p n) [
+  | inl within ↦ get_or-replicate n p None None within
+  | inr outside ↦ get_or-eq_default (replicate n None) None (none_longer n p outside)
+]
+  where
+    none_longer : (n p : ℕ) → n ≤ p → length (replicate n no_distance) ≤ p
+    none_longer n p le = rw length-replicate le
+
+-- a new table
+pub HasTouched-new : (n : ℕ) → HasTouched (replicate n None) (replicate n 0) 0
+unfolding no_distance
+HasTouched-new n = HasTouched-none (replicate n None) (replicate n 0) (length-replicate n 0 ∙ sym (length-replicate n no_distance)) (λ p held. held (nothing_noted n p))
+
+-- no position has a distance to be tested
+pub nearest-none : (n : ℕ) → replicate n (2 ^ 64 - 1) ≡ map nearest_of (replicate n None)
+nearest-none zero = refl
+nearest-none (suc n) = ap (λ xs. (2 ^ 64 - 1) ∷ xs) (nearest-none n)
+
+-- a distance is written in both ways
+pub nearest-set : (dists : List (Option ℕ)) (nearest : List ℕ) (p : ℕ) (o : Option ℕ) → nearest ≡ map nearest_of dists → set nearest p (nearest_of o) ≡ map nearest_of (set dists p o)
+nearest-set dists nearest p o is = ap (λ xs. set xs p (nearest_of o)) is ∙ sym (map-set nearest_of dists p o)
+
+pub nearest-length : (dists : List (Option ℕ)) (nearest : List ℕ) → nearest ≡ map nearest_of dists → length nearest ≡ length dists
+nearest-length dists nearest is = ap length is ∙ length-map dists nearest_of

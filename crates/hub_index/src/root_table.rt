@@ -9,20 +9,22 @@ use walk_laws::Entry;
 #[derive(Debug, Drop)]
 pub struct RootTable {
     dists: Vec<Option<u64>>,
+    /// The same in half the room, for the test of a cover: u64::MAX stands for none, and for itself.
+    nearest: Vec<u64>,
     /// The positions that have a distance are the first `count` of these.
     touched: Vec<u32>,
     count: usize,
 }
 
 impl Model for RootTable {
-    ghost use Rattle.std.specs.Prelude.{ℕ, ◌^◌, ◌<◌, List, Option, length};
-    ghost use Rattle.hub_index.specs.Touched.{HasTouched};
+    ghost use Rattle.std.specs.Prelude.{◌≡◌, ℕ, ◌^◌, ◌<◌, List, Option, length, map};
+    ghost use Rattle.hub_index.specs.Touched.{HasTouched, nearest_of};
 
     ghost Value = { List (Option ℕ) };
 
     ghost view = { λ t. t.dists.items };
 
-    ghost invariant = { λ t. HasTouched t.dists.items t.touched.items t.count };
+    ghost invariant = { λ t. HasTouched t.dists.items t.touched.items t.count × (t.nearest.items ≡ map nearest_of t.dists.items) };
 }
 
 impl RootTable {
@@ -32,9 +34,17 @@ impl RootTable {
     {
         Ok(RootTable {
             dists: vec![in alloc; None; n as usize]?,
+            nearest: vec![in alloc; u64::MAX; n as usize]?,
             touched: vec![in alloc; 0u32; n as usize]?,
             count: 0,
         })
+    }
+
+    /// How many positions there are.
+    pub fn n(&self) -> usize
+        ensures { result ≡ length self.now }
+    {
+        self.dists.len()
     }
 
     /// The distance at the position `pos`.
@@ -53,6 +63,7 @@ impl RootTable {
             let last = self.count - 1;
             let pos = self.touched[last];
             self.dists[pos as usize] = None;
+            self.nearest[pos as usize] = u64::MAX;
             self.count = last;
         }
     }
@@ -63,19 +74,24 @@ impl RootTable {
         requires { entry.pos < length self.old }
         ensures { self.new ≡ with_noted self.old entry }
     {
-        match self.dists[entry.pos as usize] {
+        let place = entry.pos as usize;
+        match self.dists[place] {
             None => {
                 self.touched[self.count] = entry.pos;
                 self.count += 1;
-                self.dists[entry.pos as usize] = Some(entry.dist);
+                self.dists[place] = Some(entry.dist);
+                self.nearest[place] = entry.dist;
             }
             Some(known) => {
-                self.dists[entry.pos as usize] = Some(known.min(entry.dist));
+                let least = known.min(entry.dist);
+                self.dists[place] = Some(least);
+                self.nearest[place] = least;
             }
         }
     }
 
-    /// Whether the entry covers one at the position `pos` with the distance `dist`.
+    /// Whether the entry covers one at the position `pos` with the distance `dist`. An entry that is too far leaves 0 for
+    /// the root, so that one comparison refuses almost all entries, and no branch has to be guessed.
     pub fn covers(&self, entry: Entry, pos: u32, dist: u64) -> bool
         requires { pos ≤ length self.now }
         ensures { IsTrue result ↔ IsCover self.now pos dist entry }
@@ -83,10 +99,9 @@ impl RootTable {
         if entry.pos >= pos {
             return false;
         }
-        match self.dists[entry.pos as usize] {
-            None => false,
-            Some(root) => root <= dist && entry.dist <= dist - root,
-        }
+        let place = entry.pos as usize;
+        let root = self.nearest[place];
+        root <= dist.saturating_sub(entry.dist) && entry.dist <= dist && self.dists[place].is_some()
     }
 }
 

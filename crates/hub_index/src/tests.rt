@@ -57,6 +57,7 @@ fn a_hub_covers_as_long_a_way(rt: HostRuntime) -> Result<(), Fail> {
 #[test]
 fn a_table_notes_the_least(rt: HostRuntime) -> Result<(), Fail> {
     let mut table = RootTable::new(rt.alloc(), 2)?;
+    assert_eq!(rt; table.n(), 2);
     table.note(Entry { pos: 1, dist: 7 });
     table.note(Entry {
         pos: 1,

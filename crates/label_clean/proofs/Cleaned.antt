@@ -19,7 +19,7 @@ use Rattle.walk_laws.proofs.JoinedDecisions.{IsCanonical-or_joined_cover}
 use Rattle.walk_laws.proofs.CanonicalHubs.{IsCanonical-no_cover}
 use Rattle.label_clean.specs.RawRows.{both_rows}
 use Rattle.label_clean.specs.Needless.{IsNeedless, IsSurvivingRow}
-use Rattle.label_clean.specs.Sorted.{IsSortedRow}
+use Rattle.label_clean.specs.Tested.{IsNearRow}
 use Rattle.label_clean.specs.Below.{HoldsBelow, IsRowBelow, IsChlBelow}
 use Rattle.label_clean.proofs.Covering.{pos_of, entry, covered, IsCovered-more}
 use Rattle.label_clean.proofs.RowFacts.{same_entry}
@@ -100,8 +100,8 @@ module _ (at : List ℕ) (ranking : IsRanking at) where
       );
     }
 
--- the raw rows as they are tested: sorted, beside the global ones
-module _ (at : List ℕ) (ranking : IsRanking at) (none sorted : List (List Entry)) (none_is : (v : ℕ) → 1 ≤ v → v ≤ length at → label_row none v ≡ []) where
+-- the raw rows as they are tested: by rising distance, beside the global ones
+module _ (at : List ℕ) (ranking : IsRanking at) (none near : List (List Entry)) (none_is : (v : ℕ) → 1 ≤ v → v ≤ length at → label_row none v ≡ []) where
   -- behind an empty row stands nothing new
   beside_none : (others : List (List Entry)) (v : ℕ) (e : Entry) → 1 ≤ v → v ≤ length at → Contains (both_rows none others v) e → Contains (label_row others v) e
   beside_none others v e from_one up_to_n h = elim (Contains-append_cases (label_row none v) (label_row others v) e h) [
@@ -110,42 +110,42 @@ module _ (at : List ℕ) (ranking : IsRanking at) (none sorted : List (List Entr
   ]
 
   module _ (global raw : List (List Entry)) where
-    -- where all rows are sorted together, what is kept of them is the labelling up to the position
-    module _ (sorted_is : (v : ℕ) → 1 ≤ v → v ≤ length at → IsSortedRow (both_rows global raw v) (label_row sorted v)) where
-      all_there : (v : ℕ) → 1 ≤ v → v ≤ length at → (e : Entry) → Contains (both_rows none sorted v) e → Contains (both_rows global raw v) e
-      all_there v from_one up_to_n e h = ((sorted_is v from_one up_to_n).each e).0 (beside_none sorted v e from_one up_to_n h)
+    -- where all rows are put together, what is kept of them is the labelling up to the position
+    module _ (near_is : (v : ℕ) → 1 ≤ v → v ≤ length at → IsNearRow (both_rows global raw v) (label_row near v)) where
+      all_there : (v : ℕ) → 1 ≤ v → v ≤ length at → (e : Entry) → Contains (both_rows none near v) e → Contains (both_rows global raw v) e
+      all_there v from_one up_to_n e h = ((near_is v from_one up_to_n).each e).0 (beside_none near v e from_one up_to_n h)
 
-      all_back : (v : ℕ) → 1 ≤ v → v ≤ length at → (e : Entry) → Contains (both_rows global raw v) e → Contains (both_rows none sorted v) e
-      all_back v from_one up_to_n e h = Contains-append_right (label_row none v) (label_row sorted v) e (((sorted_is v from_one up_to_n).each e).1 h)
+      all_back : (v : ℕ) → 1 ≤ v → v ≤ length at → (e : Entry) → Contains (both_rows global raw v) e → Contains (both_rows none near v) e
+      all_back v from_one up_to_n e h = Contains-append_right (label_row none v) (label_row near v) e (((near_is v from_one up_to_n).each e).1 h)
 
-      pub IsChlBelow-from_surviving : (rows : List (List Entry)) → length rows ≡ length at → ((v : ℕ) → 1 ≤ v → v ≤ length at → IsSurvivingRow at none sorted v (label_row rows v)) → (edges : List Edge) (c : ℕ) → HoldsBelow edges at c global raw → IsChlBelow edges at c rows
+      pub IsChlBelow-from_surviving : (rows : List (List Entry)) → length rows ≡ length at → ((v : ℕ) → 1 ≤ v → v ≤ length at → IsSurvivingRow at none near v (label_row rows v)) → (edges : List Edge) (c : ℕ) → HoldsBelow edges at c global raw → IsChlBelow edges at c rows
       IsChlBelow-from_surviving rows size survive edges c holds = record {
         size = size;
         row = λ v from_one up_to_n.
             let row = survive v from_one up_to_n in
             IsRowBelow-from_kept at ranking edges c global raw holds v from_one up_to_n (label_row rows v) row.rising (λ e. (
-              λ here. let known = (row.each e).0 here in (((sorted_is v from_one up_to_n).each e).0 known.0, λ needless. known.1 (IsNeedless-more at ranking global raw none sorted all_back v from_one up_to_n e needless)),
-              λ kept. (row.each e).1 (((sorted_is v from_one up_to_n).each e).1 kept.0, λ needless. kept.1 (IsNeedless-more at ranking none sorted global raw all_there v from_one up_to_n e needless)),
+              λ here. let known = (row.each e).0 here in (((near_is v from_one up_to_n).each e).0 known.0, λ needless. known.1 (IsNeedless-more at ranking global raw none near all_back v from_one up_to_n e needless)),
+              λ kept. (row.each e).1 (((near_is v from_one up_to_n).each e).1 kept.0, λ needless. kept.1 (IsNeedless-more at ranking none near global raw all_there v from_one up_to_n e needless)),
             ));
       }
 
-    -- where the raw rows are sorted by themselves, the same of them is kept
-    module _ (sorted_is : (v : ℕ) → 1 ≤ v → v ≤ length at → IsSortedRow (both_rows none raw v) (label_row sorted v)) where
-      pub raw_there : (v : ℕ) → 1 ≤ v → v ≤ length at → (e : Entry) → Contains (label_row sorted v) e → Contains (label_row raw v) e
-      raw_there v from_one up_to_n e h = beside_none raw v e from_one up_to_n (((sorted_is v from_one up_to_n).each e).0 h)
+    -- where the raw rows stand by themselves, the same of them is kept
+    module _ (near_is : (v : ℕ) → 1 ≤ v → v ≤ length at → IsNearRow (both_rows none raw v) (label_row near v)) where
+      pub raw_there : (v : ℕ) → 1 ≤ v → v ≤ length at → (e : Entry) → Contains (label_row near v) e → Contains (label_row raw v) e
+      raw_there v from_one up_to_n e h = beside_none raw v e from_one up_to_n (((near_is v from_one up_to_n).each e).0 h)
 
-      raw_back : (v : ℕ) → 1 ≤ v → v ≤ length at → (e : Entry) → Contains (label_row raw v) e → Contains (label_row sorted v) e
-      raw_back v from_one up_to_n e h = ((sorted_is v from_one up_to_n).each e).1 (Contains-append_right (label_row none v) (label_row raw v) e h)
+      raw_back : (v : ℕ) → 1 ≤ v → v ≤ length at → (e : Entry) → Contains (label_row raw v) e → Contains (label_row near v) e
+      raw_back v from_one up_to_n e h = ((near_is v from_one up_to_n).each e).1 (Contains-append_right (label_row none v) (label_row raw v) e h)
 
       beside : (xs ys zs : List Entry) → ((e : Entry) → Contains ys e → Contains zs e) → (e : Entry) → Contains (xs ++ ys) e → Contains (xs ++ zs) e
       beside xs ys zs more e h = elim (Contains-append_cases xs ys e h) [ inl here ↦ Contains-append_left xs zs e here | inr there ↦ Contains-append_right xs zs e (more e there) ]
 
-      pub IsSurvivingRow-from_sorted : (v : ℕ) (row : List Entry) → 1 ≤ v → v ≤ length at → IsSurvivingRow at global sorted v row → IsSurvivingRow at global raw v row
-      IsSurvivingRow-from_sorted v row from_one up_to_n is = record {
+      pub IsSurvivingRow-from_near : (v : ℕ) (row : List Entry) → 1 ≤ v → v ≤ length at → IsSurvivingRow at global near v row → IsSurvivingRow at global raw v row
+      IsSurvivingRow-from_near v row from_one up_to_n is = record {
         rising = is.rising;
         each = λ e. (
-          λ here. let known = (is.each e).0 here in (raw_there v from_one up_to_n e known.0, λ needless. known.1 (IsNeedless-more at ranking global raw global sorted (λ x low high. beside (label_row global x) (label_row raw x) (label_row sorted x) (raw_back x low high)) v from_one up_to_n e needless)),
-          λ kept. (is.each e).1 (raw_back v from_one up_to_n e kept.0, λ needless. kept.1 (IsNeedless-more at ranking global sorted global raw (λ x low high. beside (label_row global x) (label_row sorted x) (label_row raw x) (raw_there x low high)) v from_one up_to_n e needless)),
+          λ here. let known = (is.each e).0 here in (raw_there v from_one up_to_n e known.0, λ needless. known.1 (IsNeedless-more at ranking global raw global near (λ x low high. beside (label_row global x) (label_row raw x) (label_row near x) (raw_back x low high)) v from_one up_to_n e needless)),
+          λ kept. (is.each e).1 (raw_back v from_one up_to_n e kept.0, λ needless. kept.1 (IsNeedless-more at ranking global near global raw (λ x low high. beside (label_row global x) (label_row near x) (label_row raw x) (raw_there x low high)) v from_one up_to_n e needless)),
         );
       }
 

@@ -34,3 +34,10 @@ module _ (P : ℕ → List Entry → Type 0) where
   gathered n places results rows others is each done same =
       let R : ℕ → Result (Vec Entry Global) AllocError → Type 0 = λ place r. IfOk r (λ row. P (place + 1) row.items) in
       each_row n rows (subst (λ ps. AllZip R ps (map Ok rows)) is (subst (λ rs. AllZip R places rs) (done ∙ ap (map Ok) (sym same)) each))
+
+-- what a piece's state was at each call says nothing of the rows
+pub without_states : (S : Type 0) (R : ℕ → Result (Vec Entry Global) AllocError → Type 0) (places : List ℕ) (results : List (Result (Vec Entry Global) AllocError)) → AllZip (λ (place : ℕ) (r : Result (Vec Entry Global) AllocError). (p q : S) × R place r) places results → AllZip R places results
+without_states S R [] [] h = tt
+without_states S R [] (r ∷ results) h = absurd h
+without_states S R (place ∷ places) [] h = absurd h
+without_states S R (place ∷ places) (r ∷ results) h = (h.0.2, without_states S R places results h.1)

@@ -1,5 +1,7 @@
 pub mod Covering
+pub mod NotedRows
 pub mod RowFacts
+pub mod NearRows
 pub mod Cleaned
 pub mod KeptEntries
 pub mod EachRow

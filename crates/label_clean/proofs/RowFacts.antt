@@ -13,7 +13,7 @@ use Rattle.label_clean.specs.RawRows.{HasEachOnce}
 use Rattle.label_clean.specs.Sorted.{IsSortedRow}
 use Rattle.label_clean.proofs.Covering.{pos_of}
 
-eqb_flips : (x y : ℕ) → eqb x y ≡ eqb y x
+pub eqb_flips : (x y : ℕ) → eqb x y ≡ eqb y x
 eqb_flips x y = elim (eqb_tells x y) [
   | inl same ↦ let t : eqb y x ≡ true = eq-eqb y x (sym same.1) in same.0 ∙ sym t
   | inr apart ↦ elim (eqb_tells y x) [

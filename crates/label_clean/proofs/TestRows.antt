@@ -1,14 +1,12 @@
 -- The rows of the tests may be cleaned.
-use Rattle.std.proofs.Common.{ℕ, zero, suc, ◌<◌, ◌≤◌, List, [], ◌∷◌, map, replicate, refl, arith, rules}
+use Rattle.std.proofs.Common.{ℕ, zero, suc, ◌<◌, ◌≤◌, List, [], ◌∷◌, replicate, arith, rules}
 use Rattle.std.specs.List.{IsDistinct, AllByRecursion}
-use Rattle.std.specs.List.Sorted.{IsStrictlyIncreasing}
 use Rattle.std.proofs.lemmas.List.Elements.{All-from_recursion}
 use Rattle.walk_laws.specs.declared.entry.Entry.{Entry}
 use Rattle.walk_laws.specs.Labelling.{label_row}
 use Rattle.walk_laws.specs.Ranking.{IsRanking}
 use Rattle.walk_laws.specs.Worked.{entry}
 use Rattle.label_clean.specs.RawRows.{HasEachOnce, IsRawRow, both_rows}
-use Rattle.label_clean.specs.Sorted.{RowsRise}
 
 -- the ten entries of the square
 abbrev pub ten : List (List Entry)
@@ -59,27 +57,6 @@ later_may (suc (suc zero)) low high = raw_row [] (search rules) (search rules)
 later_may (suc (suc (suc zero))) low high = raw_row (label_row later 3) (search rules) (search rules)
 later_may (suc (suc (suc (suc zero)))) low high = raw_row (label_row later 4) (search rules) (search rules)
 later_may (suc (suc (suc (suc (suc v))))) low high = absurd (omega (arith, high))
-
-rises_none : IsStrictlyIncreasing []
-rises_none k within = absurd (omega (arith, within))
-
-rises_one : (a : ℕ) → IsStrictlyIncreasing (a ∷ [])
-rises_one a k within = absurd (omega (arith, within))
-
-rises_two : (a b : ℕ) → a < b → IsStrictlyIncreasing (a ∷ b ∷ [])
-rises_two a b first zero within = first
-rises_two a b first (suc k) within = absurd (omega (arith, within))
-
-two_hubs_rise : (v : ℕ) → 1 ≤ v → v ≤ 4 → IsStrictlyIncreasing (map (λ e. e.pos) (label_row two_hubs v))
-two_hubs_rise zero low high = absurd (omega (arith, low))
-two_hubs_rise (suc zero) low high = rises_one 0
-two_hubs_rise (suc (suc zero)) low high = rises_two 0 1 (omega arith)
-two_hubs_rise (suc (suc (suc zero))) low high = rises_two 0 1 (omega arith)
-two_hubs_rise (suc (suc (suc (suc zero)))) low high = rises_one 0
-two_hubs_rise (suc (suc (suc (suc (suc v))))) low high = absurd (omega (arith, high))
-
-pub two_hubs_may : RowsRise 4 two_hubs
-two_hubs_may = record { size = refl; rising = two_hubs_rise }
 
 pub no_nodes : IsRanking []
 unfolding IsDistinct

@@ -1,5 +1,6 @@
 pub mod RawRows
 pub mod Sorted
 pub mod Needless
+pub mod Tested
 pub mod Below
 pub mod Laws

@@ -5,10 +5,9 @@ ghost use Rattle.walk_laws.specs.Joined.{Joined};
 ghost use Rattle.walk_laws.specs.Labelling.{label_row, IsHubEntry};
 ghost use Rattle.label_clean.specs.RawRows.{IsRawRow, both_rows};
 ghost use Rattle.label_clean.specs.Needless.{IsSurvivingRow};
-ghost use Rattle.label_clean.specs.Sorted.{RowsRise};
 ghost use Rattle.label_clean.specs.Below.{HoldsBelow, IsChlBelow};
 
-use crate::sorting::sorted_rows;
+use crate::sorting::near_rows;
 use crate::testing::surviving_rows;
 use hub_index::RowList;
 use rank_table::Ranking;
@@ -41,12 +40,12 @@ pub fn clean<R: Threads + Sync>(
     ensures { IfOk result (λ rows. (edges : List AnEdge) (c : ℕ) → HoldsBelow edges ranking.now c global.now raw.now → IsChlBelow edges ranking.now c rows) }
 {
     let none = RowList::new(alloc, ranking.n())?;
-    let sorted = sorted_rows(rt, alloc, global, raw)?;
-    surviving_rows(rt, alloc, ranking, &none, &sorted)
+    let near = near_rows(rt, alloc, global, raw)?;
+    surviving_rows(rt, alloc, ranking, &none, &near)
 }
 
-/// The raw entries that no hub of both tables makes needless, each row by rising position. The rows of the global table
-/// rise, the raw ones may come in any order. Where `clean` would make the canonical hub labelling up to a position, these
+/// The raw entries that no hub of both tables makes needless, each row by rising position. The rows of both tables may come
+/// in any order. Where `clean` would make the canonical hub labelling up to a position, these
 /// are exactly the canonical ones of the raw entries. It works on all cores at a cost in the raw entries and the rows that
 /// they are tested against, and the only error is that memory ran out.
 pub fn survivors<R: Threads + Sync>(
@@ -56,7 +55,7 @@ pub fn survivors<R: Threads + Sync>(
     global: &RowList,
     raw: &RowList,
 ) -> Result<RowList, AllocError>
-    requires global_rises { RowsRise (length ranking.now) global.now }
+    requires global_size { length global.now ≡ length ranking.now }
     requires raw_size { length raw.now ≡ length ranking.now }
     requires raw_rows { (v : ℕ) → 1 ≤ v → v ≤ length ranking.now → IsRawRow (length ranking.now) (label_row raw.now v) }
     ensures size { IfOk result (λ rows. length rows ≡ length ranking.now) }
@@ -65,6 +64,6 @@ pub fn survivors<R: Threads + Sync>(
         → (e : AnEntry) → Contains (label_row rows v) e ↔ (Contains (label_row raw.now v) e × IsHubEntry (Joined edges) ranking.now v e)) }
 {
     let none = RowList::new(alloc, ranking.n())?;
-    let sorted = sorted_rows(rt, alloc, &none, raw)?;
-    surviving_rows(rt, alloc, ranking, global, &sorted)
+    let near = near_rows(rt, alloc, &none, raw)?;
+    surviving_rows(rt, alloc, ranking, global, &near)
 }

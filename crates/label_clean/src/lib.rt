@@ -4,8 +4,8 @@
 //! the raw entries that are kept, and never copies the global table. An entry is needless, and deleted, where a hub that
 //! ranks above its own is shared by the rows of its hub and of its node at no greater length. `laws` has the step of a
 //! builder who goes on with a global table. It stands on walk_laws (`Entry`, the laws of covers), rank_table (`Ranking`) and
-//! hub_index (`RowList`). Its callers' clauses use `HoldsBelow` and `IsChlBelow` (specs/Below), `IsRawRow` and `both_rows`
-//! (specs/RawRows), `RowsRise` (specs/Sorted) and `IsSurvivingRow` (specs/Needless).
+//! hub_index (`RowList`, `RootTable`). Its callers' clauses use `HoldsBelow` and `IsChlBelow` (specs/Below), `IsRawRow` and
+//! `both_rows` (specs/RawRows) and `IsSurvivingRow` (specs/Needless).
 #![tactic(auto)]
 
 mod cleaning;

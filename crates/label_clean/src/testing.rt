@@ -1,57 +1,64 @@
-ghost use Rattle.std.specs.Prelude.{◌+◌, ◌^◌, ◌≡◌, ◌↔◌, ℕ, ◌<◌, ◌≤◌, All, Contains, length, map, IsTrue, IfOk};
-ghost use Rattle.std.specs.List.Sorted.{IsStrictlyIncreasing};
+ghost use Rattle.std.specs.Prelude.{◌+◌, ◌^◌, ◌≡◌, ◌↔◌, ℕ, ◌<◌, ◌≤◌, length, IsTrue, IfOk};
 ghost use Rattle.walk_laws.specs.Labelling.{label_row};
+ghost use Rattle.label_clean.specs.RawRows.{both_rows};
 ghost use Rattle.label_clean.specs.Needless.{IsNeedless, IsSurvivingRow};
-ghost use Rattle.label_clean.specs.Sorted.{RowsRise};
+ghost use Rattle.label_clean.specs.Tested.{AreNearRows, HoldsLeast};
 
-use crate::cover::is_covered_in_parts;
-use crate::sorting::ROWS_A_THREAD;
-use hub_index::RowList;
+use crate::cover::{is_covered, note_row};
+use crate::sorting::{ROWS_A_THREAD, sorted_row};
+use hub_index::{RootTable, RowList, covered};
 use rank_table::Ranking;
 use rayon::prelude::*;
 use std::alloc::{AllocError, Global};
 use std::thread::Threads;
 use walk_laws::Entry;
 
-/// Whether the entry of the row of the node `v`, a number from 1, is needless. The rows of both tables rise.
-pub fn is_needless(ranking: &Ranking, global: &RowList, raw: &RowList, v: u32, entry: Entry) -> bool
-    requires global_rises { RowsRise (length ranking.now) global.now }
-    requires raw_rises { RowsRise (length ranking.now) raw.now }
-    requires node { 1 ≤ v }
-    requires node_within { v ≤ length ranking.now }
+/// Whether an entry of a node's row is needless, where the table has the distances of the node's rows. The near rows are
+/// by rising distance.
+pub fn is_needless(
+    ranking: &Ranking,
+    global: &RowList,
+    near: &RowList,
+    table: &RootTable,
+    entry: Entry,
+) -> bool
+    requires global_size { length global.now ≡ length ranking.now }
+    requires near { AreNearRows (length ranking.now) near.now }
+    requires size { length table.now ≡ length ranking.now }
     requires position { entry.pos < length ranking.now }
-    ensures { IsTrue result ↔ IsNeedless ranking.now global.now raw.now v entry }
+    ensures { (v : ℕ) → HoldsLeast table.now (both_rows global.now near.now v) → IsTrue result ↔ IsNeedless ranking.now global.now near.now v entry }
 {
     let hub = ranking.at(entry.pos);
-    is_covered_in_parts(
-        global.row(hub),
-        raw.row(hub),
-        global.row(v),
-        raw.row(v),
-        entry.pos,
-        entry.dist,
-    )
+    if covered(global.row(hub), table, entry.pos, entry.dist).is_some() {
+        return true;
+    }
+    is_covered(near.row(hub), table, entry.pos, entry.dist)
 }
 
-/// The raw entries of the node `v`, a number from 1, that are not needless, by rising position. The rows of both tables
-/// rise. The only error is that memory ran out.
+/// The near entries of the node `v`, a number from 1, that are not needless, by rising position. The table may hold
+/// anything before. The only error is that memory ran out.
 pub fn surviving_row(
     alloc: Global,
     ranking: &Ranking,
     global: &RowList,
-    raw: &RowList,
+    near: &RowList,
+    table: &mut RootTable,
     v: u32,
 ) -> Result<Vec<Entry>, AllocError>
-    requires global_rises { RowsRise (length ranking.now) global.now }
-    requires raw_rises { RowsRise (length ranking.now) raw.now }
+    requires global_size { length global.now ≡ length ranking.now }
+    requires near { AreNearRows (length ranking.now) near.now }
+    requires size { length table.old ≡ length ranking.now }
     requires node { 1 ≤ v }
     requires node_within { v ≤ length ranking.now }
-    requires positions { All (λ e. e.pos < length ranking.now) (label_row raw.now v) }
-    ensures { IfOk result (λ row. IsSurvivingRow ranking.now global.now raw.now v row.items) }
+    ensures { IfOk result (λ row. IsSurvivingRow ranking.now global.now near.now v row.items) }
 {
-    let mut kept = Vec::new(alloc);
-    for entry in raw.row(v) {
-        if is_needless(ranking, global, raw, v, *entry) {
+    table.clear();
+    note_row(table, global.row(v));
+    note_row(table, near.row(v));
+    let row = sorted_row(alloc, near.row(v))?;
+    let mut kept = Vec::with_capacity(alloc, row.len())?;
+    for entry in &row {
+        if is_needless(ranking, global, near, table, *entry) {
             continue;
         }
         kept.push(*entry)?;
@@ -59,28 +66,56 @@ pub fn surviving_row(
     Ok(kept)
 }
 
-/// The raw entries that are not needless, each row by rising position, tested on all cores. The rows of both tables rise.
-/// The only error is that memory ran out.
+/// The same with the table that is at hand, or else a new one, which is at hand afterwards.
+pub fn next_surviving_row(
+    alloc: Global,
+    ranking: &Ranking,
+    global: &RowList,
+    near: &RowList,
+    at_hand: &mut Option<RootTable>,
+    v: u32,
+) -> Result<Vec<Entry>, AllocError>
+    requires global_size { length global.now ≡ length ranking.now }
+    requires near { AreNearRows (length ranking.now) near.now }
+    requires node { 1 ≤ v }
+    requires node_within { v ≤ length ranking.now }
+    ensures { IfOk result (λ row. IsSurvivingRow ranking.now global.now near.now v row.items) }
+{
+    let n = ranking.n();
+    let mut table = match at_hand.take() {
+        Some(table) => table,
+        None => RootTable::new(alloc, n)?,
+    };
+    if table.n() != n as usize {
+        table = RootTable::new(alloc, n)?;
+    }
+    let row = surviving_row(alloc, ranking, global, near, &mut table, v)?;
+    *at_hand = Some(table);
+    Ok(row)
+}
+
+/// The near entries that are not needless, each row by rising position, tested on all cores with a table each. The near
+/// rows are by rising distance. The only error is that memory ran out.
 pub fn surviving_rows<R: Threads + Sync>(
     rt: &R,
     alloc: Global,
     ranking: &Ranking,
     global: &RowList,
-    raw: &RowList,
+    near: &RowList,
 ) -> Result<RowList, AllocError>
-    requires global_rises { RowsRise (length ranking.now) global.now }
-    requires raw_rises { RowsRise (length ranking.now) raw.now }
-    requires positions { (v : ℕ) → 1 ≤ v → v ≤ length ranking.now → All (λ e. e.pos < length ranking.now) (label_row raw.now v) }
+    requires global_size { length global.now ≡ length ranking.now }
+    requires near { AreNearRows (length ranking.now) near.now }
     ensures size { IfOk result (λ rows. length rows ≡ length ranking.now) }
-    ensures rows { IfOk result (λ rows. (v : ℕ) → 1 ≤ v → v ≤ length ranking.now → IsSurvivingRow ranking.now global.now raw.now v (label_row rows v)) }
+    ensures rows { IfOk result (λ rows. (v : ℕ) → 1 ≤ v → v ≤ length ranking.now → IsSurvivingRow ranking.now global.now near.now v (label_row rows v)) }
 {
     let rows = (0..ranking.n())
         .into_par_iter()
-        .map(
-            |place: u32| -> Result<Vec<Entry>, AllocError>
-                requires { (place + 1 < 2 ^ 32) × (place < length ranking.now) × RowsRise (length ranking.now) global.now × RowsRise (length ranking.now) raw.now × All (λ e. e.pos < length ranking.now) (label_row raw.now (place + 1)) }
-                ensures { IfOk result (λ row. IsSurvivingRow ranking.entry.now global.entry.now raw.entry.now (place + 1) row.items) }
-            { surviving_row(alloc, ranking, global, raw, place + 1) },
+        .map_init(
+            || -> Option<RootTable> { None },
+            |at_hand: &mut Option<RootTable>, place: u32| -> Result<Vec<Entry>, AllocError>
+                requires { (place + 1 < 2 ^ 32) × (place < length ranking.now) × (length global.now ≡ length ranking.now) × AreNearRows (length ranking.now) near.now }
+                ensures { IfOk result (λ row. IsSurvivingRow ranking.entry.now global.entry.now near.entry.now (place + 1) row.items) }
+            { next_surviving_row(alloc, ranking, global, near, at_hand, place + 1) },
         )
         .with_min_len(ROWS_A_THREAD)
         .collect::<Result<Vec<Vec<Entry>>, AllocError>>(rt, alloc)??;

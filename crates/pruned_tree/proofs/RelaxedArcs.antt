@@ -1,13 +1,14 @@
 -- The arcs of a row are gone along one after another.
-use Rattle.std.proofs.Common.{◌≡◌, ◌⊎◌, inl, inr, ℕ, ◌+◌, ◌<◌, ◌≤◌, List, length, get_or, refl, sym, ap, subst, ◌∙◌, arith}
+use Rattle.std.proofs.Common.{◌≡◌, ◌⊎◌, inl, inr, false, ℕ, ◌+◌, ◌<◌, ◌≤◌, List, length, get_or, refl, sym, ap, subst, ◌∙◌, arith}
 use Rattle.std.specs.Prelude.{Some, slice_get}
-use Rattle.std.proofs.lemmas.Bool.{cases_eq}
+use Rattle.std.proofs.lemmas.Bool.{cases_eq, leb-false}
 use Rattle.std.proofs.lemmas.Option.{slice_get-get_or}
 use Rattle.walk_laws.specs.declared.graph.Arc.{Arc}
 use Rattle.walk_laws.specs.Ranking.{position_of}
 use Rattle.frontier.specs.declared.reach.Found.{Found}
 use Rattle.frontier.specs.declared.reach.Reach.{Reach}
-use Rattle.frontier.specs.Reaches.{reach_at, with_offer}
+use Rattle.frontier.specs.declared.reach.Reach.TheVariants.{Unreached, Queued, Settled}
+use Rattle.frontier.specs.Reaches.{reach_at, heeds, with_offer}
 use Rattle.pruned_tree.specs.Relaxed.{HasDistance, IsSettledAt, IsRelaxed}
 use Rattle.pruned_tree.proofs.OfferedNodes.{has_distance, offer_settled, offer_came, offer_kept, offer_lowered, offer_size}
 
@@ -15,6 +16,12 @@ at_here : (row : List Arc) (i : ℕ) (d : Arc) → i < length row → (k : ℕ) 
 at_here row i d within k a same there =
     let both : Some a ≡ Some (get_or row i d) = sym there ∙ ap (slice_get row) same ∙ slice_get-get_or row i d within in
     cc
+
+-- where no offer at the distance d changes anything, the node is settled or as near
+unheeded : {C : Type 0} (r : Reach C) (d : ℕ) → heeds r d ≡ false → (e : ℕ) × HasDistance r e × ((e ≤ d) ⊎ IsSettledAt r e)
+unheeded Unreached d unchanged = absurd cc
+unheeded (Queued found) d unchanged = (found.dist, refl, inl (omega (arith, leb-false d found.dist unchanged)))
+unheeded (Settled found) d unchanged = (found.dist, refl, inr refl)
 
 module _ {C : Type 0} (at : List ℕ) (p dist : ℕ) (row : List Arc) where
   pub IsRelaxed-none : (nodes : List (Reach C)) → IsRelaxed at p dist 0 row nodes nodes
@@ -36,6 +43,21 @@ module _ {C : Type 0} (at : List ℕ) (p dist : ℕ) (row : List Arc) where
       kept = so_far.kept;
       lowered = λ k a lt there low. elim (cases_eq k i) [
         | inl same ↦ let is = ap (λ (b : Arc). position_of at b.to) (at_here row i d within k a same there) in absurd (omega (arith, is, above, low))
+        | inr other ↦ so_far.lowered k a (omega (arith, lt, other)) there low
+      ];
+    }
+
+    -- and so is one along which an offer would change nothing
+    pub IsRelaxed-unheeded : (before now : List (Reach C)) → heeds (reach_at now (get_or row i d).to) (dist + (get_or row i d).w) ≡ false → IsRelaxed at p dist i row before now → IsRelaxed at p dist (i + 1) row before now
+    IsRelaxed-unheeded before now unchanged so_far = record {
+      size = so_far.size;
+      settled = so_far.settled;
+      came = so_far.came;
+      kept = so_far.kept;
+      lowered = λ k a lt there low. elim (cases_eq k i) [
+        | inl same ↦
+            let P : Arc → Type 0 = λ b. (e : ℕ) × HasDistance (reach_at now b.to) e × ((e ≤ dist + b.w) ⊎ IsSettledAt (reach_at now b.to) e) in
+            subst P (sym (at_here row i d within k a same there)) (unheeded (reach_at now (get_or row i d).to) (dist + (get_or row i d).w) unchanged)
         | inr other ↦ so_far.lowered k a (omega (arith, lt, other)) there low
       ];
     }

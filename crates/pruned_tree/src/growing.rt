@@ -119,8 +119,12 @@ fn relax(
     ensures relaxed { OnOk result (IsRelaxed ranking.now p dist (length arcs.now) arcs.now frontier.old frontier.new) }
 {
     for arc in arcs {
+        let reached = dist + arc.w;
+        if !frontier.heeds(arc.to, reached) {
+            continue;
+        }
         if ranking.pos(arc.to) >= p {
-            frontier.offer(arc.to, dist + arc.w, Bare {})?;
+            frontier.offer(arc.to, reached, Bare {})?;
         }
     }
     Ok(())

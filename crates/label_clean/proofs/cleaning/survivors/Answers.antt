@@ -3,27 +3,27 @@ use Rattle.rayon.proofs.ListFacts.{IfOk-then}
 use Rattle.walk_laws.specs.declared.entry.Entry.{Entry}
 use Rattle.walk_laws.specs.Labelling.{label_row}
 use Rattle.label_clean.proofs.RowFacts.{All-each, label_row-replicate, length_empty}
-use Rattle.label_clean.proofs.Cleaned.{IsSurvivingRow-from_sorted, raw_there, surviving_hubs}
+use Rattle.label_clean.proofs.Cleaned.{IsSurvivingRow-from_near, raw_there, surviving_hubs}
 use Rattle.label_clean.proofs.cleaning.survivors.Goals as goal
 
-pub surviving_rows-requires-clause-raw_rises : goal.surviving_rows-requires-clause-raw_rises
-surviving_rows-requires-clause-raw_rises g c κs within =
-    let long : length c.in_ok-none.none ≡ length c.args.ranking.now = length_empty c.in_ok-none.none c.n.result c.in_ok-none.ensures ∙ c.n.ensures.value in
-    record {
-      size = c.in_ok-sorted.ensures.size ∙ long;
-      rising = λ v from_one up_to_n. (c.in_ok-sorted.ensures.rows v from_one (omega (arith, long))).rising;
-    }
-
-pub surviving_rows-requires-clause-positions : goal.surviving_rows-requires-clause-positions
-surviving_rows-requires-clause-positions g c κs within v from_one up_to_n =
+pub surviving_rows-requires-clause-near : goal.surviving_rows-requires-clause-near
+surviving_rows-requires-clause-near g c κs within =
     let at = c.args.ranking.now in
     let long : length c.in_ok-none.none ≡ length at = length_empty c.in_ok-none.none c.n.result c.in_ok-none.ensures ∙ c.n.ensures.value in
     let none_is : (v : ℕ) → 1 ≤ v → v ≤ length at → label_row c.in_ok-none.none v ≡ [] =
     λ v from_one up_to_n. ap (λ rows. label_row rows v) c.in_ok-none.ensures ∙ label_row-replicate c.n.result v from_one (omega (arith, c.n.ensures.value)) in
-    All-each (λ (e : Entry). e.pos < length at) (label_row c.args.raw.now v) (label_row c.in_ok-sorted.sorted v)
-    (raw_there at c.n.ensures.ranking c.in_ok-none.none c.in_ok-sorted.sorted none_is c.args.global.now c.args.raw.now
-    (λ x low high. c.in_ok-sorted.ensures.rows x low (omega (arith, long))) v from_one up_to_n)
-    (c.requires.raw_rows v from_one up_to_n).within
+    record {
+      size = c.in_ok-near.ensures.size ∙ long;
+      nearing = λ v from_one up_to_n. (c.in_ok-near.ensures.rows v from_one (omega (arith, long))).nearing;
+      raw = λ v from_one up_to_n. record {
+        within =
+            All-each (λ (e : Entry). e.pos < length at) (label_row c.args.raw.now v) (label_row c.in_ok-near.near v)
+            (raw_there at c.n.ensures.ranking c.in_ok-none.none c.in_ok-near.near none_is c.args.global.now c.args.raw.now
+            (λ x low high. c.in_ok-near.ensures.rows x low (omega (arith, long))) v from_one up_to_n)
+            (c.requires.raw_rows v from_one up_to_n).within;
+        once = (c.in_ok-near.ensures.rows v from_one (omega (arith, long))).once;
+      };
+    }
 
 pub returns-clause-rows : goal.returns-clause-rows
 returns-clause-rows g c =
@@ -32,8 +32,8 @@ returns-clause-rows g c =
     let none_is : (v : ℕ) → 1 ≤ v → v ≤ length at → label_row c.in_ok-none.none v ≡ [] =
     λ v from_one up_to_n. ap (λ rows. label_row rows v) c.in_ok-none.ensures ∙ label_row-replicate c.n.result v from_one (omega (arith, c.n.ensures.value)) in
     IfOk-then c.surviving_rows.result _ _ c.surviving_rows.ensures.rows
-    (λ rows survive v from_one up_to_n. IsSurvivingRow-from_sorted at c.n.ensures.ranking c.in_ok-none.none c.in_ok-sorted.sorted none_is c.args.global.now c.args.raw.now
-    (λ x low high. c.in_ok-sorted.ensures.rows x low (omega (arith, long))) v (label_row rows v) from_one up_to_n (survive v from_one up_to_n))
+    (λ rows survive v from_one up_to_n. IsSurvivingRow-from_near at c.n.ensures.ranking c.in_ok-none.none c.in_ok-near.near none_is c.args.global.now c.args.raw.now
+    (λ x low high. c.in_ok-near.ensures.rows x low (omega (arith, long))) v (label_row rows v) from_one up_to_n (survive v from_one up_to_n))
 
 pub returns-clause-hubs : goal.returns-clause-hubs
 returns-clause-hubs g c =

@@ -1,36 +1,29 @@
-use Rattle.std.proofs.Common.{false, refl, arith}
+use Rattle.std.proofs.Common.{false}
 use Rattle.std.specs.Prelude.{IsTrue}
-use Rattle.label_clean.proofs.Covering.{Walked-start, Walked-step_first, Walked-step_second, Walked-step_both, Walked-stop, Walked-cover}
+use Rattle.std.proofs.lemmas.List.Elements.{All-contains}
+use Rattle.walk_laws.specs.declared.entry.Entry.{Entry}
+use Rattle.hub_index.specs.RootDistances.{IsCover}
+use Rattle.hub_index.proofs.CoveredEntries.{All-one_more, All-whole}
+use Rattle.label_clean.proofs.NearRows.{no_cover_behind}
 use Rattle.label_clean.proofs.cover.is_covered.Goals as goal
-use Rattle.label_clean.proofs.cover.is_covered.Goals.{else-a-dist-via-then-a-dist+else-b-dist, else-a-dist-via-else-a-dist}
 
-pub loop-i-init : goal.loop-i-init
-loop-i-init c = Walked-start c.args.first.now c.args.second.now c.args.pos c.args.dist c.requires.first_rises c.requires.second_rises
+abbrev nothing : Entry
+nothing = record { pos = 0; dist = 0 }
 
-pub returns-then-a-pos : goal.returns-then-a-pos
-returns-then-a-pos c = (
+pub returns-then-entry-dist : goal.returns-then-entry-dist
+returns-then-entry-dist c = (
   λ t. let none : IsTrue false = t in absurd cc,
-  λ cover. absurd (Walked-stop c.args.first.now c.args.second.now c.loop-i.i c.loop-i.j c.args.pos c.args.dist c.loop-i-test.true c.if-j-second.true c.loop-i.invariant (omega (arith, c.if-a-b.true)) c.if-a-pos.true cover),
+  λ cover. absurd (no_cover_behind c.args.table.now c.args.pos c.args.dist c.args.row.now c.loop-entry.entry-index nothing c.requires.nearing c.loop-entry-test.true c.if-entry-dist.true c.loop-entry.invariant cover),
 )
 
-pub returns-then-b-dist : goal.returns-then-b-dist
-returns-then-b-dist c = (
-  λ t. Walked-cover c.args.first.now c.args.second.now c.loop-i.i c.loop-i.j c.args.pos c.args.dist c.loop-i-test.true c.if-j-second.true c.loop-i.invariant (omega (arith, c.if-a-b.true)) (omega (arith, c.if-a-pos.false)) (omega (arith, c.if-a-dist.true, c.if-b-dist.true)),
-  λ cover. refl,
+pub loop-entry-preserved : goal.loop-entry-preserved
+loop-entry-preserved c =
+    All-one_more (λ e. IsCover c.args.table.now c.args.pos c.args.dist e → ⊥) c.args.row.now c.loop-entry.entry-index nothing c.loop-entry-test.true c.loop-entry.invariant
+    (λ cover. let found : IsTrue false = c.if-covers.ensures.1 cover in absurd cc)
+
+pub returns : goal.returns
+returns c = (
+  λ t. let none : IsTrue false = t in absurd cc,
+  λ cover. absurd (All-contains (λ e. IsCover c.args.table.now c.args.pos c.args.dist e → ⊥) c.args.row.now cover.0
+      (All-whole (λ e. IsCover c.args.table.now c.args.pos c.args.dist e → ⊥) c.args.row.now c.loop-entry.entry-index c.loop-entry-test.false c.loop-entry.invariant) cover.1 cover.2),
 )
-
-pub loop-i-preserved-then-a-b : goal.loop-i-preserved-then-a-b
-loop-i-preserved-then-a-b c =
-    Walked-step_both c.args.first.now c.args.second.now c.loop-i.i c.loop-i.j c.args.pos c.args.dist c.loop-i-test.true c.if-j-second.true c.loop-i.invariant (omega (arith, c.if-a-b.true))
-    (λ short. elim c.else-a-dist.branch [
-      | else-a-dist-via-then-a-dist+else-b-dist w ↦ omega (arith, short, w.if-a-dist.true, w.if-b-dist.false)
-      | else-a-dist-via-else-a-dist w ↦ omega (arith, short, w.if-a-dist.false)
-    ])
-
-pub loop-i-preserved-then-a-b-2 : goal.loop-i-preserved-then-a-b-2
-loop-i-preserved-then-a-b-2 c =
-    Walked-step_first c.args.first.now c.args.second.now c.loop-i.i c.loop-i.j c.args.pos c.args.dist c.loop-i-test.true c.if-j-second.true c.loop-i.invariant c.if-a-b-2.true
-
-pub loop-i-preserved : goal.loop-i-preserved
-loop-i-preserved c =
-    Walked-step_second c.args.first.now c.args.second.now c.loop-i.i c.loop-i.j c.args.pos c.args.dist c.loop-i-test.true c.if-j-second.true c.loop-i.invariant (omega (arith, c.if-a-b.false, c.if-a-b-2.false))

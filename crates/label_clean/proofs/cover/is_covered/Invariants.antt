@@ -1,10 +1,7 @@
-use Rattle.std.proofs.Common.{length, drop, ◌+◌, ◌-◌}
-use Rattle.label_clean.proofs.Covering.{Walked}
+use Rattle.std.proofs.Common.{All, take}
+use Rattle.hub_index.specs.RootDistances.{IsCover}
 use Rattle.label_clean.proofs.cover.is_covered.Given as goal
 
--- what covers is in what is left of the rows
-abbrev pub invariant-loop-i : goal.invariant-loop-i
-invariant-loop-i l = Walked l.first l.second (drop l.i l.first) (drop l.j l.second) l.pos l.dist
-
-abbrev pub decreases-loop-i : goal.decreases-loop-i
-decreases-loop-i l = (length l.first - l.i) + (length l.second - l.j)
+-- none of the entries so far covers
+abbrev pub invariant-loop-entry : goal.invariant-loop-entry
+invariant-loop-entry l = All (λ e. IsCover l.table l.pos l.dist e → ⊥) (take l.entry-index l.row)

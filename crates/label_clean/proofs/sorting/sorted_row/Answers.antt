@@ -6,8 +6,8 @@ use Rattle.label_clean.proofs.sorting.sorted_row.Goals as goal
 
 pub returns : goal.returns
 returns c =
-    let gathered : c.extend_from_slice-2.new.self.items ≡ c.args.first.now ++ c.args.second.now =
-    c.in_ok-extend_from_slice-2.ensures.items ∙ ap (λ row. row ++ c.args.second.now) (c.in_ok-extend_from_slice.ensures.items ∙ ap (λ row. row ++ c.args.first.now) c.in_ok-row.ensures.items) in
-    IsSortedRow-from_sort (c.args.first.now ++ c.args.second.now) c.sort_unstable_by_key.new.self.items c.requires
+    let gathered : c.extend_from_slice.new.self.items ≡ c.args.row.now =
+    c.in_ok-extend_from_slice.ensures.items ∙ ap (λ row. row ++ c.args.row.now) c.in_ok-sorted.ensures.items in
+    IsSortedRow-from_sort c.args.row.now c.sort_unstable_by_key.new.self.items c.requires
     (rw gathered at c.sort_unstable_by_key.ensures.permutation)
     (IsNonDecreasingBy-from_sort pos_of c.sort_unstable_by_key.new.self.items (c.sort_unstable_by_key.ensures.sorted pos_of (answers_always _ _ _ (λ f a r g h. search rules))))

@@ -2,7 +2,7 @@ use Rattle.std.proofs.Common.{◌+◌, ◌<◌, List, refl, length, get_or, sym,
 use Rattle.frontier.specs.declared.reach.Reach.{Reach}
 use Rattle.pruned_tree.specs.declared.bare.Bare.{Bare}
 use Rattle.pruned_tree.specs.Relaxed.{IsRelaxed}
-use Rattle.pruned_tree.proofs.RelaxedArcs.{IsRelaxed-none, IsRelaxed-over, IsRelaxed-next}
+use Rattle.pruned_tree.proofs.RelaxedArcs.{IsRelaxed-none, IsRelaxed-over, IsRelaxed-unheeded, IsRelaxed-next}
 use Rattle.pruned_tree.proofs.growing.relax.Goals as goal
 use Rattle.pruned_tree.proofs.growing.relax.Goals.{then-pos-p+in_ok-offer, else-pos-p}
 
@@ -12,6 +12,10 @@ first a b = a
 
 pub loop-arc-init : goal.loop-arc-init
 loop-arc-init c = IsRelaxed-none c.args.ranking.now c.args.p c.args.dist c.args.arcs.now c.args.frontier.now
+
+pub loop-arc-preserved-then-not-heeds : goal.loop-arc-preserved-then-not-heeds
+loop-arc-preserved-then-not-heeds c =
+    IsRelaxed-unheeded c.args.ranking.now c.args.p c.args.dist c.args.arcs.now c.loop-arc.arc-index (record { to = 0; w = 0 }) c.loop-arc-test.true c.args.frontier.now c.loop-arc.frontier (sym c.heeds.ensures ∙ c.if-not-heeds.true) c.loop-arc.invariant
 
 pub loop-arc-preserved : goal.loop-arc-preserved
 loop-arc-preserved c =

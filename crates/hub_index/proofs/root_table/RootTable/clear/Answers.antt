@@ -3,7 +3,7 @@ use Rattle.std.proofs.Math.ListN.{length-set}
 use Rattle.std.proofs.lemmas.List.{get_or_read}
 use Rattle.hub_index.specs.RootDistances.{root_distance}
 use Rattle.hub_index.specs.Touched.{HasTouched}
-use Rattle.hub_index.proofs.TouchedPositions.{last_within, held-but_last, all_none, none_in, HasTouched-none}
+use Rattle.hub_index.proofs.TouchedPositions.{last_within, held-but_last, all_none, none_in, HasTouched-none, nearest-set, nearest-length}
 use Rattle.hub_index.proofs.root_table.RootTable.clear.Goals as goal
 use Rattle.hub_index.proofs.root_table.RootTable.clear.Goals.{In-loop-self, After-loop-self}
 
@@ -38,6 +38,7 @@ loop-self-preserved c =
       room = was.room ∙ sym now;
       few = omega (arith, last.room);
       within = subst (λ n. All (λ x. x < n) (take (c.loop-self.self-inside.count - 1) c.loop-self.self-inside.touched.items)) (sym now) last.before;
+      tested = nearest-set c.loop-self.self-inside.dists.items c.loop-self.self-inside.nearest.items c.index-pos.result.now None was.tested;
       held = subst (λ x. (p : ℕ) → root_distance (set c.loop-self.self-inside.dists.items x None) p ≢ None → Contains (take (c.loop-self.self-inside.count - 1) c.loop-self.self-inside.touched.items) p) (sym (get_or_read c.loop-self.self-inside.touched.items (c.loop-self.self-inside.count - 1) _ last.room c.index-pos.ensures 0)) rest;
     }
 
@@ -49,9 +50,18 @@ emptied c p held =
 
 pub invariant_of-self : goal.invariant_of-self
 invariant_of-self c =
-    let over : 0 ≡ c.loop-self.self-inside.count = omega (arith, c.loop-self-test.false) in
-    subst (HasTouched c.loop-self.self-inside.dists.items c.loop-self.self-inside.touched.items) over
-    (HasTouched-none c.loop-self.self-inside.dists.items c.loop-self.self-inside.touched.items c.loop-self.invariant.room (emptied (goal.at.invariant_of-self c).After-loop-self))
+    let over : 0 ≡ c.loop-self.self-inside.count = omega (arith, c.loop-self-test.false) in (
+      subst (HasTouched c.loop-self.self-inside.dists.items c.loop-self.self-inside.touched.items) over
+          (HasTouched-none c.loop-self.self-inside.dists.items c.loop-self.self-inside.touched.items c.loop-self.invariant.room (emptied (goal.at.invariant_of-self c).After-loop-self)),
+      c.loop-self.invariant.tested,
+    )
 
 pub returns : goal.returns
 returns c = all_none c.loop-self.self-inside.dists.items (length c.args.self.now) (c.loop-self.invariant.size ∙ ap length c.self.view_is) (emptied (goal.at.returns c).After-loop-self)
+
+pub index_mut-requires-in-loop-self : goal.index_mut-requires-in-loop-self
+index_mut-requires-in-loop-self c =
+    let was = c.loop-self.invariant in
+    let last = last_of (goal.at.index_mut-requires-in-loop-self c).In-loop-self in
+    let inside = subst (λ x. x < length c.loop-self.self-inside.dists.items) (sym (get_or_read c.loop-self.self-inside.touched.items (c.loop-self.self-inside.count - 1) _ last.room c.index-pos.ensures 0)) last.inside in
+    omega (arith, inside, nearest-length c.loop-self.self-inside.dists.items c.loop-self.self-inside.nearest.items was.tested, c.loop-self.self-inside.nearest.ok.0)

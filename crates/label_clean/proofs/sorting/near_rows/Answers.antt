@@ -4,9 +4,9 @@ use Rattle.std.proofs.lemmas.List.{length-map}
 use Rattle.rayon.proofs.ToStd.{nat_range-All}
 use Rattle.walk_laws.specs.declared.entry.Entry.{Entry}
 use Rattle.label_clean.specs.RawRows.{HasEachOnce, both_rows}
-use Rattle.label_clean.specs.Sorted.{IsSortedRow}
+use Rattle.label_clean.specs.Tested.{IsNearRow}
 use Rattle.label_clean.proofs.EachRow.{gathered}
-use Rattle.label_clean.proofs.sorting.sorted_rows.Goals as goal
+use Rattle.label_clean.proofs.sorting.near_rows.Goals as goal
 
 pub collect-requires-clause-ready : goal.collect-requires-clause-ready
 collect-requires-clause-ready g c κs within =
@@ -26,7 +26,7 @@ from_rows-requires g c =
     let chain = rw (c.with_min_len.ensures.base, c.map.ensures.base, c.map.ensures.f, ends.0, ends.1) at done.1 in
     let ok = rw c.in_ok-rows.was at done.2 in
     let whole : c.n.result - 0 ≡ length c.args.global.now = omega (arith, c.n.ensures) in
-    let all = gathered (λ (v : ℕ) (row : List Entry). IsSortedRow (both_rows c.args.global.now c.args.raw.now v) row) (length c.args.global.now) chain.0 done.0 c.in_ok-rows.rows.items ok.0 (chain.1 ∙ ap (range_with_len 0) whole) chain.2 ok.1 ok.2 in
+    let all = gathered (λ (v : ℕ) (row : List Entry). IsNearRow (both_rows c.args.global.now c.args.raw.now v) row) (length c.args.global.now) chain.0 done.0 c.in_ok-rows.rows.items ok.0 (chain.1 ∙ ap (range_with_len 0) whole) chain.2 ok.1 ok.2 in
     omega (arith, all.0, fits, c.n.ensures)
 
 pub returns : goal.returns
@@ -36,7 +36,7 @@ returns g c =
     let chain = rw (c.with_min_len.ensures.base, c.map.ensures.base, c.map.ensures.f, ends.0, ends.1) at done.1 in
     let ok = rw c.in_ok-rows.was at done.2 in
     let whole : c.n.result - 0 ≡ length c.args.global.now = omega (arith, c.n.ensures) in
-    let all = gathered (λ (v : ℕ) (row : List Entry). IsSortedRow (both_rows c.args.global.now c.args.raw.now v) row) (length c.args.global.now) chain.0 done.0 c.in_ok-rows.rows.items ok.0 (chain.1 ∙ ap (range_with_len 0) whole) chain.2 ok.1 ok.2 in
+    let all = gathered (λ (v : ℕ) (row : List Entry). IsNearRow (both_rows c.args.global.now c.args.raw.now v) row) (length c.args.global.now) chain.0 done.0 c.in_ok-rows.rows.items ok.0 (chain.1 ∙ ap (range_with_len 0) whole) chain.2 ok.1 ok.2 in
     record {
       size = rw c.from_rows.ensures (length-map c.in_ok-rows.rows.items (λ row. row.items) ∙ all.0);
       rows = rw c.from_rows.ensures all.1;

@@ -1,0 +1,41 @@
+-- Rows by rising distance.
+use Rattle.std.proofs.Common.{◌≡◌, ℕ, ◌<◌, inl, inr, Option, List, All, length, map, get_or, take, ap, ◌∙◌, eqb, arith}
+use Rattle.std.specs.List.Sorted.{IsPermutation, IsNonDecreasingBy}
+use Rattle.std.proofs.lemmas.Bool.{cases_lt}
+use Rattle.std.proofs.lemmas.List.{get_or-take, get_or_default, length-take}
+use Rattle.std.proofs.lemmas.List.Elements.{All-contains}
+use Rattle.std.proofs.lemmas.List.Sorted.{IsPermutation-map, IsPermutation-sym, Contains-permutation}
+use Rattle.std.proofs.lemmas.Map.Keys.{IsDistinct-IsPermutation}
+use Rattle.walk_laws.specs.declared.entry.Entry.{Entry}
+use Rattle.hub_index.specs.RootDistances.{IsCover}
+use Rattle.label_clean.specs.RawRows.{HasEachOnce, IsRawRow}
+use Rattle.label_clean.specs.Tested.{IsNearRow, HasCover}
+use Rattle.label_clean.proofs.Covering.{pos_of}
+use Rattle.label_clean.proofs.RowFacts.{eqb_flips, All-each}
+
+abbrev pub dist_of : Entry → ℕ
+dist_of e = e.dist
+
+-- entries that differ in position, sorted by distance
+pub IsNearRow-from_sort : (row near : List Entry) → HasEachOnce row → IsPermutation row near → IsNonDecreasingBy dist_of near → IsNearRow row near
+IsNearRow-from_sort row near once moved up = record {
+  nearing = up;
+  once = IsDistinct-IsPermutation eqb eqb_flips (map pos_of row) (map pos_of near) (IsPermutation-map pos_of row near moved) once;
+  each = λ e. (λ h. Contains-permutation near row e (IsPermutation-sym row near moved) h, λ h. Contains-permutation row near e moved h);
+}
+
+pub IsRawRow-near : (n : ℕ) (entries row : List Entry) → IsNearRow entries row → All (λ e. e.pos < n) entries → IsRawRow n row
+IsRawRow-near n entries row near within = record {
+  within = All-each (λ (e : Entry). e.pos < n) entries row (λ e. (near.each e).0) within;
+  once = near.once;
+}
+
+-- behind an entry that is too far nothing covers
+pub no_cover_behind : (table : List (Option ℕ)) (p d : ℕ) (row : List Entry) (i : ℕ) (none : Entry) → IsNonDecreasingBy dist_of row → i < length row → d < (get_or row i none).dist → All (λ e. IsCover table p d e → ⊥) (take i row) → HasCover table p d row → ⊥
+no_cover_behind table p d row i none nearing within far before (e, (k, k_within, is), cover) = elim (cases_lt k i) [
+  | inl earlier ↦
+      All-contains (λ x. IsCover table p d x → ⊥) (take i row) e before (k, omega (arith, earlier, within, length-take i row), get_or-take i row k e earlier ∙ is) cover
+  | inr later ↦
+      let same : (get_or row k none).dist ≡ e.dist = ap dist_of (get_or_default row k none e k_within ∙ is) in
+      omega (arith, nearing i k none later k_within, same, far, cover.short)
+]

@@ -1,0 +1,28 @@
+-- What entries are tested with: rows by rising distance, and a table of the distances of a row.
+use Rattle.std.specs.Prelude.{◌≡◌, ◌↔◌, ℕ, ◌<◌, ◌≤◌, List, Option, Some, Contains, length}
+use Rattle.std.specs.List.Sorted.{IsNonDecreasingBy}
+use Rattle.walk_laws.specs.declared.entry.Entry.{Entry}
+use Rattle.walk_laws.specs.Labelling.{label_row}
+use Rattle.hub_index.specs.RootDistances.{root_distance, IsCover}
+use Rattle.label_clean.specs.RawRows.{HasEachOnce, IsRawRow}
+
+-- the row has the entries of another by rising distance
+pub record IsNearRow (entries row : List Entry) : Type 0 where
+  pub nearing : IsNonDecreasingBy (λ e. e.dist) row
+  pub once : HasEachOnce row
+  pub each : (e : Entry) → Contains row e ↔ Contains entries e
+
+-- a row for each of n nodes, by rising distance, with at most one entry of each hub
+pub record AreNearRows (n : ℕ) (rows : List (List Entry)) : Type 0 where
+  pub size : length rows ≡ n
+  pub nearing : (v : ℕ) → 1 ≤ v → v ≤ n → IsNonDecreasingBy (λ e. e.dist) (label_row rows v)
+  pub raw : (v : ℕ) → 1 ≤ v → v ≤ n → IsRawRow n (label_row rows v)
+
+-- each distance of the table is one of the row, and no greater than any that the row has at its position
+pub record HoldsLeast (table : List (Option ℕ)) (row : List Entry) : Type 0 where
+  pub there : (p d : ℕ) → root_distance table p ≡ Some d → Contains row (record { pos = p; dist = d })
+  pub least : (e : Entry) → Contains row e → e.pos < length table → (d : ℕ) × (root_distance table e.pos ≡ Some d) × (d ≤ e.dist)
+
+-- an entry of the row covers one at the position p with the distance d, by way of the hubs in the table
+abbrev pub HasCover : List (Option ℕ) → ℕ → ℕ → List Entry → Type 0
+HasCover table p d row = (e : Entry) × Contains row e × IsCover table p d e
