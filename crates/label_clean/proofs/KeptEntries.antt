@@ -7,8 +7,10 @@ use Rattle.std.proofs.lemmas.List.Elements.{Contains-append_left, Contains-appen
 use Rattle.std.proofs.lemmas.List.Kept.{AllPairs-from_increasing}
 use Rattle.std.proofs.lemmas.List.Quantifiers.{all_pairs_push}
 use Rattle.walk_laws.specs.declared.entry.Entry.{Entry}
+use Rattle.walk_laws.specs.Labelling.{label_row}
 use Rattle.walk_laws.proofs.LabelRows.{Rises}
 use Rattle.walk_laws.proofs.Members.{Contains-first, Contains-cons_cases, Contains-empty}
+use Rattle.label_clean.specs.Needless.{IsSurvivingRow}
 use Rattle.label_clean.proofs.Covering.{pos_of}
 
 -- the row without the entries of one kind
@@ -97,3 +99,10 @@ module _ (P : Entry → Type 0) where
 
   pub IsKept-rising : (row kept : List Entry) → IsKept P row kept → IsStrictlyIncreasing (map pos_of kept)
   IsKept-rising row kept all k within = all.rises k (k + 1) 0 (omega arith) within
+
+-- of a row without entries none is kept
+pub IsSurvivingRow-none : (at : List ℕ) (global near : List (List Entry)) (v : ℕ) → length (label_row near v) ≡ 0 → IsSurvivingRow at global near v []
+IsSurvivingRow-none at global near v none = record {
+  rising = λ k within. absurd (omega (arith, within));
+  each = λ e. (λ h. absurd (Contains-empty e h), λ h. let within = h.0.1 in absurd (omega (arith, within, none)));
+}

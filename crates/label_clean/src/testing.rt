@@ -66,7 +66,8 @@ pub fn surviving_row(
     Ok(kept)
 }
 
-/// The same with the table that is at hand, or else a new one, which is at hand afterwards.
+/// The same with the table that is at hand, or else a new one, which is at hand afterwards. A node without near entries
+/// costs nothing.
 pub fn next_surviving_row(
     alloc: Global,
     ranking: &Ranking,
@@ -81,6 +82,9 @@ pub fn next_surviving_row(
     requires node_within { v ≤ length ranking.now }
     ensures { IfOk result (λ row. IsSurvivingRow ranking.now global.now near.now v row.items) }
 {
+    if near.row(v).is_empty() {
+        return Ok(Vec::new(alloc));
+    }
     let n = ranking.n();
     let mut table = match at_hand.take() {
         Some(table) => table,
