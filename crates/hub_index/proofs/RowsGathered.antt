@@ -1,9 +1,9 @@
 -- Rows that are gathered: what is found of them, and one more entry.
-use Rattle.std.proofs.Common.{◌≡◌, ◌≢◌, ℕ, ◌-◌, ◌<◌, ◌≤◌, false, Contains, inl, inr, List, [], ◌∷◌, ◌++◌, All, length, get_or-set_other, get_or-set_same, sym, subst, ◌∙◌, arith}
+use Rattle.std.proofs.Common.{◌≡◌, ◌≢◌, ℕ, ◌-◌, ◌<◌, ◌≤◌, false, inl, inr, List, [], ◌∷◌, ◌++◌, All, length, get_or-set_other, get_or-set_same, sym, subst, ◌∙◌, arith}
 use Rattle.std.proofs.Math.ListN.{length-set}
 use Rattle.std.proofs.lemmas.Bool.{cases_eq}
 use Rattle.std.proofs.lemmas.List.{append-nil}
-use Rattle.std.proofs.lemmas.List.Elements.{All-push, All-contains}
+use Rattle.std.proofs.lemmas.List.Elements.{All-push, All-weaker}
 use Rattle.std.proofs.lemmas.Option.{slice_get_within}
 use Rattle.std.specs.Prelude.{Result, Ok, Err, OnOk}
 use Rattle.std.specs.Result.{is_err}
@@ -41,11 +41,10 @@ IsGathered-gains edges order rows v e gathered node fits = record {
   ];
 }
 
--- each position of an entry that is found is one of the ranking
-pub position-found : (edges : List Edge) (order : List ℕ) (v : ℕ) (row : List Entry) (e : Entry) → All (EntryFits (Joined edges) order v) row → Contains row e → e.pos < length order
-position-found edges order v row e fit there =
-    let fits = All-contains (EntryFits (Joined edges) order v) row e fit there in
-    slice_get_within order e.pos fits.walk.0 fits.walk.1
+-- each position of the entries that are found is one of the ranking
+pub positions-found : (edges : List Edge) (order : List ℕ) (v : ℕ) (row : List Entry) → All (EntryFits (Joined edges) order v) row → All (λ e. e.pos < length order) row
+positions-found edges order v row fit =
+    All-weaker (EntryFits (Joined edges) order v) (λ e. e.pos < length order) (λ e fits. slice_get_within order e.pos fits.walk.0 fits.walk.1) row fit
 
 pub put-done : {E : Type 0} (r : Result (Unit {0}) E) (P : Type 0) → is_err r ≡ false → OnOk r P → P
 put-done (Ok x) P done h = h

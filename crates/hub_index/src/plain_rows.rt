@@ -70,11 +70,12 @@ impl RowView for PlainRows {
 
     ghost puts = { λ view v. label_row view.rows v };
 
+    ghost Kept = { Unit {0} };
+
+    ghost kept = { λ _. tt };
+
     fn load_root(&mut self, h: u32, table: &mut RootTable) {
-        table.clear();
-        for entry in self.rows.row(h) {
-            table.note(*entry);
-        }
+        table.load(self.rows.row(h));
     }
 
     fn offer(&mut self, v: u32, entry: Entry, table: &RootTable) -> Offer {

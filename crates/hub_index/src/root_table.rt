@@ -1,5 +1,5 @@
 ghost use Rattle.std.specs.Prelude.{◌≡◌, ◌↔◌, ℕ, ◌<◌, ◌≤◌, Option, Some, None, All, length, replicate, take, slice_get, IfOk, IfSome, IfNone, IsTrue};
-ghost use Rattle.hub_index.specs.RootDistances.{root_distance, with_noted, IsCover};
+ghost use Rattle.hub_index.specs.RootDistances.{root_distance, with_noted, IsCover, HoldsRow};
 
 use std::alloc::{AllocError, Global};
 use std::marker::Model;
@@ -87,6 +87,19 @@ impl RootTable {
                 self.dists[place] = Some(least);
                 self.nearest[place] = least;
             }
+        }
+    }
+
+    /// Forgets what it had, and notes the entries of the row: it then has the least distance of each of their positions, and
+    /// nothing else. It costs what it had and the row, and takes no memory.
+    pub fn load(&mut self, row: &[Entry])
+        requires { All (λ e. e.pos < length self.old) row.now }
+        ensures held { HoldsRow self.new row.now }
+        ensures size { length self.new ≡ length self.old }
+    {
+        self.clear();
+        for entry in row {
+            self.note(*entry);
         }
     }
 

@@ -36,6 +36,11 @@ pub trait RowView {
     /// The entries that were put in a node's row through this view, in order.
     ghost puts: { Self → ℕ → List Entry };
 
+    /// What no call changes, as whose rows these are.
+    ghost Kept: { Type 0 };
+
+    ghost kept: { Self → Kept };
+
     /// Finds the row of the node `h`, a number from 1, and makes the table hold the least distance of each of its
     /// positions, and nothing else. The row is then the list seen of `h`. It takes no memory.
     fn load_root(&mut self, h: u32, table: &mut RootTable)
@@ -43,6 +48,7 @@ pub trait RowView {
         requires size { length table.old ≡ length (order self.old) }
         ensures edges { edges self.new ≡ edges self.old }
         ensures order { order self.new ≡ order self.old }
+        ensures kept { kept self.new ≡ kept self.old }
         ensures found { IsFound (Joined (edges self.old)) (order self.old) h (seen self.old h) (seen self.new h) }
         ensures held { HoldsRow table.new (seen self.new h) }
         ensures size { length table.new ≡ length table.old }
@@ -58,6 +64,7 @@ pub trait RowView {
         requires fits { EntryFits (Joined (edges self.old)) (order self.old) v entry }
         ensures edges { edges self.new ≡ edges self.old }
         ensures order { order self.new ≡ order self.old }
+        ensures kept { kept self.new ≡ kept self.old }
         ensures found { (row : List Entry) × IsFound (Joined (edges self.old)) (order self.old) v (seen self.old v) row
             × IsAnswerOf table.now row entry result × (seen self.new v ≡ with_put row entry result) }
         ensures puts { puts self.new v ≡ with_put (puts self.old v) entry result }

@@ -37,6 +37,7 @@ pub fn grow<R: RowView>(
     ensures same { work.new ≡ work.old }
     ensures edges { R.edges view.new ≡ graph.now.edges }
     ensures order { R.order view.new ≡ ranking.now }
+    ensures kept { R.kept view.new ≡ R.kept view.old }
     ensures pruned { IsPruned (Joined graph.now.edges) ranking.now (R.puts view.old) (R.puts view.new) p }
     ensures count { IfOk result (λ count. entries_of ranking.now (R.puts view.new) ≡ entries_of ranking.now (R.puts view.old) + count) }
     ensures complete { IfOk result (λ _. (h v d : ℕ) → slice_get ranking.now p ≡ Some h
@@ -76,6 +77,7 @@ fn grow_from<R: RowView>(
     ensures same { length frontier.new ≡ length frontier.old }
     ensures edges { R.edges view.new ≡ graph.now.edges }
     ensures order { R.order view.new ≡ ranking.now }
+    ensures kept { R.kept view.new ≡ R.kept view.old }
     ensures pruned { IsPruned (Joined graph.now.edges) ranking.now (R.puts view.old) (R.puts view.new) p }
     ensures count { IfOk result (λ count. entries_of ranking.now (R.puts view.new) ≡ entries_of ranking.now (R.puts view.old) + count) }
     ensures complete { IfOk result (λ _. (h v d : ℕ) → slice_get ranking.now p ≡ Some h

@@ -1,5 +1,5 @@
 mod Allowed
-mod Counting
+pub mod Counting
 mod LiveSeats
 mod LiveTotals
 mod Steps

@@ -1,4 +1,4 @@
-use Rattle.std.proofs.Common.{◌≡◌, ◌≢◌, ℕ, ◌+◌, ◌*◌, ◌<◌, ◌≤◌, List, [], ◌∷◌, ◌++◌, length, replicate, sym, ap, subst, ◌∙◌, arith}
+use Rattle.std.proofs.Common.{refl, ◌≡◌, ◌≢◌, ℕ, ◌+◌, ◌*◌, ◌<◌, ◌≤◌, List, [], ◌∷◌, ◌++◌, length, replicate, sym, ap, subst, ◌∙◌, arith}
 use Rattle.std.specs.Prelude.{Some, slice_get}
 use Rattle.std.proofs.Math.ListN.{length-set}
 use Rattle.std.proofs.lemmas.List.{length-replicate, append-nil}
@@ -41,6 +41,7 @@ loop-v-init g c =
     record {
       edges = c.requires.edges;
       order = c.requires.order;
+      kept = refl;
       size = size;
       bounded = IsBounded-start (greatest_weight c.args.graph.now.edges) c.args.graph.now.n c.offer.new.self size (λ x d there.
           (only_root c.args.graph.now.n c.args.graph.now.edges c.args.ranking.now c.at.result c.args.p c.requires.graph c.requires.ranked c.requires.ranking c.at.ensures.value (g.R.RowView.puts c.args.view.now) (g.R.RowView.seen c.args.view.now) c.offer.new.self (first_nodes g c) (root_inside g c) x d there).1);
@@ -142,6 +143,7 @@ loop-v-preserved-in-Covered g c =
     record {
       edges = offered.edges ∙ inv.edges;
       order = offered.order ∙ inv.order;
+      kept = offered.kept ∙ inv.kept;
       size = ap length now ∙ length-set c.loop-v.frontier c.in-Some.v _ ∙ inv.size;
       bounded = subst (IsBounded (greatest_weight c.args.graph.now.edges) ((c.args.graph.now.n + 1) * greatest_weight c.args.graph.now.edges)) (sym now) (IsBounded-settled _ _ c.loop-v.frontier c.in-Some.v c.in-Some.found c.in-Some.ensures.queued inv.bounded);
       growth = λ h root. subst (λ ns. IsGrowth (Joined c.args.graph.now.edges) c.args.ranking.now h c.args.p (g.R.RowView.puts c.args.view.now) ns (g.R.RowView.puts c.offer-in-Some.new.self)) (sym now) (growth_over g up offered.found.0 (g.R.RowView.puts c.offer-in-Some.new.self) found same h root);
@@ -167,6 +169,7 @@ loop-v-preserved g c =
     record {
       edges = offered.edges ∙ inv.edges;
       order = offered.order ∙ inv.order;
+      kept = offered.kept ∙ inv.kept;
       size = relaxed.size ∙ length-set c.loop-v.frontier c.in-Some.v _ ∙ inv.size;
       bounded = IsBounded-relaxed _ _ c.args.ranking.now c.args.p c.in-Some.found.dist (length c.arcs.result.now) c.arcs.result.now (settled c.loop-v.frontier c.in-Some.v c.in-Some.found) c.relax.new.frontier
           (λ k d lt. (arcs_of_row c.args.graph.now.n c.args.graph.now.edges c.in-Some.v c.arcs.result.now c.requires.graph c.arcs.ensures.joined k d lt).light)

@@ -16,6 +16,7 @@ abbrev pub invariant-loop-v : goal.invariant-loop-v
 invariant-loop-v g l = record {
   edges : g.R.RowView.edges l.view ≡ l.graph.edges;
   order : g.R.RowView.order l.view ≡ l.ranking;
+  kept : g.R.RowView.kept l.view ≡ g.R.RowView.kept l.initial.view;
   size : length l.frontier ≡ l.graph.n + 1;
   bounded : IsBounded (greatest_weight l.graph.edges) ((l.graph.n + 1) * greatest_weight l.graph.edges) l.frontier;
   growth : (h : ℕ) → slice_get l.ranking l.p ≡ Some h → IsGrowth (Joined l.graph.edges) l.ranking h l.p (g.R.RowView.puts l.initial.view) l.frontier (g.R.RowView.puts l.view);

@@ -1,0 +1,43 @@
+-- A take and a give are one visit of the seat.
+use Rattle.std.proofs.Common.{◌≡◌, ℕ, List, [], ◌++◌, All, ap, subst, ◌∙◌}
+use Rattle.std.specs.Prelude.{Option}
+use Rattle.std.proofs.lemmas.List.Elements.{All-cons, All-nil}
+use Rattle.atomic_table.specs.Seated.{TableId}
+use Rattle.walk_laws.specs.declared.entry.Entry.{Entry}
+use Rattle.walk_laws.specs.declared.graph.Edge.{Edge}
+use Rattle.walk_laws.specs.Joined.{Joined}
+use Rattle.walk_laws.specs.Labelling.{EntryFits}
+use Rattle.hub_index.specs.declared.row_view.Offer.{Offer}
+use Rattle.hub_index.specs.declared.row_view.Offer.TheVariants.{Put, Covered, NoMemory}
+use Rattle.hub_index.specs.Views.{IsFound, GoesOnFrom}
+use Rattle.label_rows.specs.declared.rule.Visit.{Visit}
+use Rattle.label_rows.specs.declared.rule.View.{View}
+use Rattle.label_rows.specs.Seats.{Seated, rows_id, with_visit}
+use Rattle.label_rows.specs.Visits.{put_list, put_by, visit_of, seen_of}
+use Rattle.label_rows.specs.Lawful.{Holds, gave}
+use Rattle.label_rows.proofs.Gives.{gave-is}
+
+-- a seat as contracts see it
+abbrev pub seated : TableId → ℕ → View → Seated
+seated id left view = record { rows = rows_id id view; left = left; visits = view.visits }
+
+-- the seat that has a turn gives it back
+pub one_visit : (id id' : TableId) (left : ℕ) (taken given : View) (v : ℕ) (found row : List Entry) (put : Option Entry) (before : Seated)
+    → seated id left taken ≡ before → Holds taken v found → id' ≡ id → given ≡ gave taken row → row ≡ found ++ put_list put → seated id' left given ≡ with_visit before (visit_of v found put)
+one_visit id id' left taken given v found row put before is holds same after grown =
+    let now = after ∙ ap (gave taken) grown ∙ gave-is taken v found put holds in
+    ap (λ (t : TableId × View). seated t.0 left t.1) (λ k. (same k, now k)) ∙ ap (λ seat. with_visit seat (visit_of v found put)) is
+
+-- the row that a take found is a row of its node
+pub row_found : (edges : List Edge) (order : List ℕ) (visits : List Visit) (v : ℕ) (found : List Entry) (before : Seated) → edges ≡ before.rows.edges → order ≡ before.rows.order → visits ≡ before.visits
+    → GoesOnFrom (seen_of visits v) found → All (EntryFits (Joined edges) order v) found → IsFound (Joined before.rows.edges) before.rows.order v (seen_of before.visits v) found
+row_found edges order visits v found before same_edges same_order same_visits goes_on fit = record {
+  goes_on = subst (λ xs. GoesOnFrom (seen_of xs v) found) same_visits goes_on;
+  fit = subst (λ (t : List Edge × List ℕ). All (EntryFits (Joined t.0) t.1 v) found) (λ k. (same_edges k, same_order k)) fit;
+}
+
+-- an entry that may stand in a row may be put there
+pub put-fits : (edges : List Edge) (order : List ℕ) (v : ℕ) (e : Entry) (answer : Offer) → EntryFits (Joined edges) order v e → All (EntryFits (Joined edges) order v) (put_list (put_by e answer))
+put-fits edges order v e Put fits = All-cons (EntryFits (Joined edges) order v) e [] fits (All-nil (EntryFits (Joined edges) order v))
+put-fits edges order v e (Covered pos dist) fits = All-nil (EntryFits (Joined edges) order v)
+put-fits edges order v e NoMemory fits = All-nil (EntryFits (Joined edges) order v)

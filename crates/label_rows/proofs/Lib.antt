@@ -1,0 +1,14 @@
+mod Allowed
+mod Begins
+mod Closes
+mod EachSeat
+mod FreeRows
+mod Gives
+mod HandVisits
+mod Joins
+mod PutRows
+mod SeenRows
+mod Splits
+mod Steps
+mod Takes
+mod Turn

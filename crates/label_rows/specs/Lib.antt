@@ -1,0 +1,4 @@
+pub mod Lawful
+pub mod Laws
+pub mod Seats
+pub mod Visits

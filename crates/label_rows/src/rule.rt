@@ -1,0 +1,115 @@
+//! The rule of the rows: what a seat knows, and what its steps change. The definitions stand in `specs/Lawful`.
+use crate::row::Row;
+use atomic_table::{Join, Play, Split, TableRule};
+use rank_table::Ranking;
+use std::collections::LinkedList;
+use std::marker::{Brand, PhantomData};
+use std::snapshot::Snapshot;
+use walk_laws::{Edge, Entry, Graph};
+
+/// What is fixed when rows are made: the graph and the ranking, without bytes, and how many seats there are.
+#[derive(Drop)]
+pub struct About {
+    pub graph: Snapshot<Graph>,
+    pub ranking: Snapshot<Ranking>,
+    pub seats: u32,
+}
+
+/// A node, a number from 1, whose turn a seat has, and the row that it found. No value of it is made.
+pub struct Held {
+    pub node: u32,
+    pub row: LinkedList<Entry>,
+}
+
+/// What a seat did at a node, a number from 1: the row that it found, and the entry that it put behind it, or none. No value
+/// of it is made.
+pub struct Visit {
+    pub node: u32,
+    pub found: LinkedList<Entry>,
+    pub put: Option<Entry>,
+}
+
+/// What a seat at the rows knows. No value of it is made.
+pub struct View {
+    pub edges: LinkedList<Edge>,
+    pub order: LinkedList<u32>,
+    /// How many seats the rows have.
+    pub all: u32,
+    /// This seat and those that may still be split from it. None once it was joined into another.
+    pub seats: u32,
+    pub hold: Option<Held>,
+    /// What it did, and what the seats did that were joined into it.
+    pub visits: LinkedList<Visit>,
+}
+
+pub struct Law;
+
+impl TableRule<Row, View, About> for Law {
+    ghost use Rattle.label_rows.specs.Lawful.{IsLawful, first_view};
+
+    ghost holds = { IsLawful };
+
+    ghost first = { first_view };
+}
+
+/// The turn of a node is taken, where it was free.
+pub struct Takes;
+
+impl Play<Row, View> for Takes {
+    ghost use Rattle.label_rows.specs.Lawful.{Took};
+
+    ghost then = { Took };
+}
+
+/// The turn of a node is given back, and its row is at home again.
+pub struct Gives;
+
+impl Play<Row, View> for Gives {
+    ghost use Rattle.label_rows.specs.Lawful.{Gave};
+
+    ghost then = { Gave };
+}
+
+/// Nothing changes, and the seat is seen to be one of the seats.
+pub struct Looks;
+
+impl Play<Row, View> for Looks {
+    ghost use Rattle.label_rows.specs.Lawful.{Looked};
+
+    ghost then = { Looked };
+}
+
+/// How many seats a split gives away. The call that splits picks it.
+pub trait Giving {
+    ghost use Rattle.std.specs.Prelude.{ℕ};
+
+    ghost give: { ℕ };
+}
+
+impl Giving for Brand {
+    ghost give = { 0 };
+}
+
+/// A new seat is split from a seat.
+pub struct Parts<G: Giving> {
+    giving: PhantomData<G>,
+}
+
+impl<G: Giving> Split<View> for Parts<G> {
+    ghost use Rattle.label_rows.specs.Lawful.{kept_of, given_of};
+
+    ghost left = { kept_of G.give };
+
+    ghost right = { given_of G.give };
+}
+
+/// A seat is joined into another.
+pub struct Merges;
+
+impl Join<View> for Merges {
+    ghost use Rattle.label_rows.specs.Lawful.{joined, spent};
+
+    ghost both = { joined };
+
+    ghost spent = { spent };
+}

@@ -1,0 +1,61 @@
+//! The turns of nodes: a seat takes the turn of a node with its row, and gives both back.
+ghost use Rattle.std.specs.Prelude.{◌≡◌, ◌+◌, ◌-◌, ◌≤◌, None, [], ◌∷◌, All, length};
+ghost use Rattle.walk_laws.specs.Joined.{Joined};
+ghost use Rattle.walk_laws.specs.Labelling.{EntryFits};
+ghost use Rattle.hub_index.specs.Views.{IsNode, GoesOnFrom};
+ghost use Rattle.label_rows.specs.Lawful.{took, gave, MayGive};
+ghost use Rattle.label_rows.specs.Visits.{seen_of};
+
+use crate::row::Row;
+use crate::rule::{About, Gives, Law, Takes, View};
+use atomic_table::{Seat, Shared};
+use std::alloc::Global;
+use std::sync::Wait;
+use std::thread::yield_now;
+
+/// The words and slots of rows.
+pub type Turns = Shared<Row, View, About, Law>;
+
+/// Takes the turn of the node `v`, a number from 1, and its row out of the slot, by one swap for each try. It waits while
+/// another seat has the turn.
+pub fn take<R: Wait>(
+    rt: &R,
+    alloc: Global,
+    turns: &Turns,
+    seat: &mut Seat<Row, View>,
+    v: u32,
+) -> Row
+    requires table { seat.old.table_id ≡ turns.now.table_id }
+    requires words { turns.now.table_id.words ≡ length seat.old.me.0.order + 1 }
+    requires live { 1 ≤ seat.old.me.0.seats }
+    requires free { (seat.old.me.0.hold ≡ None) × (seat.old.me.1 ≡ []) }
+    requires node { IsNode (length seat.old.me.0.order) v }
+    ensures same { (seat.new.table_id ≡ seat.old.table_id) × (seat.new.id ≡ seat.old.id) }
+    ensures took { seat.new.me ≡ (took seat.old.me.0 v result, (v - 1, []) ∷ []) }
+    ensures fit { All (EntryFits (Joined seat.old.me.0.edges) seat.old.me.0.order v) result }
+    ensures goes_on { GoesOnFrom (seen_of seat.old.me.0.visits v) result }
+{
+    for _ in rt.forever() {
+        if turns.swap::<Takes>(seat, v as usize, 1) == 0 {
+            return turns.exchange(seat, v as usize - 1, Row::new(alloc));
+        }
+        yield_now();
+    }
+    unreachable!()
+}
+
+/// Puts the row of the node `v`, a number from 1, back into its slot, and gives the turn back. The row is as it was found, or
+/// has one entry more.
+pub fn give(turns: &Turns, seat: &mut Seat<Row, View>, v: u32, row: Row)
+    requires table { seat.old.table_id ≡ turns.now.table_id }
+    requires words { turns.now.table_id.words ≡ length seat.old.me.0.order + 1 }
+    requires live { 1 ≤ seat.old.me.0.seats }
+    requires node { IsNode (length seat.old.me.0.order) v }
+    requires slot { seat.old.me.1 ≡ (v - 1, []) ∷ [] }
+    requires may { MayGive seat.old.me.0 v row }
+    ensures same { (seat.new.table_id ≡ seat.old.table_id) × (seat.new.id ≡ seat.old.id) }
+    ensures gave { seat.new.me ≡ (gave seat.old.me.0 row, []) }
+{
+    turns.exchange(seat, v as usize - 1, row);
+    turns.store::<Gives>(seat, v as usize, 0);
+}
