@@ -12,7 +12,7 @@ use Rattle.std.proofs.lemmas.Option.{slice_get_cases}
 use Rattle.walk_laws.proofs.Members.{Contains-first, Contains-next, Contains-cons_cases, Contains-empty}
 use Rattle.walk_laws.specs.declared.entry.Entry.{Entry}
 use Rattle.walk_laws.specs.Canonical.{IsCanonical}
-use Rattle.walk_laws.specs.Labelling.{IsHubEntry, IsRow, label_row}
+use Rattle.walk_laws.specs.Labelling.{IsHubEntry, IsPartRow, IsRow, label_row}
 use Rattle.hub_index.specs.HubIndex.{with_entry}
 use Rattle.plant_tree.specs.Planted.{AreOfNodes, NamesEachOnce}
 use Rattle.plant_build.specs.TreeEntries.{entries_of}
@@ -22,9 +22,8 @@ use Rattle.std.proofs.lemmas.Map.Views.{Contains-from_any}
 use Rattle.std.proofs.lemmas.Map.Steps.{length-le_from_distinct_below}
 
 -- the row holds exactly the hubs of v at positions below p, by rising position
-pub record IsRowBelow (J : ℕ → ℕ → ℕ → Type 0) (at : List ℕ) (p v : ℕ) (row : List Entry) : Type 0 where
-  pub rising : IsStrictlyIncreasing (map (λ e. e.pos) row)
-  pub each : (e : Entry) → Contains row e ↔ (IsHubEntry J at v e × (e.pos < p))
+abbrev pub IsRowBelow : (ℕ → ℕ → ℕ → Type 0) → List ℕ → ℕ → ℕ → List Entry → Type 0
+IsRowBelow J at p v row = IsPartRow J at (λ q. q < p) v row
 
 -- no row has an entry yet
 pub empty_row : (J : ℕ → ℕ → ℕ → Type 0) (at : List ℕ) (v : ℕ) → IsRowBelow J at 0 v []

@@ -24,6 +24,16 @@ pub record IsChl (J : ℕ → ℕ → ℕ → Type 0) (at : List ℕ) (rows : Li
   pub size : length rows ≡ length at
   pub row : (v : ℕ) → 1 ≤ v → v ≤ length at → IsRow J at v (label_row rows v)
 
+-- the row holds exactly the hubs of v at the positions of a set, by rising position
+pub record IsPartRow (J : ℕ → ℕ → ℕ → Type 0) (at : List ℕ) (InPart : ℕ → Type 0) (v : ℕ) (row : List Entry) : Type 0 where
+  pub rising : IsStrictlyIncreasing (map (λ e. e.pos) row)
+  pub each : (e : Entry) → Contains row e ↔ (IsHubEntry J at v e × InPart e.pos)
+
+-- the part of the canonical hub labelling at the positions of a set: a row for each node, with exactly its hubs there
+pub record IsPartChl (J : ℕ → ℕ → ℕ → Type 0) (at : List ℕ) (InPart : ℕ → Type 0) (rows : List (List Entry)) : Type 0 where
+  pub size : length rows ≡ length at
+  pub row : (v : ℕ) → 1 ≤ v → v ≤ length at → IsPartRow J at InPart v (label_row rows v)
+
 -- an entry that may stand in the row of v: its hub ranks no lower than v, and a walk of its distance leads from the hub to v
 pub record EntryFits (J : ℕ → ℕ → ℕ → Type 0) (at : List ℕ) (v : ℕ) (e : Entry) : Type 0 where
   pub ranked : e.pos ≤ position_of at v
