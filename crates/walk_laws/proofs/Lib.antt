@@ -25,3 +25,5 @@ pub mod CommonHubs
 pub mod AnswersOfPairs
 pub mod ShortWalks
 pub mod FirstShortest
+pub mod LightestEdges
+pub mod LightestRows

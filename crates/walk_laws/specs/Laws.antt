@@ -14,6 +14,7 @@ use Rattle.walk_laws.specs.Labelling.{IsChl}
 use Rattle.walk_laws.specs.Cover.{CoveringHub}
 use Rattle.walk_laws.specs.Answer.{IsAnswer, IsWalkAnswer}
 use Rattle.walk_laws.specs.Meet.{IsMeet}
+use Rattle.walk_laws.specs.Lightest.{AreLightest}
 
 -- each edge weighs at least 1
 abbrev pub WeighAtLeastOne : List Edge → Type 0
@@ -86,3 +87,15 @@ WalkAnswersAreUnique = (edges : List Edge) (u v : ℕ) (answer other : Option (�
 -- the rows of the canonical hub labelling say what the pair is to be answered
 abbrev pub TheRowsTellTheAnswer : Type 0
 TheRowsTellTheAnswer = (edges : List Edge) (at : List ℕ) (rows : List (List Entry)) (u v : ℕ) (answer : Option (ℕ × ℕ)) → WeighAtLeastOne edges → IsRanking at → IsChl (Joined edges) at rows → 1 ≤ u → u ≤ length at → 1 ≤ v → v ≤ length at → IsMeet at rows u v answer ↔ IsAnswer (Joined edges) at u v answer
+
+-- by the lightest edges alone, least lengths are the same
+abbrev pub TheLightestKeepLengths : Type 0
+TheLightestKeepLengths = (edges kept : List Edge) (u v d : ℕ) → AreLightest edges kept → IsLeast (Joined edges) u v d ↔ IsLeast (Joined kept) u v d
+
+-- and so are hubs
+abbrev pub TheLightestKeepHubs : Type 0
+TheLightestKeepHubs = (edges kept : List Edge) (at : List ℕ) (h v d : ℕ) → AreLightest edges kept → IsCanonical (Joined edges) at h v d ↔ IsCanonical (Joined kept) at h v d
+
+-- and the canonical hub labelling
+abbrev pub TheLightestKeepTheLabelling : Type 0
+TheLightestKeepTheLabelling = (edges kept : List Edge) (at : List ℕ) (rows : List (List Entry)) → AreLightest edges kept → IsChl (Joined edges) at rows ↔ IsChl (Joined kept) at rows

@@ -11,5 +11,7 @@ pub mod Labelling
 pub mod Answer
 pub mod Cover
 pub mod Meet
+pub mod Lightest
+pub mod LightestArcs
 pub mod Laws
 pub mod Worked

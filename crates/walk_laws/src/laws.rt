@@ -1,5 +1,5 @@
 //! The laws of walks and hubs. Each function does nothing: its contract is the law, over every list of edges.
-ghost use Rattle.walk_laws.specs.Laws.{PartsOfLeastAreLeast, LengthsAddUpOnTheWay, NodesBeforeTheEndAreNearer, LeastLengthsAreShort, HubsAreInherited, HubsHaveNoCover, TheTopIsAHubOfBothEnds, TheTopExists, TheTopIsUnique, OthersHaveACover, TheLabellingExists, TheLabellingIsUnique, EachPairHasAnAnswer, AnswersAreUnique, EachPairHasAWalkAnswer, WalkAnswersAreUnique, TheRowsTellTheAnswer};
+ghost use Rattle.walk_laws.specs.Laws.{PartsOfLeastAreLeast, LengthsAddUpOnTheWay, NodesBeforeTheEndAreNearer, LeastLengthsAreShort, HubsAreInherited, HubsHaveNoCover, TheTopIsAHubOfBothEnds, TheTopExists, TheTopIsUnique, OthersHaveACover, TheLabellingExists, TheLabellingIsUnique, EachPairHasAnAnswer, AnswersAreUnique, EachPairHasAWalkAnswer, WalkAnswersAreUnique, TheRowsTellTheAnswer, TheLightestKeepLengths, TheLightestKeepHubs, TheLightestKeepTheLabelling};
 
 /// Where a walk to a node and one from it together have the least length, each of them has the least length.
 pub fn a_part_of_a_least_walk_is_least()
@@ -85,4 +85,11 @@ pub fn the_walk_answer_is_unique()
 /// position, and the node at the first position that has it.
 pub fn the_rows_tell_the_answer()
     ensures { TheRowsTellTheAnswer }
+{}
+
+/// By the lightest of the edges between two nodes alone, least lengths, hubs and the canonical hub labelling are the same.
+pub fn the_lightest_edges_keep_the_labelling()
+    ensures lengths { TheLightestKeepLengths }
+    ensures hubs { TheLightestKeepHubs }
+    ensures labelling { TheLightestKeepTheLabelling }
 {}

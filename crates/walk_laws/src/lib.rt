@@ -1,9 +1,9 @@
 //! Weighted undirected graphs, walks, hubs and label rows: what they are, and the laws that hold of them.
 //!
 //! `graph` has the type `Graph`, which keeps its edge list and each node's arcs in compressed rows, and `halves` builds
-//! the rows; `entry` has the entries of label rows. `laws` has a function for each law of walks and hubs, and `worked` has
+//! the rows; `lightest` keeps the edges that matter; `entry` has the entries of label rows. `laws` has a function for each law of walks and hubs, and `worked` has
 //! two small graphs, worked by hand. It stands on std alone. Its callers' clauses use `specs/Graph` (`WeightedGraph`,
-//! `IsGraph`, `IsEdge`, `greatest_weight`, `arcs_at`), `specs/Joined`, `specs/Ranking`, and of walks and hubs `specs/Walk`,
+//! `IsGraph`, `IsEdge`, `greatest_weight`, `arcs_at`), `specs/Lightest`, `specs/Joined`, `specs/Ranking`, and of walks and hubs `specs/Walk`,
 //! `Least`, `On`, `Top`, `Canonical`, `Cover`, `Labelling`, `Answer` and `Meet`. docs/definitions.md has each in a sentence.
 #![tactic(auto)]
 
@@ -11,6 +11,7 @@ mod entry;
 mod graph;
 mod halves;
 pub mod laws;
+mod lightest;
 pub mod worked;
 
 pub use entry::Entry;
