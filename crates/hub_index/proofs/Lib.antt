@@ -6,3 +6,6 @@ pub mod RowItems
 pub mod RowsGathered
 pub mod SquareEntries
 pub mod TouchedPositions
+pub mod GatheredRows
+pub mod Parts
+pub mod PartsOfLabellings

@@ -8,6 +8,8 @@
 //! (`root_distance`, `IsCover`, `HoldsRow`) and `specs/Views` (`IsFound`, `IsAnswerOf`, `with_put`).
 #![tactic(auto)]
 
+mod entry_sink;
+mod gathering;
 mod index;
 pub mod laws;
 mod plain_rows;
@@ -17,6 +19,8 @@ mod row_view;
 #[cfg(test)]
 mod tests;
 
+pub use entry_sink::{EntrySink, NodeEntry};
+pub use gathering::gather;
 pub use index::Index;
 pub use plain_rows::PlainRows;
 pub use root_table::{RootTable, covered};

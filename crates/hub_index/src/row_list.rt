@@ -1,6 +1,7 @@
-ghost use Rattle.std.specs.Prelude.{◌≡◌, ℕ, ◌^◌, ◌<◌, ◌≤◌, [], length, map, replicate, vec_len, IfOk, OnOk, OnErr};
+ghost use Rattle.std.specs.Prelude.{◌≡◌, ℕ, ◌+◌, ◌^◌, ◌<◌, ◌≤◌, [], ◌++◌, length, map, replicate, vec_len, IfOk, OnOk, OnErr};
 ghost use Rattle.walk_laws.specs.Labelling.{label_row};
 ghost use Rattle.hub_index.specs.HubIndex.{with_entry};
+ghost use Rattle.hub_index.specs.Sunk.{IsGatheredRow};
 
 use std::alloc::{AllocError, Global};
 use std::marker::Model;
@@ -48,6 +49,38 @@ impl RowList {
         ensures { map (λ row. row.items) result.items ≡ self }
     {
         self.rows
+    }
+
+    /// An empty row for each number, with room for so many entries. The only error is that memory ran out.
+    pub fn with_room(alloc: Global, room: &[usize]) -> Result<RowList, AllocError>
+        requires { length room.now < 2 ^ 32 }
+        ensures { IfOk result (λ rows. rows ≡ replicate (length room.now) []) }
+    {
+        let mut rows = Vec::with_capacity(alloc, room.len())?;
+        for count in room {
+            rows.push(Vec::with_capacity(alloc, *count)?)?;
+        }
+        Ok(RowList { rows })
+    }
+
+    /// Puts the rows of others behind these. The only error is that memory ran out.
+    pub fn append(&mut self, others: RowList) -> Result<(), AllocError>
+        requires { length self.old + length others < 2 ^ 32 }
+        ensures { OnOk result (self.new ≡ self.old ++ others) }
+    {
+        let mut rows = others.rows;
+        self.rows.append(&mut rows)?;
+        Ok(())
+    }
+
+    /// Sorts each row by position. It takes no memory.
+    pub fn sort(&mut self)
+        ensures size { length self.new ≡ length self.old }
+        ensures rows { (v : ℕ) → 1 ≤ v → v ≤ length self.old → IsGatheredRow (label_row self.old v) (label_row self.new v) }
+    {
+        for k in 0..self.rows.len() {
+            self.rows[k].sort_unstable_by_key(|e| e.pos);
+        }
     }
 
     /// How many nodes there are.

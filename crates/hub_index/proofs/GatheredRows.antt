@@ -1,0 +1,120 @@
+-- Entries of ranges, placed in the rows of their nodes.
+use Rattle.std.proofs.Common.{◌≡◌, ◌≢◌, ℕ, ◌+◌, ◌-◌, ◌<◌, ◌≤◌, List, [], ◌∷◌, ◌++◌, map, filter, length, take, get_or, set, refl, sym, ap, subst, ◌∙◌, inl, inr, append_assoc, arith, Global}
+use Rattle.std.specs.Prelude.{Vec, ◌==◌}
+use Rattle.std.specs.List.Sorted.{IsNonDecreasingBy, IsPermutation}
+use Rattle.std.proofs.lemmas.Bool.{cases_lt, cases_eq, eq-eqb, ne_eqb}
+use Rattle.std.proofs.lemmas.Bool.Decides.{eqb_tells}
+use Rattle.std.proofs.lemmas.List.{append-nil, take_more, map-append, map-set, length-map, get_or-map, get_or-set_same, get_or-set_other}
+use Rattle.std.proofs.lemmas.List.Elements.{filter-append}
+use Rattle.walk_laws.specs.declared.entry.Entry.{Entry}
+use Rattle.walk_laws.specs.Labelling.{label_row}
+use Rattle.hub_index.specs.declared.entry_sink.NodeEntry.{NodeEntry}
+use Rattle.hub_index.specs.HubIndex.{with_entry}
+use Rattle.hub_index.specs.Sunk.{Sunk, range_at, entries_of_node, entry_if, range_of, all_in_range, IsGatheredRow}
+use Rattle.hub_index.proofs.RowItems.{items_of}
+use Rattle.hub_index.proofs.RowsGathered.{row_gains, row_stays}
+
+pub entries_of_node-append : (xs ys : List NodeEntry) (v : ℕ) → entries_of_node (xs ++ ys) v ≡ entries_of_node xs v ++ entries_of_node ys v
+entries_of_node-append xs ys v =
+    ap (map (λ (e : NodeEntry). e.entry)) (filter-append (λ (e : NodeEntry). e.node == v) xs ys)
+    ∙ map-append (λ (e : NodeEntry). e.entry) (filter (λ (e : NodeEntry). e.node == v) xs) (filter (λ (e : NodeEntry). e.node == v) ys)
+
+pub entries_of_node-one : (e : NodeEntry) (v : ℕ) → entries_of_node (e ∷ []) v ≡ entry_if e.node v e.entry
+entries_of_node-one e v = elim (eqb_tells e.node v) [ inl same ↦ rw same.0 refl | inr other ↦ rw other.0 refl ]
+
+pub entry_if-same : (v : ℕ) (e : Entry) → entry_if v v e ≡ e ∷ []
+entry_if-same v e = rw (eq-eqb v v refl) refl
+
+pub entry_if-other : (node v : ℕ) (e : Entry) → node ≢ v → entry_if node v e ≡ []
+entry_if-other node v e other = rw (ne_eqb node v other) refl
+
+-- one more entry of a range
+pub entries_of_node-more : (entries : List NodeEntry) (i v : ℕ) (d : NodeEntry) → i < length entries → entries_of_node (take (i + 1) entries) v ≡ entries_of_node (take i entries) v ++ entry_if (get_or entries i d).node v (get_or entries i d).entry
+entries_of_node-more entries i v d lt =
+    ap (λ es. entries_of_node es v) (take_more entries i d lt)
+    ∙ entries_of_node-append (take i entries) (get_or entries i d ∷ []) v
+    ∙ ap (λ es. entries_of_node (take i entries) v ++ es) (entries_of_node-one (get_or entries i d) v)
+
+-- a row after an entry that is put at the node behind `before`
+pub row_after : (rows : List (List Entry)) (before node v : ℕ) (e : Entry) → before < node → node - before ≤ length rows → 1 ≤ v → v ≤ length rows → label_row (with_entry rows (node - before) e) v ≡ label_row rows v ++ entry_if node (before + v) e
+row_after rows before node v e past within from_one up_to = elim (cases_eq v (node - before)) [
+  | inl here ↦
+      let same : node ≡ before + v = omega (arith, here) in
+      let gains : label_row (with_entry rows (node - before) e) (node - before) ≡ label_row rows (node - before) ++ e ∷ [] = row_gains rows (node - before) e (omega arith) within in
+      ap (label_row (with_entry rows (node - before) e)) here ∙ gains ∙ ap (λ x. label_row rows x ++ e ∷ []) (sym here) ∙ ap (λ es. label_row rows v ++ es) (sym (ap (λ x. entry_if x (before + v) e) same ∙ entry_if-same (before + v) e))
+  | inr other ↦
+      row_stays rows (node - before) v e (omega arith) from_one other
+      ∙ sym (ap (λ es. label_row rows v ++ es) (entry_if-other node (before + v) e (λ same. other (omega (arith, same)))) ∙ append-nil (label_row rows v))
+]
+
+-- and one that is put nowhere
+pub row_as_before : (rows : List (List Entry)) (before node v : ℕ) (e : Entry) → (node ≡ before + v → ⊥) → label_row rows v ≡ label_row rows v ++ entry_if node (before + v) e
+row_as_before rows before node v e other = sym (ap (λ es. label_row rows v ++ es) (entry_if-other node (before + v) e other) ∙ append-nil (label_row rows v))
+
+pub all_in_range-append : (xs ys : List Sunk) (r v : ℕ) → all_in_range (xs ++ ys) r v ≡ all_in_range xs r v ++ all_in_range ys r v
+all_in_range-append [] ys r v = refl
+all_in_range-append (x ∷ xs) ys r v = ap (λ es. entries_of_node (range_at x r) v ++ es) (all_in_range-append xs ys r v) ∙ sym (append_assoc (entries_of_node (range_at x r) v) (all_in_range xs r v) (all_in_range ys r v))
+
+-- one more sink
+pub all_in_range-more : (sinks : List Sunk) (i r v : ℕ) (d : Sunk) → i < length sinks → all_in_range (take (i + 1) sinks) r v ≡ all_in_range (take i sinks) r v ++ entries_of_node (range_at (get_or sinks i d) r) v
+all_in_range-more sinks i r v d lt =
+    ap (λ ss. all_in_range ss r v) (take_more sinks i d lt)
+    ∙ all_in_range-append (take i sinks) (get_or sinks i d ∷ []) r v
+    ∙ ap (λ es. all_in_range (take i sinks) r v ++ es) (append-nil (entries_of_node (range_at (get_or sinks i d) r) v))
+
+-- one more row is sorted
+pub row_now : (rows : List (Vec Entry Global)) (k : ℕ) (new : Vec Entry Global) → k < length rows → label_row (items_of (set rows k new)) (k + 1) ≡ new.items
+row_now rows k new lt =
+    let same : k + 1 - 1 ≡ k = omega arith in
+    ap (λ i. get_or (items_of (set rows k new)) i []) same ∙ ap (λ rs. get_or rs k []) (map-set (λ (r : Vec Entry Global). r.items) rows k new) ∙ get_or-set_same (items_of rows) k new.items [] (omega (arith, length-map rows (λ (r : Vec Entry Global). r.items)))
+
+pub row_before : (rows : List (Vec Entry Global)) (k : ℕ) (old : Vec Entry Global) → k < length rows → old ≡ get_or rows k old → label_row (items_of rows) (k + 1) ≡ old.items
+row_before rows k old lt is =
+    let same : k + 1 - 1 ≡ k = omega arith in
+    ap (λ i. get_or (items_of rows) i []) same ∙ get_or-map (λ (r : Vec Entry Global). r.items) rows k old [] lt ∙ ap (λ (r : Vec Entry Global). r.items) (sym is)
+
+pub row_other : (rows : List (Vec Entry Global)) (k v : ℕ) (new : Vec Entry Global) → 1 ≤ v → v ≢ k + 1 → label_row (items_of (set rows k new)) v ≡ label_row (items_of rows) v
+row_other rows k v new from_one other = ap (λ rs. get_or rs (v - 1) []) (map-set (λ (r : Vec Entry Global). r.items) rows k new) ∙ get_or-set_other (items_of rows) k (v - 1) new.items [] (λ same. other (omega (arith, same)))
+
+abbrev pos_of : Entry → ℕ
+pos_of e = e.pos
+
+pub sorted_next : (old : List (List Entry)) (rows : List (Vec Entry Global)) (k : ℕ) (before new : Vec Entry Global) → k < length rows → before ≡ get_or rows k before → IsPermutation before.items new.items → IsNonDecreasingBy pos_of new.items → ((v : ℕ) → 1 ≤ v → v ≤ k → IsGatheredRow (label_row old v) (label_row (items_of rows) v)) → ((v : ℕ) → k < v → label_row (items_of rows) v ≡ label_row old v) → (v : ℕ) → 1 ≤ v → v ≤ k + 1 → IsGatheredRow (label_row old v) (label_row (items_of (set rows k new)) v)
+sorted_next old rows k before new lt is moved rising sorted others v from_one up_to = elim (cases_eq v (k + 1)) [
+  | inl here ↦
+      let now = row_now rows k new lt in
+      let was : label_row old (k + 1) ≡ before.items = sym (others (k + 1) (omega arith)) ∙ row_before rows k before lt is in
+      let next : IsGatheredRow (label_row old (k + 1)) (label_row (items_of (set rows k new)) (k + 1)) = record {
+        rising = subst (IsNonDecreasingBy pos_of) (sym now) rising;
+        same = subst (λ xs. IsPermutation xs (label_row (items_of (set rows k new)) (k + 1))) (sym was) (subst (IsPermutation before.items) (sym now) moved);
+      } in
+      subst (λ x. IsGatheredRow (label_row old x) (label_row (items_of (set rows k new)) x)) (sym here) next
+  | inr other ↦ subst (IsGatheredRow (label_row old v)) (sym (row_other rows k v new from_one other)) (sorted v from_one (omega (arith, up_to, le_of_other v k up_to other)))
+]
+  where
+    le_of_other : (v k : ℕ) → v ≤ k + 1 → v ≢ k + 1 → v ≤ k
+    le_of_other v k le other = elim (cases_lt v (k + 1)) [ inl lt ↦ omega arith | inr ge ↦ absurd (other (omega arith)) ]
+
+-- the entries of each range
+abbrev pub ranges_of : List (Vec NodeEntry Global) → List (List NodeEntry)
+ranges_of ranges = map (λ (range : Vec NodeEntry Global). range.items) ranges
+
+-- one more entry, which lies in the range of its node
+pub sunk_after : (n : ℕ) (ranges : List (Vec NodeEntry Global)) (k node v : ℕ) (e : Entry) (old new : Vec NodeEntry Global) → k ≡ range_of n node → k < length ranges → old ≡ get_or ranges k old → new.items ≡ old.items ++ record { node = node; entry = e } ∷ [] → entries_of_node (get_or (ranges_of (set ranges k new)) (range_of n v) []) v ≡ entries_of_node (get_or (ranges_of ranges) (range_of n v) []) v ++ entry_if node v e
+sunk_after n ranges k node v e old new in_range lt is grown =
+    let moved : ranges_of (set ranges k new) ≡ set (ranges_of ranges) k new.items = map-set (λ (r : Vec NodeEntry Global). r.items) ranges k new in
+    elim (cases_eq (range_of n v) k) [
+      | inl here ↦
+          let now : get_or (ranges_of (set ranges k new)) (range_of n v) [] ≡ old.items ++ record { node = node; entry = e } ∷ [] =
+          ap (λ i. get_or (ranges_of (set ranges k new)) i []) here ∙ ap (λ rs. get_or rs k []) moved ∙ get_or-set_same (ranges_of ranges) k new.items [] (omega (arith, length-map ranges (λ (r : Vec NodeEntry Global). r.items))) ∙ grown in
+          let was : get_or (ranges_of ranges) (range_of n v) [] ≡ old.items =
+          ap (λ i. get_or (ranges_of ranges) i []) here ∙ get_or-map (λ (r : Vec NodeEntry Global). r.items) ranges k old [] lt ∙ ap (λ (r : Vec NodeEntry Global). r.items) (sym is) in
+          ap (λ es. entries_of_node es v) now
+          ∙ entries_of_node-append old.items (record { node = node; entry = e } ∷ []) v
+          ∙ ap (λ es. entries_of_node old.items v ++ es) (entries_of_node-one (record { node = node; entry = e }) v)
+          ∙ ap (λ es. entries_of_node es v ++ entry_if node v e) (sym was)
+      | inr other ↦
+          ap (λ rs. entries_of_node (get_or rs (range_of n v) []) v) moved
+          ∙ ap (λ es. entries_of_node es v) (get_or-set_other (ranges_of ranges) k (range_of n v) new.items [] other)
+          ∙ sym (ap (λ es. entries_of_node (get_or (ranges_of ranges) (range_of n v) []) v ++ es) (entry_if-other node v e (λ same. other (ap (range_of n) (sym same) ∙ sym in_range))) ∙ append-nil (entries_of_node (get_or (ranges_of ranges) (range_of n v) []) v))
+    ]

@@ -1,0 +1,75 @@
+-- Entries as workers put them, in any order, and the rows that are gathered of them.
+use Rattle.std.specs.Prelude.{◌≡◌, ◌↔◌, ◌≢◌, ℕ, ◌+◌, ◌-◌, ◌*◌, ◌/◌, ◌≤◌, ◌==◌, List, [], ◌∷◌, ◌++◌, AllPairs, Contains, filter, map, length, slice_index_or, if◌then◌else◌}
+use Rattle.std.specs.Prelude.{Result, Ok, Err}
+use Rattle.std.specs.declared.alloc.AllocError.{AllocError}
+use Rattle.std.specs.List.Sorted.{IsNonDecreasingBy, IsPermutation}
+use Rattle.walk_laws.specs.declared.graph.Edge.{Edge}
+use Rattle.walk_laws.specs.declared.entry.Entry.{Entry}
+use Rattle.walk_laws.specs.Joined.{Joined}
+use Rattle.walk_laws.specs.Labelling.{IsHubEntry, label_row}
+use Rattle.hub_index.specs.declared.entry_sink.NodeEntry.{NodeEntry}
+
+-- a number of nodes, which are 1..n, and the entries that were put at the nodes of each range
+pub record Sunk : Type 0 where
+  pub n : ℕ
+  pub ranges : List (List NodeEntry)
+
+-- how many nodes a range has
+abbrev pub range_width : ℕ → ℕ
+range_width n = n / 64 + 64
+
+-- the range in which a node lies
+abbrev pub range_of : ℕ → ℕ → ℕ
+range_of n v = (v - 1) / range_width n
+
+-- the entries of one node among those of several
+abbrev pub entries_of_node : List NodeEntry → ℕ → List Entry
+entries_of_node entries v = map (λ e. e.entry) (filter (λ e. e.node == v) entries)
+
+-- the entries of a range
+abbrev pub range_at : Sunk → ℕ → List NodeEntry
+range_at sink r = slice_index_or sink.ranges r []
+
+-- the entries that were put at a node, in order
+abbrev pub sunk_at : Sunk → ℕ → List Entry
+sunk_at sink v = entries_of_node (range_at sink (range_of sink.n v)) v
+
+-- the entry, where the node is v
+abbrev pub entry_if : ℕ → ℕ → Entry → List Entry
+entry_if node v e = if node == v then e ∷ [] else []
+
+-- what several workers put at a node
+abbrev pub all_sunk : List Sunk → ℕ → List Entry
+all_sunk [] v = []
+all_sunk (sink ∷ sinks) v = sunk_at sink v ++ all_sunk sinks v
+
+-- and at a node, as it stands in their range
+abbrev pub all_in_range : List Sunk → ℕ → ℕ → List Entry
+all_in_range [] r v = []
+all_in_range (sink ∷ sinks) r v = entries_of_node (range_at sink r) v ++ all_in_range sinks r v
+
+-- how many rows the parts have that were made
+abbrev pub rows_in : List (Result (List (List Entry)) AllocError) → ℕ
+rows_in [] = 0
+rows_in (Ok part ∷ parts) = length part + rows_in parts
+rows_in (Err _ ∷ parts) = rows_in parts
+
+-- all parts were made, and the rows are theirs, one part behind another
+abbrev pub AreJoined : List (Result (List (List Entry)) AllocError) → List (List Entry) → Type 0
+AreJoined [] rows = rows ≡ []
+AreJoined (Ok part ∷ parts) rows = (rest : List (List Entry)) × (rows ≡ part ++ rest) × AreJoined parts rest
+AreJoined (Err _ ∷ parts) rows = ⊥
+
+-- the row has these entries, each as often, by rising position
+pub record IsGatheredRow (entries row : List Entry) : Type 0 where
+  pub rising : IsNonDecreasingBy (λ e. e.pos) row
+  pub same : IsPermutation entries row
+
+-- the rows are those of the nodes in a range
+abbrev pub IsRangeOf : List Sunk → ℕ → ℕ → List (List Entry) → Type 0
+IsRangeOf sinks n r rows = (v : ℕ) → 1 ≤ v → v ≤ length rows → IsGatheredRow (all_in_range sinks r (r * range_width n + v)) (label_row rows v)
+
+-- the entries of each node, in any order, are those of its hubs at the positions of a set, none twice
+pub record HoldsPart (edges : List Edge) (at : List ℕ) (InPart : ℕ → Type 0) (entries : ℕ → List Entry) : Type 0 where
+  pub once : (v : ℕ) → 1 ≤ v → v ≤ length at → AllPairs (λ x y. x ≢ y) (map (λ e. e.pos) (entries v))
+  pub each : (v : ℕ) → 1 ≤ v → v ≤ length at → (e : Entry) → Contains (entries v) e ↔ (IsHubEntry (Joined edges) at v e × InPart e.pos)
