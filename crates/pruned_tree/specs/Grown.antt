@@ -1,6 +1,10 @@
 -- What a pruned tree puts in the rows of nodes (pruned landmark labelling, SIGMOD 2013; Planting Trees, PVLDB 2019).
-use Rattle.std.specs.Prelude.{◌≡◌, ◌⊎◌, ℕ, ◌+◌, ◌<◌, ◌≤◌, List, [], ◌∷◌, ◌++◌, Contains, length, sum_by}
+use Rattle.std.specs.Prelude.{◌≡◌, ◌⊎◌, ℕ, ◌+◌, ◌<◌, ◌≤◌, List, [], ◌∷◌, ◌++◌, Contains, length, sum_by, slice_get, Some, Result, IfOk}
+use Rattle.std.specs.declared.alloc.AllocError.{AllocError}
 use Rattle.walk_laws.specs.declared.entry.Entry.{Entry}
+use Rattle.walk_laws.specs.declared.graph.Edge.{Edge}
+use Rattle.walk_laws.specs.Canonical.{IsCanonical}
+use Rattle.walk_laws.specs.Joined.{Joined}
 use Rattle.walk_laws.specs.Labelling.{EntryFits, IsHubEntry}
 
 -- the entries of the node v are those of before, with one at the position p and the distance d behind them
@@ -29,3 +33,10 @@ HoldsHigher J at p rows = (v : ℕ) (e : Entry) → 1 ≤ v → e.pos < p → Is
 -- how many entries the nodes have
 abbrev pub entries_of : List ℕ → (ℕ → List Entry) → ℕ
 entries_of nodes rows = sum_by (λ v. length (rows v)) nodes
+
+-- What the tree of the node at the position p leaves of entries put before, where these lists were seen before: it is pruned, and where it is whole it counts what it put, each node that has the root for a hub got it, and no other node did where each hub that ranks above the root was seen
+pub record IsGrown (edges : List Edge) (at : List ℕ) (p : ℕ) (seen before after : ℕ → List Entry) (result : Result ℕ AllocError) : Type 0 where
+  pub pruned : IsPruned (Joined edges) at before after p
+  pub count : IfOk result (λ count. entries_of at after ≡ entries_of at before + count)
+  pub complete : IfOk result (λ _. (h v d : ℕ) → slice_get at p ≡ Some h → IsCanonical (Joined edges) at h v d → Gains before after p v d)
+  pub exact : IfOk result (λ _. HoldsHigher (Joined edges) at p seen → (h v d : ℕ) → slice_get at p ≡ Some h → 1 ≤ v → Gains before after p v d → IsCanonical (Joined edges) at h v d)

@@ -1,9 +1,8 @@
-ghost use Rattle.std.specs.Prelude.{◌≡◌, ℕ, ◌+◌, ◌^◌, ◌<◌, ◌≤◌, All, Some, length, slice_get, IfOk, OnOk};
-ghost use Rattle.walk_laws.specs.Canonical.{IsCanonical};
+ghost use Rattle.std.specs.Prelude.{◌≡◌, ℕ, ◌+◌, ◌^◌, ◌<◌, ◌≤◌, All, Some, length, slice_get, OnOk};
 ghost use Rattle.walk_laws.specs.Graph.{IsGraph};
 ghost use Rattle.walk_laws.specs.Joined.{Joined};
 ghost use Rattle.walk_laws.specs.Ranking.{IsRanking};
-ghost use Rattle.pruned_tree.specs.Grown.{Gains, IsPruned, HoldsHigher, entries_of};
+ghost use Rattle.pruned_tree.specs.Grown.{IsGrown};
 ghost use Rattle.pruned_tree.specs.Loaded.{IsRootTable};
 ghost use Rattle.pruned_tree.specs.Relaxed.{IsRelaxed};
 
@@ -38,13 +37,7 @@ pub fn grow<R: RowView>(
     ensures edges { R.edges view.new ≡ graph.now.edges }
     ensures order { R.order view.new ≡ ranking.now }
     ensures kept { R.kept view.new ≡ R.kept view.old }
-    ensures pruned { IsPruned (Joined graph.now.edges) ranking.now (R.puts view.old) (R.puts view.new) p }
-    ensures count { IfOk result (λ count. entries_of ranking.now (R.puts view.new) ≡ entries_of ranking.now (R.puts view.old) + count) }
-    ensures complete { IfOk result (λ _. (h v d : ℕ) → slice_get ranking.now p ≡ Some h
-        → IsCanonical (Joined graph.now.edges) ranking.now h v d → Gains (R.puts view.old) (R.puts view.new) p v d) }
-    ensures exact { IfOk result (λ _. HoldsHigher (Joined graph.now.edges) ranking.now p (R.seen view.old)
-        → (h v d : ℕ) → slice_get ranking.now p ≡ Some h → 1 ≤ v → Gains (R.puts view.old) (R.puts view.new) p v d
-        → IsCanonical (Joined graph.now.edges) ranking.now h v d) }
+    ensures grown { IsGrown graph.now.edges ranking.now p (R.seen view.old) (R.puts view.old) (R.puts view.new) result }
 {
     let nodes = graph.n();
     prove!(nodes == work.n);
@@ -78,13 +71,7 @@ fn grow_from<R: RowView>(
     ensures edges { R.edges view.new ≡ graph.now.edges }
     ensures order { R.order view.new ≡ ranking.now }
     ensures kept { R.kept view.new ≡ R.kept view.old }
-    ensures pruned { IsPruned (Joined graph.now.edges) ranking.now (R.puts view.old) (R.puts view.new) p }
-    ensures count { IfOk result (λ count. entries_of ranking.now (R.puts view.new) ≡ entries_of ranking.now (R.puts view.old) + count) }
-    ensures complete { IfOk result (λ _. (h v d : ℕ) → slice_get ranking.now p ≡ Some h
-        → IsCanonical (Joined graph.now.edges) ranking.now h v d → Gains (R.puts view.old) (R.puts view.new) p v d) }
-    ensures exact { IfOk result (λ _. HoldsHigher (Joined graph.now.edges) ranking.now p (R.seen view.old)
-        → (h v d : ℕ) → slice_get ranking.now p ≡ Some h → 1 ≤ v → Gains (R.puts view.old) (R.puts view.new) p v d
-        → IsCanonical (Joined graph.now.edges) ranking.now h v d) }
+    ensures grown { IsGrown graph.now.edges ranking.now p (R.seen view.old) (R.puts view.old) (R.puts view.new) result }
 {
     frontier.clear();
     frontier.offer(ranking.at(p), 0, Bare {})?;

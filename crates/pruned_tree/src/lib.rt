@@ -2,7 +2,7 @@
 //! root's entries in rows that others may write at the same time. [`grow`] grows one tree in a [`Work`], the memory in
 //! which a worker grows one after another. It stands on frontier (the nodes to come), hub_index (the rows, as a view sees
 //! them), walk_laws (graphs, and what a canonical hub is) and rank_table (rankings). Its callers' clauses use specs/Grown
-//! (`IsPruned`, `Gains`, `HoldsHigher`, `entries_of`).
+//! (`IsGrown`).
 #![tactic(auto)]
 
 mod bare;

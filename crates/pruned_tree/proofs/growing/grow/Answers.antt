@@ -1,11 +1,11 @@
-use Rattle.std.proofs.Common.{◌≡◌, ℕ, ◌+◌, ◌≤◌, List, [], sym, subst, ◌∙◌}
+use Rattle.std.proofs.Common.{◌≡◌, ℕ, ◌≤◌, List, [], sym, subst, ◌∙◌}
 use Rattle.std.specs.Prelude.{Some, slice_get, Result, Ok, Err, IfOk}
 use Rattle.std.proofs.lemmas.List.{append-nil}
 use Rattle.walk_laws.specs.declared.entry.Entry.{Entry}
 use Rattle.walk_laws.specs.Canonical.{IsCanonical}
 use Rattle.walk_laws.specs.Joined.{Joined}
 use Rattle.hub_index.specs.Views.{IsFound}
-use Rattle.pruned_tree.specs.Grown.{Gains, HoldsHigher, entries_of}
+use Rattle.pruned_tree.specs.Grown.{Gains, HoldsHigher, IsGrown}
 use Rattle.pruned_tree.specs.Loaded.{IsRootTable}
 use Rattle.pruned_tree.proofs.TreeRounds.{StillStand, StillStand-found}
 use Rattle.pruned_tree.proofs.growing.grow.Given as given
@@ -38,21 +38,16 @@ grow_from-requires-clause-root g c = λ h root.
     let loaded : IsRootTable (Joined c.args.graph.now.edges) c.args.ranking.now c.at.result (g.R.RowView.seen c.load_root.new.self c.at.result) c.load_root.new.table = record { fit = (root_found g up).fit; held = c.load_root.ensures.held } in
     subst (λ x. IsRootTable (Joined c.args.graph.now.edges) c.args.ranking.now x (g.R.RowView.seen c.load_root.new.self x) c.load_root.new.table) same loaded
 
-pub returns-clause-count : goal.returns-clause-count
-returns-clause-count g c =
-    subst (λ puts. IfOk c.grow_from.result (λ count. entries_of c.args.ranking.now (g.R.RowView.puts c.grow_from.new.view) ≡ entries_of c.args.ranking.now puts + count))
-    (same_puts g (goal.at.returns-clause-count g c).After-load_root) c.grow_from.ensures.count
-
-pub returns-clause-complete : goal.returns-clause-complete
-returns-clause-complete g c =
-    subst (λ puts. IfOk c.grow_from.result (λ _. (h v d : ℕ) → slice_get c.args.ranking.now c.args.p ≡ Some h → IsCanonical (Joined c.args.graph.now.edges) c.args.ranking.now h v d → Gains puts (g.R.RowView.puts c.grow_from.new.view) c.args.p v d))
-    (same_puts g (goal.at.returns-clause-complete g c).After-load_root) c.grow_from.ensures.complete
-
-pub returns-clause-exact : goal.returns-clause-exact
-returns-clause-exact g c =
-    let up = (goal.at.returns-clause-exact g c).After-load_root in
-    let Exact : (ℕ → List Entry) → (ℕ → List Entry) → Type 0 = λ seen puts. HoldsHigher (Joined c.args.graph.now.edges) c.args.ranking.now c.args.p seen
-    → (h v d : ℕ) → slice_get c.args.ranking.now c.args.p ≡ Some h → 1 ≤ v → Gains puts (g.R.RowView.puts c.grow_from.new.view) c.args.p v d → IsCanonical (Joined c.args.graph.now.edges) c.args.ranking.now h v d in
-    if_ok_then c.grow_from.result (λ _. Exact (g.R.RowView.seen c.load_root.new.self) (g.R.RowView.puts c.args.view.now)) (λ _. Exact (g.R.RowView.seen c.args.view.now) (g.R.RowView.puts c.args.view.now))
-    (λ _ exact higher. exact (λ v e from_one above hub. stand g up v e from_one (higher v e from_one above hub)))
-    (subst (λ puts. IfOk c.grow_from.result (λ _. Exact (g.R.RowView.seen c.load_root.new.self) puts)) (same_puts g up) c.grow_from.ensures.exact)
+pub returns-clause-grown : goal.returns-clause-grown
+returns-clause-grown g c =
+    let up = (goal.at.returns-clause-grown g c).After-load_root in
+    let Exact : (ℕ → List Entry) → Type 0 = λ seen. HoldsHigher (Joined c.args.graph.now.edges) c.args.ranking.now c.args.p seen
+    → (h v d : ℕ) → slice_get c.args.ranking.now c.args.p ≡ Some h → 1 ≤ v → Gains (g.R.RowView.puts c.args.view.now) (g.R.RowView.puts c.grow_from.new.view) c.args.p v d → IsCanonical (Joined c.args.graph.now.edges) c.args.ranking.now h v d in
+    let grown = subst (λ puts. IsGrown c.args.graph.now.edges c.args.ranking.now c.args.p (g.R.RowView.seen c.load_root.new.self) puts (g.R.RowView.puts c.grow_from.new.view) c.grow_from.result) (same_puts g up) c.grow_from.ensures.grown in
+    record {
+      pruned = grown.pruned;
+      count = grown.count;
+      complete = grown.complete;
+      exact = if_ok_then c.grow_from.result (λ _. Exact (g.R.RowView.seen c.load_root.new.self)) (λ _. Exact (g.R.RowView.seen c.args.view.now))
+          (λ _ exact higher. exact (λ v e from_one above hub. stand g up v e from_one (higher v e from_one above hub))) grown.exact;
+    }

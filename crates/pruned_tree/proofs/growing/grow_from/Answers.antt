@@ -2,6 +2,7 @@ use Rattle.std.proofs.Common.{refl, ◌≡◌, ◌≢◌, ℕ, ◌+◌, ◌*◌,
 use Rattle.std.specs.Prelude.{Some, slice_get}
 use Rattle.std.proofs.Math.ListN.{length-set}
 use Rattle.std.proofs.lemmas.List.{length-replicate, append-nil}
+use Rattle.std.proofs.lemmas.Result.{IfOk-from_err}
 use Rattle.walk_laws.specs.declared.entry.Entry.{Entry}
 use Rattle.walk_laws.specs.Graph.{greatest_weight}
 use Rattle.walk_laws.specs.Joined.{Joined}
@@ -188,29 +189,37 @@ loop-v-preserved g c =
       few = omega (arith, unsettled-same c.relax.new.frontier (settled c.loop-v.frontier c.in-Some.v c.in-Some.found) relaxed.size relaxed.settled, unsettled-settled c.loop-v.frontier c.in-Some.v c.in-Some.found c.in-Some.ensures.queued, inv.few);
     }
 
-pub returns-in_err-relax-clause-pruned : goal.returns-in_err-relax-clause-pruned
-returns-in_err-relax-clause-pruned g c =
-    let up = (goal.at.returns-in_err-relax-clause-pruned g c).In-Some in
+pub returns-in_err-relax-clause-grown : goal.returns-in_err-relax-clause-grown
+returns-in_err-relax-clause-grown g c =
+    let up = (goal.at.returns-in_err-relax-clause-grown g c).In-Some in
     let offered = c.in-Put.ensures in
-    IsPruned-from_growth (Joined c.args.graph.now.edges) c.args.ranking.now c.at.result c.args.p (g.R.RowView.puts c.args.view.now) (settled c.loop-v.frontier c.in-Some.v c.in-Some.found) (g.R.RowView.puts c.offer-in-Some.new.self)
-    (growth_put g up offered.found.0 (g.R.RowView.puts c.offer-in-Some.new.self) (found_here g up offered.found.0 offered.found.1) offered.puts offered.others_puts c.at.result c.at.ensures.value) c.at.ensures.value
+    record {
+      pruned = IsPruned-from_growth (Joined c.args.graph.now.edges) c.args.ranking.now c.at.result c.args.p (g.R.RowView.puts c.args.view.now) (settled c.loop-v.frontier c.in-Some.v c.in-Some.found) (g.R.RowView.puts c.offer-in-Some.new.self)
+          (growth_put g up offered.found.0 (g.R.RowView.puts c.offer-in-Some.new.self) (found_here g up offered.found.0 offered.found.1) offered.puts offered.others_puts c.at.result c.at.ensures.value) c.at.ensures.value;
+      count = IfOk-from_err c.from_residual-in_err-relax.result _ c.from_residual-in_err-relax.ensures.0;
+      complete = IfOk-from_err c.from_residual-in_err-relax.result _ c.from_residual-in_err-relax.ensures.0;
+      exact = IfOk-from_err c.from_residual-in_err-relax.result _ c.from_residual-in_err-relax.ensures.0;
+    }
 
-pub returns-in-NoMemory-clause-pruned : goal.returns-in-NoMemory-clause-pruned
-returns-in-NoMemory-clause-pruned g c =
-    let up = (goal.at.returns-in-NoMemory-clause-pruned g c).In-Some in
+pub returns-in-NoMemory-clause-grown : goal.returns-in-NoMemory-clause-grown
+returns-in-NoMemory-clause-grown g c =
+    let up = (goal.at.returns-in-NoMemory-clause-grown g c).In-Some in
     let offered = c.in-NoMemory.ensures in
     let same = same_at_all (g.R.RowView.puts c.loop-v.view) (g.R.RowView.puts c.offer-in-Some.new.self) c.in-Some.v offered.puts offered.others_puts in
-    IsPruned-from_growth (Joined c.args.graph.now.edges) c.args.ranking.now c.at.result c.args.p (g.R.RowView.puts c.args.view.now) (settled c.loop-v.frontier c.in-Some.v c.in-Some.found) (g.R.RowView.puts c.offer-in-Some.new.self)
-    (growth_over g up offered.found.0 (g.R.RowView.puts c.offer-in-Some.new.self) (found_here g up offered.found.0 offered.found.1) same c.at.result c.at.ensures.value) c.at.ensures.value
+    record {
+      pruned = IsPruned-from_growth (Joined c.args.graph.now.edges) c.args.ranking.now c.at.result c.args.p (g.R.RowView.puts c.args.view.now) (settled c.loop-v.frontier c.in-Some.v c.in-Some.found) (g.R.RowView.puts c.offer-in-Some.new.self)
+          (growth_over g up offered.found.0 (g.R.RowView.puts c.offer-in-Some.new.self) (found_here g up offered.found.0 offered.found.1) same c.at.result c.at.ensures.value) c.at.ensures.value;
+      count = tt;
+      complete = tt;
+      exact = tt;
+    }
 
-pub returns-clause-pruned : goal.returns-clause-pruned
-returns-clause-pruned g c =
-    IsPruned-from_growth (Joined c.args.graph.now.edges) c.args.ranking.now c.at.result c.args.p (g.R.RowView.puts c.args.view.now) c.loop-v.frontier (g.R.RowView.puts c.loop-v.view) (c.loop-v.invariant.growth c.at.result c.at.ensures.value) c.at.ensures.value
-
-pub returns-clause-complete : goal.returns-clause-complete
-returns-clause-complete g c = λ h v d root hub.
-    all_gained (Joined c.args.graph.now.edges) (weights_positive c.args.graph.now.n c.args.graph.now.edges c.requires.graph) c.args.ranking.now h c.args.p (root_position c.args.ranking.now h c.args.p c.requires.ranking root) (g.R.RowView.puts c.args.view.now) (g.R.RowView.seen c.args.view.now)
-    c.loop-v.frontier (g.R.RowView.puts c.loop-v.view) (c.loop-v.invariant.complete h root) (λ x f queued. c.in_default.ensures.none x f queued) v d hub
-
-pub returns-clause-exact : goal.returns-clause-exact
-returns-clause-exact g c = λ higher h v d root from_one gained. (c.loop-v.invariant.complete h root).exact v d from_one gained higher
+pub returns-clause-grown : goal.returns-clause-grown
+returns-clause-grown g c = record {
+  pruned = IsPruned-from_growth (Joined c.args.graph.now.edges) c.args.ranking.now c.at.result c.args.p (g.R.RowView.puts c.args.view.now) c.loop-v.frontier (g.R.RowView.puts c.loop-v.view) (c.loop-v.invariant.growth c.at.result c.at.ensures.value) c.at.ensures.value;
+  count = c.loop-v.invariant.counted;
+  complete = λ h v d root hub.
+      all_gained (Joined c.args.graph.now.edges) (weights_positive c.args.graph.now.n c.args.graph.now.edges c.requires.graph) c.args.ranking.now h c.args.p (root_position c.args.ranking.now h c.args.p c.requires.ranking root) (g.R.RowView.puts c.args.view.now) (g.R.RowView.seen c.args.view.now)
+      c.loop-v.frontier (g.R.RowView.puts c.loop-v.view) (c.loop-v.invariant.complete h root) (λ x f queued. c.in_default.ensures.none x f queued) v d hub;
+  exact = λ higher h v d root from_one gained. (c.loop-v.invariant.complete h root).exact v d from_one gained higher;
+}
