@@ -12,14 +12,12 @@ use Rattle.walk_laws.specs.Canonical.{IsCanonical}
 use Rattle.walk_laws.specs.Cover.{CoveringHub}
 use Rattle.walk_laws.specs.Ranking.{IsRanking, RanksAbove, position_of}
 use Rattle.walk_laws.specs.Labelling.{EntryFits, IsHubEntry, label_row}
-use Rattle.walk_laws.proofs.Members.{Contains-empty}
 use Rattle.walk_laws.proofs.Positions.{position-get_or, slice_get-at_position}
 use Rattle.walk_laws.proofs.JoinedEdges.{Joined-sym}
 use Rattle.walk_laws.proofs.JoinedDecisions.{IsCanonical-or_joined_cover}
 use Rattle.walk_laws.proofs.CanonicalHubs.{IsCanonical-no_cover}
 use Rattle.label_clean.specs.RawRows.{both_rows}
 use Rattle.label_clean.specs.Needless.{IsNeedless, IsSurvivingRow}
-use Rattle.label_clean.specs.Tested.{IsNearRow}
 use Rattle.label_clean.specs.Below.{HoldsBelow, IsRowBelow, IsChlBelow}
 use Rattle.label_clean.proofs.Covering.{pos_of, entry, covered, IsCovered-more}
 use Rattle.label_clean.proofs.RowFacts.{same_entry}
@@ -100,54 +98,38 @@ module _ (at : List ℕ) (ranking : IsRanking at) where
       );
     }
 
--- the raw rows as they are tested: by rising distance, beside the global ones
-module _ (at : List ℕ) (ranking : IsRanking at) (none near : List (List Entry)) (none_is : (v : ℕ) → 1 ≤ v → v ≤ length at → label_row none v ≡ []) where
-  -- behind an empty row stands nothing new
-  beside_none : (others : List (List Entry)) (v : ℕ) (e : Entry) → 1 ≤ v → v ≤ length at → Contains (both_rows none others v) e → Contains (label_row others v) e
-  beside_none others v e from_one up_to_n h = elim (Contains-append_cases (label_row none v) (label_row others v) e h) [
-    | inl here ↦ absurd (Contains-empty e (subst (λ row. Contains row e) (none_is v from_one up_to_n) here))
-    | inr there ↦ there
-  ]
+-- rows with the same entries lose the same
+module _ (at : List ℕ) (ranking : IsRanking at) (global near raw : List (List Entry)) (same : (v : ℕ) → 1 ≤ v → v ≤ length at → (e : Entry) → Contains (label_row near v) e ↔ Contains (label_row raw v) e) where
+  beside : (xs ys zs : List Entry) → ((e : Entry) → Contains ys e → Contains zs e) → (e : Entry) → Contains (xs ++ ys) e → Contains (xs ++ zs) e
+  beside xs ys zs more e h = elim (Contains-append_cases xs ys e h) [ inl here ↦ Contains-append_left xs zs e here | inr there ↦ Contains-append_right xs zs e (more e there) ]
 
-  module _ (global raw : List (List Entry)) where
-    -- where all rows are put together, what is kept of them is the labelling up to the position
-    module _ (near_is : (v : ℕ) → 1 ≤ v → v ≤ length at → IsNearRow (both_rows global raw v) (label_row near v)) where
-      all_there : (v : ℕ) → 1 ≤ v → v ≤ length at → (e : Entry) → Contains (both_rows none near v) e → Contains (both_rows global raw v) e
-      all_there v from_one up_to_n e h = ((near_is v from_one up_to_n).each e).0 (beside_none near v e from_one up_to_n h)
+  pub IsSurvivingRow-same : (v : ℕ) (row : List Entry) → 1 ≤ v → v ≤ length at → IsSurvivingRow at global near v row → IsSurvivingRow at global raw v row
+  IsSurvivingRow-same v row from_one up_to_n is = record {
+    rising = is.rising;
+    each = λ e. (
+      λ here. let known = (is.each e).0 here in ((same v from_one up_to_n e).0 known.0, λ needless. known.1 (IsNeedless-more at ranking global raw global near (λ x low high. beside (label_row global x) (label_row raw x) (label_row near x) (λ f. (same x low high f).1)) v from_one up_to_n e needless)),
+      λ kept. (is.each e).1 ((same v from_one up_to_n e).1 kept.0, λ needless. kept.1 (IsNeedless-more at ranking global near global raw (λ x low high. beside (label_row global x) (label_row near x) (label_row raw x) (λ f. (same x low high f).0)) v from_one up_to_n e needless)),
+    );
+  }
 
-      all_back : (v : ℕ) → 1 ≤ v → v ≤ length at → (e : Entry) → Contains (both_rows global raw v) e → Contains (both_rows none near v) e
-      all_back v from_one up_to_n e h = Contains-append_right (label_row none v) (label_row near v) e (((near_is v from_one up_to_n).each e).1 h)
+-- where all rows are put together, what is kept of them is the labelling up to the position
+module _ (at : List ℕ) (ranking : IsRanking at) (global raw all : List (List Entry)) (is : (v : ℕ) → 1 ≤ v → v ≤ length at → label_row all v ≡ both_rows global raw v) where
+  there : (v : ℕ) → 1 ≤ v → v ≤ length at → (e : Entry) → Contains (both_rows [] all v) e → Contains (both_rows global raw v) e
+  there v from_one up_to_n e h = subst (λ row. Contains row e) (is v from_one up_to_n) h
 
-      pub IsChlBelow-from_surviving : (rows : List (List Entry)) → length rows ≡ length at → ((v : ℕ) → 1 ≤ v → v ≤ length at → IsSurvivingRow at none near v (label_row rows v)) → (edges : List Edge) (c : ℕ) → HoldsBelow edges at c global raw → IsChlBelow edges at c rows
-      IsChlBelow-from_surviving rows size survive edges c holds = record {
-        size = size;
-        row = λ v from_one up_to_n.
-            let row = survive v from_one up_to_n in
-            IsRowBelow-from_kept at ranking edges c global raw holds v from_one up_to_n (label_row rows v) row.rising (λ e. (
-              λ here. let known = (row.each e).0 here in (((near_is v from_one up_to_n).each e).0 known.0, λ needless. known.1 (IsNeedless-more at ranking global raw none near all_back v from_one up_to_n e needless)),
-              λ kept. (row.each e).1 (((near_is v from_one up_to_n).each e).1 kept.0, λ needless. kept.1 (IsNeedless-more at ranking none near global raw all_there v from_one up_to_n e needless)),
-            ));
-      }
+  back : (v : ℕ) → 1 ≤ v → v ≤ length at → (e : Entry) → Contains (both_rows global raw v) e → Contains (both_rows [] all v) e
+  back v from_one up_to_n e h = subst (λ row. Contains row e) (sym (is v from_one up_to_n)) h
 
-    -- where the raw rows stand by themselves, the same of them is kept
-    module _ (near_is : (v : ℕ) → 1 ≤ v → v ≤ length at → IsNearRow (both_rows none raw v) (label_row near v)) where
-      pub raw_there : (v : ℕ) → 1 ≤ v → v ≤ length at → (e : Entry) → Contains (label_row near v) e → Contains (label_row raw v) e
-      raw_there v from_one up_to_n e h = beside_none raw v e from_one up_to_n (((near_is v from_one up_to_n).each e).0 h)
-
-      raw_back : (v : ℕ) → 1 ≤ v → v ≤ length at → (e : Entry) → Contains (label_row raw v) e → Contains (label_row near v) e
-      raw_back v from_one up_to_n e h = ((near_is v from_one up_to_n).each e).1 (Contains-append_right (label_row none v) (label_row raw v) e h)
-
-      beside : (xs ys zs : List Entry) → ((e : Entry) → Contains ys e → Contains zs e) → (e : Entry) → Contains (xs ++ ys) e → Contains (xs ++ zs) e
-      beside xs ys zs more e h = elim (Contains-append_cases xs ys e h) [ inl here ↦ Contains-append_left xs zs e here | inr there ↦ Contains-append_right xs zs e (more e there) ]
-
-      pub IsSurvivingRow-from_near : (v : ℕ) (row : List Entry) → 1 ≤ v → v ≤ length at → IsSurvivingRow at global near v row → IsSurvivingRow at global raw v row
-      IsSurvivingRow-from_near v row from_one up_to_n is = record {
-        rising = is.rising;
-        each = λ e. (
-          λ here. let known = (is.each e).0 here in (raw_there v from_one up_to_n e known.0, λ needless. known.1 (IsNeedless-more at ranking global raw global near (λ x low high. beside (label_row global x) (label_row raw x) (label_row near x) (raw_back x low high)) v from_one up_to_n e needless)),
-          λ kept. (is.each e).1 (raw_back v from_one up_to_n e kept.0, λ needless. kept.1 (IsNeedless-more at ranking global near global raw (λ x low high. beside (label_row global x) (label_row near x) (label_row raw x) (raw_there x low high)) v from_one up_to_n e needless)),
-        );
-      }
+  pub IsChlBelow-from_surviving : (rows : List (List Entry)) → length rows ≡ length at → ((v : ℕ) → 1 ≤ v → v ≤ length at → IsSurvivingRow at [] all v (label_row rows v)) → (edges : List Edge) (c : ℕ) → HoldsBelow edges at c global raw → IsChlBelow edges at c rows
+  IsChlBelow-from_surviving rows size survive edges c holds = record {
+    size = size;
+    row = λ v from_one up_to_n.
+        let row = survive v from_one up_to_n in
+        IsRowBelow-from_kept at ranking edges c global raw holds v from_one up_to_n (label_row rows v) row.rising (λ e. (
+          λ here. let known = (row.each e).0 here in (there v from_one up_to_n e known.0, λ needless. known.1 (IsNeedless-more at ranking global raw [] all back v from_one up_to_n e needless)),
+          λ kept. (row.each e).1 (back v from_one up_to_n e kept.0, λ needless. kept.1 (IsNeedless-more at ranking [] all global raw there v from_one up_to_n e needless)),
+        ));
+  }
 
 -- what survives are the hubs of the raw rows
 pub surviving_hubs : (at : List ℕ) (ranking : IsRanking at) (edges : List Edge) (c : ℕ) (global raw : List (List Entry)) → HoldsBelow edges at c global raw → (v : ℕ) → 1 ≤ v → v ≤ length at → (row : List Entry) → IsSurvivingRow at global raw v row → (e : Entry) → Contains row e ↔ (Contains (label_row raw v) e × IsHubEntry (Joined edges) at v e)

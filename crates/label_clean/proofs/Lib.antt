@@ -4,6 +4,7 @@ pub mod RowFacts
 pub mod NearRows
 pub mod Cleaned
 pub mod KeptEntries
-pub mod EachRow
 pub mod TestRows
 pub mod GoneOn
+pub mod RowItems
+pub mod KeptRows

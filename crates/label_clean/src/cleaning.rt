@@ -1,23 +1,29 @@
-ghost use Rattle.std.specs.Prelude.{◌≡◌, ◌↔◌, ℕ, ◌≤◌, List, Contains, length, IfOk};
+ghost use Rattle.std.specs.Prelude.{◌≡◌, ◌↔◌, ℕ, ◌≤◌, [], List, Contains, length, IfOk};
 ghost use Rattle.walk_laws.specs.declared.graph.Edge.{Edge as AnEdge};
 ghost use Rattle.walk_laws.specs.declared.entry.Entry.{Entry as AnEntry};
 ghost use Rattle.walk_laws.specs.Joined.{Joined};
 ghost use Rattle.walk_laws.specs.Labelling.{label_row, IsHubEntry};
+ghost use Rattle.walk_laws.specs.Ranking.{IsRanking};
 ghost use Rattle.label_clean.specs.RawRows.{IsRawRow, both_rows};
 ghost use Rattle.label_clean.specs.Needless.{IsSurvivingRow};
+ghost use Rattle.label_clean.specs.Kept.{AreKeptRows, HasSurvivors};
+ghost use Rattle.label_clean.specs.Tested.{AreNearRows};
 ghost use Rattle.label_clean.specs.Below.{HoldsBelow, IsChlBelow};
 
-use crate::sorting::near_rows;
-use crate::testing::surviving_rows;
+use crate::rows::together;
+use crate::sorting::{by_distance, by_position};
+use crate::testing::test_rows;
 use hub_index::RowList;
 use rank_table::Ranking;
+use rayon::current_num_threads;
 use std::alloc::{AllocError, Global};
 use std::thread::Threads;
+use walk_laws::Entry;
 
 /// The canonical hub labelling, up to a position, of a graph on the ranking's nodes: where both tables together hold only
 /// entries that may stand in their rows, with positions below it, at most one of each hub in a row, and every canonical
-/// one, Ok is exactly the canonical ones, each row by rising position. The rows may come in any order. It works on all
-/// cores, and the only error is that memory ran out. (Planting Trees, PVLDB 2019.)
+/// one, Ok is exactly the canonical ones, each row by rising position. The rows may come in any order. Both tables are
+/// copied, and the only error is that memory ran out. (Planting Trees, PVLDB 2019.)
 ///
 /// In the square 1-2-3-4-1 of weights 1, of which a smaller number ranks higher, a tree of node 2 that doesn't know the
 /// tree of node 1 leaves the entry (1, 2) in the row of 4:
@@ -39,15 +45,15 @@ pub fn clean<R: Threads + Sync>(
     requires both { (v : ℕ) → 1 ≤ v → v ≤ length ranking.now → IsRawRow (length ranking.now) (both_rows global.now raw.now v) }
     ensures { IfOk result (λ rows. (edges : List AnEdge) (c : ℕ) → HoldsBelow edges ranking.now c global.now raw.now → IsChlBelow edges ranking.now c rows) }
 {
-    let none = RowList::new(alloc, ranking.n())?;
-    let near = near_rows(rt, alloc, global, raw)?;
-    surviving_rows(rt, alloc, ranking, &none, &near)
+    let all = together(alloc, global, raw)?;
+    let none = RowList::new(alloc, 0)?;
+    surviving(rt, alloc, ranking, &none, all)
 }
 
 /// The raw entries that no hub of both tables makes needless, each row by rising position. The rows of both tables may come
-/// in any order. Where `clean` would make the canonical hub labelling up to a position, these
-/// are exactly the canonical ones of the raw entries. It works on all cores at a cost in the raw entries and the rows that
-/// they are tested against, and the only error is that memory ran out.
+/// in any order. Where `clean` would make the canonical hub labelling up to a position, these are exactly the canonical ones
+/// of the raw entries. The raw rows are copied, at a cost in their entries and in the nodes, and the rows that they are
+/// tested against are read; the only error is that memory ran out.
 pub fn survivors<R: Threads + Sync>(
     rt: &R,
     alloc: Global,
@@ -63,7 +69,85 @@ pub fn survivors<R: Threads + Sync>(
     ensures hubs { IfOk result (λ rows. (edges : List AnEdge) (c : ℕ) → HoldsBelow edges ranking.now c global.now raw.now → (v : ℕ) → 1 ≤ v → v ≤ length ranking.now
         → (e : AnEntry) → Contains (label_row rows v) e ↔ (Contains (label_row raw.now v) e × IsHubEntry (Joined edges) ranking.now v e)) }
 {
-    let none = RowList::new(alloc, ranking.n())?;
-    let near = near_rows(rt, alloc, &none, raw)?;
-    surviving_rows(rt, alloc, ranking, global, &near)
+    let none = RowList::new(alloc, 0)?;
+    let copy = together(alloc, &none, raw)?;
+    surviving(rt, alloc, ranking, global, copy)
+}
+
+/// The canonical hub labelling, up to a position, of a graph on the ranking's nodes, in the memory of the raw rows: where
+/// these hold only entries that may stand in them, with positions below it, at most one of each hub in a row, and every
+/// canonical one, Ok is exactly the canonical ones, each row by rising position. It works on all cores. Beside the rows it
+/// takes some bytes a node, and a copy of each row that loses an entry; the only error is that memory ran out.
+pub fn clean_in_place<R: Threads + Sync>(
+    rt: &R,
+    alloc: Global,
+    ranking: &Ranking,
+    raw: RowList,
+) -> Result<RowList, AllocError>
+    requires raw_size { length raw ≡ length ranking.now }
+    requires raw_rows { (v : ℕ) → 1 ≤ v → v ≤ length ranking.now → IsRawRow (length ranking.now) (label_row raw v) }
+    ensures { IfOk result (λ rows. (edges : List AnEdge) (c : ℕ) → HoldsBelow edges ranking.now c [] raw → IsChlBelow edges ranking.now c rows) }
+{
+    let none = RowList::new(alloc, 0)?;
+    surviving(rt, alloc, ranking, &none, raw)
+}
+
+/// The raw entries that no hub of both tables makes needless, each row by rising position, in the memory of the raw rows.
+fn surviving<R: Threads + Sync>(
+    rt: &R,
+    alloc: Global,
+    ranking: &Ranking,
+    global: &RowList,
+    raw: RowList,
+) -> Result<RowList, AllocError>
+    requires raw_size { length raw ≡ length ranking.now }
+    requires raw_rows { (v : ℕ) → 1 ≤ v → v ≤ length ranking.now → IsRawRow (length ranking.now) (label_row raw v) }
+    ensures ranking { IsRanking ranking.now }
+    ensures size { IfOk result (λ rows. length rows ≡ length ranking.now) }
+    ensures rows { IfOk result (λ rows. (v : ℕ) → 1 ≤ v → v ≤ length ranking.now → IsSurvivingRow ranking.now global.now raw v (label_row rows v)) }
+{
+    let n = ranking.n();
+    let near = by_distance(rt, raw);
+    let kept = test_rows(rt, alloc, ranking, global, &near, cuts_for(rt, n), 0, n)?;
+    Ok(by_position(rt, replaced(ranking, global, near, kept)))
+}
+
+/// The near rows, each replaced by what is kept of it where it loses an entry.
+fn replaced(
+    ranking: &Ranking,
+    global: &RowList,
+    near: RowList,
+    kept: Vec<Option<Vec<Entry>>>,
+) -> RowList
+    requires near { AreNearRows (length ranking.now) near }
+    requires kept { AreKeptRows ranking.now global.now near 0 (length ranking.now) kept.items }
+    ensures size { length result ≡ length ranking.now }
+    ensures rows { (v : ℕ) → 1 ≤ v → v ≤ length ranking.now → HasSurvivors ranking.now global.now near v (label_row result v) }
+{
+    let mut rows = near.into_rows();
+    let mut kept = kept;
+    while let Some(row) = kept.pop() {
+        match row {
+            Some(row) => rows[kept.len()] = row,
+            None => {}
+        }
+    }
+    RowList::from_rows(rows)
+}
+
+/// The fewest nodes that are worth a thread.
+const NODES_A_THREAD: u32 = 64;
+
+/// How many times nodes are cut in two, so that there is a piece of them for each processor and none is small.
+fn cuts_for<R: Threads>(rt: &R, nodes: u32) -> u32 {
+    let most = (nodes / NODES_A_THREAD) as usize;
+    match current_num_threads(rt).min(most) {
+        0..=1 => 0,
+        2 => 1,
+        3..=4 => 2,
+        5..=8 => 3,
+        9..=16 => 4,
+        17..=32 => 5,
+        _ => 6,
+    }
 }

@@ -11,9 +11,10 @@
 mod cleaning;
 mod cover;
 pub mod laws;
+mod rows;
 mod sorting;
 mod testing;
 #[cfg(test)]
 mod tests;
 
-pub use cleaning::{clean, survivors};
+pub use cleaning::{clean, clean_in_place, survivors};

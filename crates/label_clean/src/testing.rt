@@ -1,60 +1,91 @@
-ghost use Rattle.std.specs.Prelude.{◌+◌, ◌^◌, ◌≡◌, ◌↔◌, ℕ, ◌<◌, ◌≤◌, length, IsTrue, IfOk};
+ghost use Rattle.std.specs.Prelude.{◌+◌, ◌-◌, ◌^◌, ◌≡◌, ◌↔◌, ℕ, ◌<◌, ◌≤◌, All, length, vec_len, IsTrue, IfOk};
 ghost use Rattle.walk_laws.specs.Labelling.{label_row};
+ghost use Rattle.std.specs.Thread.{IsSync};
 ghost use Rattle.label_clean.specs.RawRows.{both_rows};
 ghost use Rattle.label_clean.specs.Needless.{IsNeedless, IsSurvivingRow};
+ghost use Rattle.label_clean.specs.Kept.{IsKeptRow, AreKeptRows};
 ghost use Rattle.label_clean.specs.Tested.{AreNearRows, HoldsLeast};
 
 use crate::cover::{is_covered, note_row};
-use crate::sorting::{ROWS_A_THREAD, sorted_row};
+use crate::rows::row_or_none;
+use crate::sorting::sorted_row;
 use hub_index::{RootTable, RowList, covered};
 use rank_table::Ranking;
-use rayon::prelude::*;
 use std::alloc::{AllocError, Global};
-use std::thread::Threads;
+use std::thread::{Threads, join};
 use walk_laws::Entry;
 
 /// Whether an entry of a node's row is needless, where the table has the distances of the node's rows. The near rows are
 /// by rising distance.
-pub fn is_needless(
+fn is_needless(
     ranking: &Ranking,
     global: &RowList,
     near: &RowList,
     table: &RootTable,
     entry: Entry,
 ) -> bool
-    requires global_size { length global.now ≡ length ranking.now }
     requires near { AreNearRows (length ranking.now) near.now }
     requires size { length table.now ≡ length ranking.now }
     requires position { entry.pos < length ranking.now }
     ensures { (v : ℕ) → HoldsLeast table.now (both_rows global.now near.now v) → IsTrue result ↔ IsNeedless ranking.now global.now near.now v entry }
 {
     let hub = ranking.at(entry.pos);
-    if covered(global.row(hub), table, entry.pos, entry.dist).is_some() {
+    if covered(row_or_none(global, hub), table, entry.pos, entry.dist).is_some() {
         return true;
     }
     is_covered(near.row(hub), table, entry.pos, entry.dist)
 }
 
-/// The near entries of the node `v`, a number from 1, that are not needless, by rising position. The table may hold
-/// anything before. The only error is that memory ran out.
-pub fn surviving_row(
+/// Whether none of the entries, which are of a node's row, is needless, where the table has the distances of the node's rows.
+fn all_stay(
+    ranking: &Ranking,
+    global: &RowList,
+    near: &RowList,
+    table: &RootTable,
+    row: &[Entry],
+) -> bool
+    requires near { AreNearRows (length ranking.now) near.now }
+    requires size { length table.now ≡ length ranking.now }
+    requires positions { All (λ e. e.pos < length ranking.now) row.now }
+    ensures { (v : ℕ) → HoldsLeast table.now (both_rows global.now near.now v) → IsTrue result → All (λ e. ¬ IsNeedless ranking.now global.now near.now v e) row.now }
+{
+    for entry in row {
+        if is_needless(ranking, global, near, table, *entry) {
+            return false;
+        }
+    }
+    true
+}
+
+/// Notes both rows of the node `v`, a number from 1, and nothing else, whatever the table held.
+fn note_rows(table: &mut RootTable, global: &RowList, near: &RowList, v: u32)
+    requires node { 1 ≤ v }
+    requires within { v ≤ length near.now }
+    ensures size { length table.new ≡ length table.old }
+    ensures held { HoldsLeast table.new (both_rows global.now near.now v) }
+{
+    table.clear();
+    note_row(table, row_or_none(global, v));
+    note_row(table, near.row(v));
+}
+
+/// The near entries of the node `v`, a number from 1, that are not needless, by rising position, where the table has the
+/// distances of its rows. The only error is that memory ran out.
+fn surviving_row(
     alloc: Global,
     ranking: &Ranking,
     global: &RowList,
     near: &RowList,
-    table: &mut RootTable,
+    table: &RootTable,
     v: u32,
 ) -> Result<Vec<Entry>, AllocError>
-    requires global_size { length global.now ≡ length ranking.now }
     requires near { AreNearRows (length ranking.now) near.now }
-    requires size { length table.old ≡ length ranking.now }
+    requires size { length table.now ≡ length ranking.now }
     requires node { 1 ≤ v }
     requires node_within { v ≤ length ranking.now }
+    requires held { HoldsLeast table.now (both_rows global.now near.now v) }
     ensures { IfOk result (λ row. IsSurvivingRow ranking.now global.now near.now v row.items) }
 {
-    table.clear();
-    note_row(table, global.row(v));
-    note_row(table, near.row(v));
     let row = sorted_row(alloc, near.row(v))?;
     let mut kept = Vec::with_capacity(alloc, row.len())?;
     for entry in &row {
@@ -66,62 +97,111 @@ pub fn surviving_row(
     Ok(kept)
 }
 
-/// The same with the table that is at hand, or else a new one, which is at hand afterwards. A node without near entries
-/// costs nothing.
-pub fn next_surviving_row(
+/// The near entries of the node `v`, a number from 1, that are not needless, or None where all of them stay: a row that
+/// stays as it is costs no memory. The table may hold anything before. The only error is that memory ran out.
+fn kept_row(
     alloc: Global,
     ranking: &Ranking,
     global: &RowList,
     near: &RowList,
-    at_hand: &mut Option<RootTable>,
+    table: &mut RootTable,
     v: u32,
-) -> Result<Vec<Entry>, AllocError>
-    requires global_size { length global.now ≡ length ranking.now }
+) -> Result<Option<Vec<Entry>>, AllocError>
     requires near { AreNearRows (length ranking.now) near.now }
+    requires size { length table.old ≡ length ranking.now }
     requires node { 1 ≤ v }
     requires node_within { v ≤ length ranking.now }
-    ensures { IfOk result (λ row. IsSurvivingRow ranking.now global.now near.now v row.items) }
+    ensures size { length table.new ≡ length table.old }
+    ensures kept { IfOk result (λ kept. IsKeptRow ranking.now global.now near.now v kept) }
 {
-    if near.row(v).is_empty() {
-        return Ok(Vec::new(alloc));
+    note_rows(table, global, near, v);
+    if all_stay(ranking, global, near, table, near.row(v)) {
+        return Ok(None);
     }
-    let n = ranking.n();
-    let mut table = match at_hand.take() {
-        Some(table) => table,
-        None => RootTable::new(alloc, n)?,
-    };
-    if table.n() != n as usize {
-        table = RootTable::new(alloc, n)?;
-    }
-    let row = surviving_row(alloc, ranking, global, near, &mut table, v)?;
-    *at_hand = Some(table);
-    Ok(row)
+    let row = surviving_row(alloc, ranking, global, near, table, v)?;
+    Ok(Some(row))
 }
 
-/// The near entries that are not needless, each row by rising position, tested on all cores with a table each. The near
-/// rows are by rising distance. The only error is that memory ran out.
-pub fn surviving_rows<R: Threads + Sync>(
+/// What is kept of the rows of the nodes behind `from` up to `to`, tested one after another with one table. The only error
+/// is that memory ran out.
+fn test_in_turn(
+    alloc: Global,
+    ranking: &Ranking,
+    global: &RowList,
+    near: &RowList,
+    from: u32,
+    to: u32,
+) -> Result<Vec<Option<Vec<Entry>>>, AllocError>
+    requires near { AreNearRows (length ranking.now) near.now }
+    requires rising { from ≤ to }
+    requires within { to ≤ length ranking.now }
+    ensures { IfOk result (λ kept. AreKeptRows ranking.now global.now near.now from to kept.items) }
+{
+    let mut table = RootTable::new(alloc, ranking.n())?;
+    let mut kept = Vec::with_capacity(alloc, (to - from) as usize)?;
+    for place in from..to {
+        kept.push(kept_row(alloc, ranking, global, near, &mut table, place + 1)?)?;
+    }
+    Ok(kept)
+}
+
+/// Some node up to which the rows behind `from` have about half the entries of those up to `to`.
+fn halfway(rows: &RowList, from: u32, to: u32) -> u32
+    requires rising { from ≤ to }
+    requires within { to ≤ length rows.now }
+    ensures from { from ≤ result }
+    ensures to { result ≤ to }
+{
+    let mut entries = 0u64;
+    for place in from..to {
+        entries = entries.saturating_add(rows.row(place + 1).len() as u64);
+    }
+    let mut behind = 0u64;
+    for place in from..to {
+        behind = behind.saturating_add(rows.row(place + 1).len() as u64);
+        if behind >= entries / 2 {
+            return place + 1;
+        }
+    }
+    to
+}
+
+/// What is kept of the rows of the nodes behind `from` up to `to`, tested in pieces of about equal numbers of entries, side
+/// by side: so many times they are cut in two. Each piece has a table of its own. The only error is that memory ran out.
+#[cycle(halves)]
+pub fn test_rows<R: Threads + Sync>(
     rt: &R,
     alloc: Global,
     ranking: &Ranking,
     global: &RowList,
     near: &RowList,
-) -> Result<RowList, AllocError>
-    requires global_size { length global.now ≡ length ranking.now }
+    cuts: u32,
+    from: u32,
+    to: u32,
+) -> Result<Vec<Option<Vec<Entry>>>, AllocError>
     requires near { AreNearRows (length ranking.now) near.now }
-    ensures size { IfOk result (λ rows. length rows ≡ length ranking.now) }
-    ensures rows { IfOk result (λ rows. (v : ℕ) → 1 ≤ v → v ≤ length ranking.now → IsSurvivingRow ranking.now global.now near.now v (label_row rows v)) }
+    requires rising { from ≤ to }
+    requires within { to ≤ length ranking.now }
+    ensures { IfOk result (λ kept. AreKeptRows ranking.now global.now near.now from to kept.items) }
 {
-    let rows = (0..ranking.n())
-        .into_par_iter()
-        .map_init(
-            || -> Option<RootTable> { None },
-            |at_hand: &mut Option<RootTable>, place: u32| -> Result<Vec<Entry>, AllocError>
-                requires { (place + 1 < 2 ^ 32) × (place < length ranking.now) × (length global.now ≡ length ranking.now) × AreNearRows (length ranking.now) near.now }
-                ensures { IfOk result (λ row. IsSurvivingRow ranking.entry.now global.entry.now near.entry.now (place + 1) row.items) }
-            { next_surviving_row(alloc, ranking, global, near, at_hand, place + 1) },
-        )
-        .with_min_len(ROWS_A_THREAD)
-        .collect::<Result<Vec<Vec<Entry>>, AllocError>>(rt, alloc)??;
-    Ok(RowList::from_rows(rows))
+    if cuts == 0 {
+        return test_in_turn(alloc, ranking, global, near, from, to);
+    }
+    let mid = halfway(near, from, to);
+    let below = cuts - 1;
+    let (first, second) = join(
+        rt,
+        || -> Result<Vec<Option<Vec<Entry>>>, AllocError>
+            requires { IsSync R.row × AreNearRows (length ranking.now) near.now × (from ≤ mid) × (mid ≤ length ranking.now) }
+            ensures { IfOk result (λ kept. AreKeptRows ranking.entry.now global.entry.now near.entry.now from mid kept.items) }
+        { test_rows(rt, alloc, ranking, global, near, below, from, mid) },
+        || -> Result<Vec<Option<Vec<Entry>>>, AllocError>
+            requires { IsSync R.row × AreNearRows (length ranking.now) near.now × (mid ≤ to) × (to ≤ length ranking.now) }
+            ensures { IfOk result (λ kept. AreKeptRows ranking.entry.now global.entry.now near.entry.now mid to kept.items) }
+        { test_rows(rt, alloc, ranking, global, near, below, mid, to) },
+    );
+    let mut kept = first?;
+    let mut rest = second?;
+    kept.append(&mut rest)?;
+    Ok(kept)
 }

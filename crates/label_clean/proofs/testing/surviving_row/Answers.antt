@@ -1,12 +1,9 @@
-use Rattle.std.proofs.Common.{◌≡◌, ◌<◌, false, [], ◌++◌, length, get_or, sym, subst}
+use Rattle.std.proofs.Common.{◌≡◌, ◌<◌, false, length, get_or, sym, subst}
 use Rattle.std.specs.Prelude.{IsTrue}
 use Rattle.walk_laws.specs.declared.entry.Entry.{Entry}
 use Rattle.walk_laws.specs.Labelling.{label_row}
-use Rattle.label_clean.specs.RawRows.{both_rows}
 use Rattle.label_clean.specs.Needless.{IsNeedless}
 use Rattle.label_clean.specs.Sorted.{IsSortedRow}
-use Rattle.label_clean.specs.Tested.{HoldsLeast}
-use Rattle.label_clean.proofs.NotedRows.{HoldsLeast-none}
 use Rattle.label_clean.proofs.RowFacts.{All-sorted}
 use Rattle.label_clean.proofs.KeptEntries.{IsKept-with, IsKept-without, IsKept-whole, IsKept-rising}
 use Rattle.label_clean.proofs.testing.surviving_row.Goals as goal
@@ -15,18 +12,10 @@ use Rattle.label_clean.proofs.testing.surviving_row.Goals.{After-deref-entry-ite
 abbrev nothing : Entry
 nothing = record { pos = 0; dist = 0 }
 
--- the table has the rows of the node
-held : (c : After-deref-entry-items) → HoldsLeast c.note_row-2.new.table (both_rows c.args.global.now c.args.near.now c.args.v)
-held c =
-    let first = c.note_row.ensures.held [] (HoldsLeast-none (length c.args.table.now) c.clear.new.self c.clear.ensures) in
-    let both = c.note_row-2.ensures.held c.row.result.now first in
-    subst (λ row. HoldsLeast c.note_row-2.new.table (row ++ label_row c.args.near.now c.args.v)) c.row.ensures
-    (subst (λ row. HoldsLeast c.note_row-2.new.table (c.row.result.now ++ row)) c.row-2.ensures both)
-
 sorted : (c : After-deref-entry-items) → IsSortedRow (label_row c.args.near.now c.args.v) c.deref-entry-items.result.now
 sorted c =
     subst (IsSortedRow (label_row c.args.near.now c.args.v)) (sym c.deref-entry-items.ensures.value)
-    (subst (λ row. IsSortedRow row c.in_ok-row.row.items) c.row-3.ensures c.in_ok-row.ensures)
+    (subst (λ row. IsSortedRow row c.in_ok-row.row.items) c.row.ensures c.in_ok-row.ensures)
 
 pub is_needless-requires-clause-position : goal.is_needless-requires-clause-position
 is_needless-requires-clause-position c =
@@ -39,7 +28,7 @@ loop-entry-preserved-then-is_needless c =
     let up = (goal.at.loop-entry-preserved-then-is_needless c).After-deref-entry-items in
     let P = IsNeedless c.args.ranking.now c.args.global.now c.args.near.now c.args.v in
     IsKept-without P c.deref-entry-items.result.now c.loop-entry.kept.items c.loop-entry.entry-index nothing c.loop-entry-test.true c.loop-entry.invariant
-    ((c.is_needless.ensures c.args.v (held up)).0 c.if-is_needless.true)
+    ((c.is_needless.ensures c.args.v c.requires.held).0 c.if-is_needless.true)
 
 pub loop-entry-preserved : goal.loop-entry-preserved
 loop-entry-preserved c =
@@ -48,7 +37,7 @@ loop-entry-preserved c =
     let row = c.deref-entry-items.result.now in
     let i = c.loop-entry.entry-index in
     let good : P (get_or row i nothing) → ⊥ =
-    λ bad. let found : IsTrue c.is_needless.result = (c.is_needless.ensures c.args.v (held up)).1 bad in let none : c.is_needless.result ≡ false = c.if-is_needless.false in absurd cc in
+    λ bad. let found : IsTrue c.is_needless.result = (c.is_needless.ensures c.args.v c.requires.held).1 bad in let none : c.is_needless.result ≡ false = c.if-is_needless.false in absurd cc in
     rw c.in_ok-push.ensures.items (IsKept-with P row c.loop-entry.kept.items i nothing c.loop-entry-test.true c.loop-entry.invariant (sorted up).rising good)
 
 pub returns : goal.returns

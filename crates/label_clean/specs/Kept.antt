@@ -1,0 +1,22 @@
+-- Rows of which the needless entries are left out.
+use Rattle.std.specs.Prelude.{◌≡◌, ◌↔◌, ℕ, ◌+◌, ◌<◌, List, Vec, Option, Some, None, All, Contains, length, get_or}
+use Rattle.std.specs.declared.alloc.Global.{Global}
+use Rattle.walk_laws.specs.declared.entry.Entry.{Entry}
+use Rattle.walk_laws.specs.Labelling.{label_row}
+use Rattle.label_clean.specs.RawRows.{HasEachOnce}
+use Rattle.label_clean.specs.Needless.{IsNeedless, IsSurvivingRow}
+
+-- what is kept of the row of v: all of it, where that is none, or else these entries
+abbrev pub IsKeptRow : List ℕ → List (List Entry) → List (List Entry) → ℕ → Option (Vec Entry Global) → Type 0
+IsKeptRow at global near v None = All (λ e. ¬ IsNeedless at global near v e) (label_row near v)
+IsKeptRow at global near v (Some kept) = IsSurvivingRow at global near v kept.items
+
+-- what is kept of the rows of the nodes behind `from` up to `to`
+pub record AreKeptRows (at : List ℕ) (global near : List (List Entry)) (from to : ℕ) (kept : List (Option (Vec Entry Global))) : Type 0 where
+  pub size : from + length kept ≡ to
+  pub each : (k : ℕ) → k < length kept → IsKeptRow at global near (from + k + 1) (get_or kept k None)
+
+-- the row has exactly the raw entries of v that are not needless, each once, in any order
+pub record HasSurvivors (at : List ℕ) (global raw : List (List Entry)) (v : ℕ) (row : List Entry) : Type 0 where
+  pub once : HasEachOnce row
+  pub each : (e : Entry) → Contains row e ↔ (Contains (label_row raw v) e × ¬ IsNeedless at global raw v e)
