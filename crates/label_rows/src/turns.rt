@@ -10,6 +10,7 @@ use crate::row::Row;
 use crate::rule::{About, Gives, Law, Takes, View};
 use atomic_table::{Seat, Shared};
 use std::alloc::Global;
+use std::hint::spin_loop;
 use std::sync::Wait;
 use std::thread::yield_now;
 
@@ -35,13 +36,28 @@ pub fn take<R: Wait>(
     ensures fit { All (EntryFits (Joined seat.old.me.0.edges) seat.old.me.0.order v) result }
     ensures goes_on { GoesOnFrom (seen_of seat.old.me.0.visits v) result }
 {
+    let mut tries = 0;
     for _ in rt.forever() {
         if turns.swap::<Takes>(seat, v as usize, 1) == 0 {
             return turns.exchange(seat, v as usize - 1, Row::new(alloc));
         }
-        yield_now();
+        tries = pause(tries);
     }
     unreachable!()
+}
+
+/// After so many tries in vain a seat yields its processor between one and the next.
+const TRIES_BEFORE_YIELDING: u32 = 100;
+
+/// Lets a moment pass between two tries: a turn is held for the scan of one row, so the first of them come in a spin. It
+/// answers how many tries there were, counted up to where the seat yields.
+fn pause(tries: u32) -> u32 {
+    if tries < TRIES_BEFORE_YIELDING {
+        spin_loop();
+        return tries + 1;
+    }
+    yield_now();
+    tries
 }
 
 /// Puts the row of the node `v`, a number from 1, back into its slot, and gives the turn back. The row is as it was found, or

@@ -38,13 +38,14 @@ pub record IsLawful (about : Bounds) (counter : ℕ) (seats : List View) : Type 
   pub fixed : All (λ v. v.of ≡ about) seats
   pub within : (about.first ≤ about.n) × (about.n ≤ 2 ^ 30) × (about.seats ≤ 64)
 
-abbrev Claims : Type 0
-Claims = State (Unit {0}) View
+-- the counter, and what each seat knows
+abbrev pub Table : Type 0
+Table = State (Unit {0}) View
 
-abbrev Sitter : Type 0
+abbrev pub Sitter : Type 0
 Sitter = Me (Unit {0}) View
 
-abbrev pub Holds : Bounds → Claims → Type 0
+abbrev pub Holds : Bounds → Table → Type 0
 Holds about s = (counter : ℕ) × (s.words ≡ counter ∷ []) × IsLawful about counter (live s.views)
 
 -- the first seat

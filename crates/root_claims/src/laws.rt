@@ -1,5 +1,12 @@
 //! The laws of the rule. Their function does nothing: its contract is the laws, over all claims and their seats.
+ghost use Rattle.std.specs.Prelude.{◌≡◌, ◌↔◌, ℕ};
+ghost use Rattle.atomic_table.specs.Table.{Step};
+ghost use Rattle.root_claims.specs.declared.rule.Bounds.{Bounds as BoundsOfClaims};
+ghost use Rattle.root_claims.specs.Lawful.{Holds, Sitter, Table};
 ghost use Rattle.root_claims.specs.Laws.{HoldsAtFirst, DrawsKeep, SplitsKeep, JoinsKeep};
+
+use crate::rule::{Bounds, Law, Looks, View};
+use atomic_table::{Play, TableRule};
 
 /// The rule holds of new claims, and each step of a seat keeps it, whatever the other seats have done before.
 pub fn the_rule_is_kept()
@@ -7,4 +14,11 @@ pub fn the_rule_is_kept()
     ensures draw { DrawsKeep }
     ensures split { SplitsKeep }
     ensures join { JoinsKeep }
+{}
+
+/// The rule is the one that the table of the counter is held to, between any two steps; and a look, the only other step that
+/// a seat takes by itself, adds no number: only a draw does.
+pub fn the_table_is_held_to_the_rule()
+    ensures rule { (about : BoundsOfClaims) (claims : Table) → ⟦<Law as TableRule<(), View, Bounds>>⟧.holds about claims ↔ Holds about claims }
+    ensures look { (step : Step (Unit {0})) (me : Sitter) (found : ℕ) (after : Sitter) → ⟦<Looks as Play<(), View>>⟧.then step me found after → after.0.got ≡ me.0.got }
 {}
