@@ -1,1 +1,3 @@
-pub mod GrownRows
+pub mod DoneShares
+pub mod GrownPuts
+pub mod SharedRows

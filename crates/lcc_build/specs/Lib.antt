@@ -1,0 +1,2 @@
+pub mod GrownBy
+pub mod Shares

@@ -1,25 +1,33 @@
-ghost use Rattle.std.specs.Prelude.{◌≡◌, ℕ, ◌≤◌, [], length, replicate, IfOk};
+ghost use Rattle.std.specs.Prelude.{◌≡◌, ℕ, ◌≤◌, [], All, length, IfOk};
 ghost use Rattle.walk_laws.specs.Joined.{Joined};
 ghost use Rattle.walk_laws.specs.Labelling.{IsChl};
 ghost use Rattle.label_clean.specs.Below.{HoldsBelow};
+ghost use Rattle.lcc_build.specs.Shares.{IsReady, HasWorked};
 
+use crate::share::Share;
+use crate::workers::{Worker, joined, seated};
 use desk_io::Gate;
-use hub_index::{Index, PlainRows, RowList};
-use label_clean::clean;
+use hub_index::{Index, RowList};
+use label_clean::clean_in_place;
 use label_clean::laws::the_whole_is_the_labelling;
-use pruned_tree::{Work, grow};
+use label_rows::Rows;
 use rank_table::Ranking;
+use root_claims::Claims;
 use std::alloc::{AllocError, Global};
+use std::sync::Wait;
+use std::thread;
 use std::thread::Threads;
 use walk_laws::Graph;
 
-/// The index of the canonical hub labelling of a graph under a ranking of its nodes. It grows the pruned tree of every root,
-/// by rising position, on one thread, and then cleans the rows on all cores; how many workers are asked for changes nothing
-/// yet. The gate sees each root begin, and end with the number of its entries. The only error is that memory ran out.
+/// The index of the canonical hub labelling of a graph under a ranking of its nodes. So many workers claim roots one by one,
+/// by rising position, and grow their pruned trees at the same time over rows that all of them write; then the rows are
+/// cleaned, on all cores. The gate sees each root begin, and end with the number of entries that its tree put. The only
+/// error is that memory ran out.
 ///
-/// In the square 1-2-3-4-1 of weights 1, of which a smaller number ranks higher, the tree of node 2 ends at 3: node 1, which
-/// is a hub of 2 and of 4, covers the way from 2 to 4.
-pub fn build_lcc<R: Threads + Sync, G: Gate + Sync>(
+/// In the square 1-2-3-4-1 of weights 1, of which a smaller number ranks higher, the tree of node 2 ends at 3 where it comes
+/// after that of node 1, which is a hub of 2 and of 4 and covers the way from 2 to 4. Where it comes before, or meanwhile,
+/// it may put an entry at 4, too, and cleaning deletes that.
+pub fn build_lcc<R: Threads + Wait + Sync, G: Gate + Sync>(
     rt: &R,
     alloc: Global,
     graph: &Graph,
@@ -37,31 +45,79 @@ pub fn build_lcc<R: Threads + Sync, G: Gate + Sync>(
     let ranked = ranking.n();
     prove!(n == ranked);
     let order = ranking.copy(alloc)?;
-    let none = RowList::new(alloc, n)?;
-    let raw = raw_rows(alloc, graph, ranking, gate)?;
-    let rows = clean(rt, alloc, ranking, &none, &raw)?;
+    let raw = raw_rows(rt, alloc, graph, ranking, workers, gate)?;
+    let rows = clean_in_place(rt, alloc, ranking, raw)?;
     the_whole_is_the_labelling();
     Ok(Index::new(order, rows))
 }
 
-/// The rows that the pruned trees of all roots leave, by rising position: they have every canonical entry.
-pub fn raw_rows<G: Gate>(
+/// The rows that the trees of all roots leave, grown by so many workers: they have every canonical entry.
+fn raw_rows<R: Threads + Wait + Sync, G: Gate + Sync>(
+    rt: &R,
     alloc: Global,
     graph: &Graph,
     ranking: &Ranking,
+    workers: u32,
     gate: &G,
 ) -> Result<RowList, AllocError>
-    requires { length ranking.now ≡ graph.now.n }
+    requires nodes { length ranking.now ≡ graph.now.n }
+    requires workers_from { 1 ≤ workers }
+    requires workers_to { workers ≤ 64 }
     ensures size { IfOk result (λ rows. length rows ≡ graph.now.n) }
-    ensures held { IfOk result (λ rows. HoldsBelow graph.now.edges ranking.now (length ranking.now) (replicate graph.now.n []) rows) }
+    ensures held { IfOk result (λ rows. HoldsBelow graph.now.edges ranking.now (length ranking.now) [] rows) }
 {
     let n = graph.n();
-    let mut view = PlainRows::new(alloc, graph, ranking)?;
-    let mut work = Work::new(alloc, n)?;
-    for p in 0..ranking.n() {
-        gate.begins(p);
-        let puts = grow(alloc, graph, ranking, p, &mut view, &mut work)?;
-        gate.ends(p, puts);
-    }
-    Ok(view.into_rows())
+    let ranked = ranking.n();
+    prove!(n == ranked);
+    let (claims, claim_seat) = Claims::new(alloc, 0, n, workers)?;
+    let (rows, row_seat) = Rows::new(alloc, graph, ranking, workers)?;
+    let first = Share {
+        claims: claim_seat,
+        rows: row_seat,
+        memory: Ok(()),
+    };
+    let mut seats = seated(alloc, n, workers, &claims, &rows, first)?;
+    grow_all(
+        rt,
+        alloc,
+        graph,
+        ranking,
+        workers,
+        &claims,
+        &rows,
+        seats.as_mut_slice(),
+        gate,
+    );
+    let whole = joined(graph, ranking, &claims, &rows, seats);
+    whole.memory?;
+    claims.close(whole.claims);
+    rows.close(whole.rows)
+}
+
+/// Lets all workers grow trees, each in a thread of its own where one can be made.
+fn grow_all<R: Threads + Wait + Sync, G: Gate + Sync>(
+    rt: &R,
+    alloc: Global,
+    graph: &Graph,
+    ranking: &Ranking,
+    workers: u32,
+    claims: &Claims,
+    rows: &Rows,
+    seats: &mut [Worker],
+    gate: &G,
+)
+    requires workers { 1 ≤ workers }
+    requires nodes { length ranking.now ≡ graph.now.n }
+    requires claims_to { claims.now.n ≡ graph.now.n }
+    requires edges { rows.now.edges ≡ graph.now.edges }
+    requires order { rows.now.order ≡ ranking.now }
+    requires ready { All (IsReady claims.now rows.now graph.now.n) seats.old }
+    ensures size { length seats.new ≡ length seats.old }
+    ensures worked { All (HasWorked claims.now rows.now graph.now.edges ranking.now) seats.new }
+{
+    let grow = |_place: usize, worker: &mut Worker|
+        requires { (length ranking.now ≡ graph.now.n) × (claims.now.n ≡ graph.now.n) × (rows.now.edges ≡ graph.now.edges) × (rows.now.order ≡ ranking.now) × IsReady claims.now rows.now graph.now.n worker.now }
+        ensures { HasWorked claims.entry.now rows.entry.now graph.entry.now.edges ranking.entry.now worker.exit.now }
+    { worker.grow_trees(rt, alloc, graph, ranking, claims, rows, gate) };
+    thread::for_each_mut(rt, seats, workers as usize, &grow);
 }

@@ -1,12 +1,16 @@
-//! LCC, the build of the canonical hub labelling by pruned trees and cleaning (Planting Trees, PVLDB 2019): the tree of each
-//! root is pruned by the rows that the trees before it left, and afterwards the entries that are not canonical are deleted.
-//! [`build_lcc`] is the whole build, on one thread but for the cleaning. It stands on pruned_tree (one tree), hub_index (the
-//! rows and the index), label_clean (cleaning), desk_io (the gate that watches a build), walk_laws and rank_table. Its
-//! callers' clauses use `IsChl` of walk_laws and `HubIndex` of hub_index.
+//! LCC, the build of the canonical hub labelling by pruned trees and cleaning (Planting Trees, PVLDB 2019): many workers grow
+//! the trees of their roots at the same time, each pruned by the rows as they are then, and afterwards the entries that are
+//! not canonical are deleted. [`build_lcc`] is the whole build, [`lcc_share`] one worker of it. It stands on root_claims (which
+//! root comes next), label_rows (the rows that all workers write), pruned_tree (one tree), label_clean (cleaning), hub_index,
+//! desk_io (the gate that watches a build), walk_laws and rank_table. Its callers' clauses use `IsChl` of walk_laws and
+//! `HubIndex` of hub_index; those of a worker `IsGrownBy` (specs/GrownBy).
 #![tactic(auto)]
 
 mod build;
+mod share;
 #[cfg(test)]
 mod tests;
+mod workers;
 
 pub use build::build_lcc;
+pub use share::{Share, lcc_share};

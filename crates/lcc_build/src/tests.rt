@@ -1,32 +1,14 @@
-use crate::build::raw_rows;
-use crate::build_lcc;
-use desk_io::{FreeGate, Gate};
+use crate::{build_lcc, lcc_share};
+use desk_io::FreeGate;
+use label_rows::Rows;
+use pruned_tree::Work;
 use rank_table::Ranking;
-use std::sync::atomic::{AtomicU32, Ordering};
+use root_claims::Claims;
 use std::test::Fail;
-use walk_laws::{Edge, Graph};
+use walk_laws::{Edge, Entry, Graph};
 
-/// Counts the roots that began and ended, and the entries put.
-#[derive(Drop)]
-struct Counts {
-    begun: AtomicU32,
-    ended: AtomicU32,
-    puts: AtomicU32,
-}
-
-impl Gate for Counts {
-    fn begins(&self, _p: u32) {
-        self.begun.fetch_add(1, Ordering::SeqCst);
-    }
-
-    fn ends(&self, _p: u32, puts: u32) {
-        self.ended.fetch_add(1, Ordering::SeqCst);
-        self.puts.fetch_add(puts, Ordering::SeqCst);
-    }
-}
-
-/// Where roots come by rising position on one thread, cleaning removes nothing: the rows of the square 1-2-3-4-1 of weight 1
-/// are the same before and after. The gate sees each root once, and all nine entries.
+/// One worker takes all roots of the square 1-2-3-4-1 of weight 1, by rising position, and leaves nothing to clean; with two
+/// workers the build gives the same rows.
 #[test]
 fn roots_in_order_leave_nothing_to_clean(rt: HostRuntime) -> Result<(), Fail> {
     let edges = vec![in rt.alloc();
@@ -37,20 +19,45 @@ fn roots_in_order_leave_nothing_to_clean(rt: HostRuntime) -> Result<(), Fail> {
     ]?;
     let graph = Graph::new(rt.alloc(), 4, edges)?;
     let ranking = Ranking::new(rt.alloc(), Vec::from_array(rt.alloc(), [1, 2, 3, 4])?)?;
-    let gate = Counts {
-        begun: AtomicU32::new(0),
-        ended: AtomicU32::new(0),
-        puts: AtomicU32::new(0),
-    };
-    let raw = raw_rows(rt.alloc(), &graph, &ranking, &FreeGate)?;
-    let index = build_lcc(&rt, rt.alloc(), &graph, &ranking, 2, &gate)?;
+    let (claims, claim_seat) = Claims::new(rt.alloc(), 0, 4, 1)?;
+    let (rows, row_seat) = Rows::new(rt.alloc(), &graph, &ranking, 1)?;
+    let mut work = Work::new(rt.alloc(), 4)?;
+    let share = lcc_share(
+        &rt,
+        rt.alloc(),
+        &graph,
+        &ranking,
+        &claims,
+        claim_seat,
+        &rows,
+        row_seat,
+        &mut work,
+        &FreeGate,
+    );
+    share.memory?;
+    assert_eq!(rt; claims.close(share.claims), 4);
+    let raw = rows.close(share.rows)?;
+    let index = build_lcc(&rt, rt.alloc(), &graph, &ranking, 2, &FreeGate)?;
+    let wanted: [&[Entry]; 4] = [
+        &[Entry { pos: 0, dist: 0 }],
+        &[Entry { pos: 0, dist: 1 }, Entry { pos: 1, dist: 0 }],
+        &[
+            Entry { pos: 0, dist: 2 },
+            Entry { pos: 1, dist: 1 },
+            Entry { pos: 2, dist: 0 },
+        ],
+        &[
+            Entry { pos: 0, dist: 1 },
+            Entry { pos: 2, dist: 1 },
+            Entry { pos: 3, dist: 0 },
+        ],
+    ];
     assert_eq!(rt; raw.n(), 4);
     assert_eq!(rt; index.n(), 4);
-    for v in 1..5 {
-        assert_eq!(rt; raw.row(v), index.row(v));
+    for (place, row) in wanted.iter().enumerate() {
+        let v = place as u32 + 1;
+        assert_eq!(rt; raw.row(v), *row, "{v}");
+        assert_eq!(rt; index.row(v), *row, "{v}");
     }
-    assert_eq!(rt; gate.begun.load(Ordering::SeqCst), 4);
-    assert_eq!(rt; gate.ended.load(Ordering::SeqCst), 4);
-    assert_eq!(rt; gate.puts.load(Ordering::SeqCst), 9);
     Ok(())
 }

@@ -1,0 +1,43 @@
+-- The shares of workers, before and after they have grown trees, and of several workers together.
+use Rattle.std.specs.Prelude.{◌≡◌, ℕ, true, false, List, [], Option, Some, IsOk, OnOk, length}
+use Rattle.walk_laws.specs.declared.graph.Edge.{Edge}
+use Rattle.hub_index.specs.Views.{IsNode}
+use Rattle.root_claims.specs.Seats.{ClaimsId, IsSeatOf as IsClaimSeatOf}
+use Rattle.label_rows.specs.Seats.{RowsId, IsSeatOf}
+use Rattle.label_rows.specs.Visits.{puts_of}
+use Rattle.lcc_build.specs.declared.share.Share.{Share}
+use Rattle.lcc_build.specs.declared.workers.Worker.{Worker}
+use Rattle.lcc_build.specs.GrownBy.{IsGrownBy}
+
+-- the seats of the share are of these claims and rows, and so many may still be split from each
+pub record IsShareOf (claims : ClaimsId) (rows : RowsId) (left : ℕ) (share : Share) : Type 0 where
+  pub claim_seat : IsClaimSeatOf claims share.claims
+  pub row_seat : IsSeatOf rows share.rows
+  pub claim_left : share.claims.left ≡ left
+  pub row_left : share.rows.left ≡ left
+
+-- nothing was done with the share yet
+pub record IsNew (share : Share) : Type 0 where
+  pub over : share.claims.over ≡ false
+  pub got : share.claims.got ≡ []
+  pub visits : share.rows.visits ≡ []
+
+-- the trees of all roots that were claimed with the share are grown, and where memory sufficed none is left to claim
+pub record IsDone (edges : List Edge) (at : List ℕ) (share : Share) : Type 0 where
+  pub over : OnOk share.memory (share.claims.over ≡ true)
+  pub grown : (v : ℕ) → IsNode (length at) v → IsGrownBy edges at share.claims.got (IsOk share.memory) v [] (puts_of share.rows.visits v)
+
+-- a worker with memory for n nodes that has a new share of these claims and rows
+pub record IsReady (claims : ClaimsId) (rows : RowsId) (n : ℕ) (worker : Worker) : Type 0 where
+  pub share : Share
+  pub there : worker.share ≡ Some share
+  pub of : IsShareOf claims rows 0 share
+  pub new : IsNew share
+  pub work : worker.work ≡ n
+
+-- a worker that has grown all trees of its share
+pub record HasWorked (claims : ClaimsId) (rows : RowsId) (edges : List Edge) (at : List ℕ) (worker : Worker) : Type 0 where
+  pub share : Share
+  pub there : worker.share ≡ Some share
+  pub of : IsShareOf claims rows 0 share
+  pub done : IsDone edges at share
