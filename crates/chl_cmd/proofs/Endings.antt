@@ -7,21 +7,21 @@ use Rattle.std.specs.FinMap.{get-insert, slice_cmp-IsAntisymmetric, nat_cmp-IsAn
 use Rattle.std.specs.Ordering.{nat_cmp, eq_by_cmp, is_eq}
 use Rattle.std.specs.declared.cmp.Ordering.{Ordering}
 use Rattle.std.specs.declared.cmp.Ordering.TheVariants.{Less, Equal, Greater}
-use Rattle.desk_io.specs.Contents.{Contents, Files, Tells, IsSteady, opened}
-use Rattle.chl_cmd.specs.Decides.{Decides, inputs_of, place_of}
-use Rattle.chl_cmd.specs.Inputs.{OpensInOrder, read_all}
-use Rattle.chl_cmd.specs.Outcome.{Ends, Gives, GivesFront, GivesPart, given, HasInputsOf, OpensNoOther, ChangesNoOther}
+use Rattle.desk_io.specs.Contents.{Contents, Tells, IsSteady}
+use Rattle.chl_inputs.specs.Stages.{OpensInOrder, ReadsAll, Went}
+use Rattle.chl_inputs.specs.declared.stop.Stop.{Stop}
+use Rattle.chl_inputs.specs.declared.stop.Stop.TheVariants as stops
+use Rattle.chl_inputs.proofs.StageLaws.{all_in_order, in_order_files, in_order_steady, went_decided, went_read, went_stopped, went_opens, none_yet}
+use Rattle.chl_inputs.proofs.ToldChanges.{chained, retold}
+use Rattle.chl_cmd.specs.Commands.{Decides, stage_of, place_of}
+use Rattle.chl_cmd.specs.Outcome.{Ends, Gives, GivesFront, GivesPart, Stops, given, HasInputsOf, OpensNoOther, ChangesNoOther}
 use Rattle.chl_cmd.specs.Statuses.{status_of, status_after}
-use Rattle.chl_cmd.specs.Stops.{MayStop}
 use Rattle.chl_cmd.specs.declared.status.Status.{Status}
 use Rattle.chl_cmd.specs.declared.status.Status.TheVariants.{Done, Usage, GraphText, OrderText, PairsText, IndexBytes, Overflow, ReadFault, WriteFault, NoMemory, TooLong}
-use Rattle.chl_cmd.specs.declared.stop.Stop.{Stop}
-use Rattle.chl_cmd.specs.declared.stop.Stop.TheVariants as stops
 use Rattle.chl_cmd.specs.declared.words.asked.Asked.{Asked}
 use Rattle.chl_cmd.specs.Words.{IsCommand}
 use Rattle.chl_cmd.proofs.Decisions.{decides_once}
 use Rattle.chl_cmd.proofs.OneCommand.{one_command}
-use Rattle.chl_cmd.proofs.ToldChanges.{chained, retold}
 
 -- the stop of which a status tells, if it tells of one
 abbrev stop_in : Status → Option Stop
@@ -54,11 +54,6 @@ same_stop x y e = let told : Some x ≡ Some y = sym (stop_told x) ∙ ap stop_i
 no_stop : (stop : Stop) (status : Status) → stop_in status ≡ None → status ≡ status_of stop → ⊥
 no_stop stop status none e = let told : Some stop ≡ None = sym (stop_told stop) ∙ ap stop_in (sym e) ∙ none in cc
 
--- after all inputs were read they were opened in order
-all_in_order : (names : List (List ℕ)) (a : Contents) → OpensInOrder names a (read_all names a)
-all_in_order [] a = refl
-all_in_order (name ∷ names) a = inr (inr (all_in_order names (opened name [] a)))
-
 -- what giving bytes leaves as it is
 given_inputs : (place : Option (List ℕ)) (bytes : List ℕ) (a : Contents) → HasInputsOf a (given place bytes a)
 given_inputs None bytes a = record { earlier = refl; last = refl; rest = refl }
@@ -78,7 +73,7 @@ get_other : (b : Bool) (o p : Option (List ℕ)) → (b ≡ true → ⊥) → co
 get_other true o p other = absurd (other refl)
 get_other false o p other = refl
 
-get-insert_other : (files : Files) (out name bytes : List ℕ) → (out ≡ name → ⊥) → finite_map.get (finite_map.insert files out bytes) name ≡ finite_map.get files name
+get-insert_other : (files : finite_map.FinMap (slice_cmp nat_cmp) (List ℕ)) (out name bytes : List ℕ) → (out ≡ name → ⊥) → finite_map.get (finite_map.insert files out bytes) name ≡ finite_map.get files name
 get-insert_other files out name bytes other =
     get-insert nat_list_cmp_total files out bytes name
     ∙ get_other (eq_by_cmp (slice_cmp nat_cmp) name out) (Some bytes) (finite_map.get files name) (λ same. other (sym (slice_cmp-IsAntisymmetric nat_cmp-IsAntisymmetric name out (is_equal (slice_cmp nat_cmp name out) same))))
@@ -87,39 +82,24 @@ given_others : (place : Option (List ℕ)) (bytes name : List ℕ) (a : Contents
 given_others None bytes name a other = refl
 given_others (Some out) bytes name a other = get-insert_other a.files out name bytes (λ same. other (ap Some same))
 
--- what reading leaves as it is
-read_files : (names : List (List ℕ)) (a : Contents) → (read_all names a).files ≡ a.files
-read_files [] a = refl
-read_files (name ∷ names) a = read_files names (opened name [] a)
-
-read_steady : (names : List (List ℕ)) (a : Contents) → (read_all names a).steady ≡ a.steady
-read_steady [] a = refl
-read_steady (name ∷ names) a = read_steady names (opened name [] a)
-
-in_order_files : (names : List (List ℕ)) (a b : Contents) → OpensInOrder names a b → b.files ≡ a.files
-in_order_files [] a b same = ap (λ (x : Contents). x.files) same
-in_order_files (name ∷ names) a b (inl same) = ap (λ (x : Contents). x.files) same
-in_order_files (name ∷ names) a b (inr (inl one)) = ap (λ (x : Contents). x.files) one
-in_order_files (name ∷ names) a b (inr (inr more)) = in_order_files names (opened name [] a) b more
-
-in_order_steady : (names : List (List ℕ)) (a b : Contents) → OpensInOrder names a b → b.steady ≡ a.steady
-in_order_steady [] a b same = ap (λ (x : Contents). x.steady) same
-in_order_steady (name ∷ names) a b (inl same) = ap (λ (x : Contents). x.steady) same
-in_order_steady (name ∷ names) a b (inr (inl one)) = ap (λ (x : Contents). x.steady) one
-in_order_steady (name ∷ names) a b (inr (inr more)) = in_order_steady names (opened name [] a) b more
-
 module _ (asked : Asked) (status : Status) (a b : Contents) where
   -- a front of the bytes that were given
   front_of : (x : Contents) (bytes : List ℕ) (P : Contents → Type 0) → P x → ((k : ℕ) → P (given (place_of asked) (take k bytes) x)) → GivesFront (place_of asked) bytes x b → P b
   front_of x bytes P none some (inl same) = subst P (sym same) none
   front_of x bytes P none some (inr front) = subst P (sym front.1) (some front.0)
 
-  -- a fact of all that is reached once every input was read, whatever was given then, and of all that is reached before
-  reached : (P : Contents → Type 0) → P (read_all (inputs_of asked) a) → ((bytes : List ℕ) → P (given (place_of asked) bytes (read_all (inputs_of asked) a))) → (OpensInOrder (inputs_of asked) a b → P b) → Ends asked status a b → P b
-  reached P read gave before (inl done) = subst P (sym done.1.2) (gave done.1.0)
-  reached P read gave before (inr (inl failed)) = front_of (read_all (inputs_of asked) a) failed.1.0 P read (λ k. gave (take k failed.1.0)) failed.1.2
-  reached P read gave before (inr (inr (inl lost))) = front_of (read_all (inputs_of asked) a) lost.1.0 P read (λ k. gave (take k lost.1.0)) lost.1.2
-  reached P read gave before (inr (inr (inr stopped))) = before stopped.3
+  -- a fact of all that is reached as inputs are opened in order, and then bytes are given
+  reached : (P : Contents → Type 0) → ((x : Contents) → OpensInOrder (stage_of asked) a x → P x) → ((x : Contents) (bytes : List ℕ) → OpensInOrder (stage_of asked) a x → P (given (place_of asked) bytes x)) → Ends asked status a b → P b
+  reached P read gave (inl done) = subst P (sym done.1.gives) (gave done.1.read done.1.bytes (all_in_order (stage_of asked) a done.1.read done.1.reads))
+  reached P read gave (inr (inl failed)) =
+      let part = failed.1 in
+      let opens = all_in_order (stage_of asked) a part.read part.reads in
+      front_of part.read part.bytes P (read part.read opens) (λ k. gave part.read (take k part.bytes) opens) part.gives
+  reached P read gave (inr (inr (inl lost))) =
+      let part = lost.1 in
+      let opens = all_in_order (stage_of asked) a part.read part.reads in
+      front_of part.read part.bytes P (read part.read opens) (λ k. gave part.read (take k part.bytes) opens) part.gives
+  reached P read gave (inr (inr (inr stopped))) = read b (went_opens (stage_of asked) (Err stopped.0) a b stopped.2.unread)
 
   ends_done : Ends asked status a b → status ≡ Done → Gives asked a b
   ends_done (inl done) is = done.1
@@ -127,18 +107,18 @@ module _ (asked : Asked) (status : Status) (a b : Contents) where
   ends_done (inr (inr (inl lost))) is = absurd (let e = sym lost.0 ∙ is in cc)
   ends_done (inr (inr (inr stopped))) is = absurd (no_stop stopped.0 Done refl (sym is ∙ stopped.1))
 
-  ends_stopped : Ends asked status a b → (stop : Stop) → status ≡ status_of stop → status ≢ NoMemory → MayStop a.steady stop (Decides asked a.files (Err stop)) × OpensInOrder (inputs_of asked) a b
+  ends_stopped : Ends asked status a b → (stop : Stop) → status ≡ status_of stop → status ≢ NoMemory → Stops asked stop a b
   ends_stopped (inl done) stop is memory = absurd (no_stop stop Done refl (sym done.0 ∙ is))
   ends_stopped (inr (inl failed)) stop is memory = absurd (no_stop stop WriteFault refl (sym failed.0 ∙ is))
   ends_stopped (inr (inr (inl lost))) stop is memory = absurd (memory lost.0)
   ends_stopped (inr (inr (inr stopped))) stop is memory =
-      subst (λ s. MayStop a.steady s (Decides asked a.files (Err s)) × OpensInOrder (inputs_of asked) a b) (same_stop stopped.0 stop (sym stopped.1 ∙ is)) (stopped.2, stopped.3)
+      subst (λ s. Stops asked s a b) (same_stop stopped.0 stop (sym stopped.1 ∙ is)) stopped.2
 
   ends_decided : Ends asked status a b → (answer : Result (List ℕ) Stop) → Decides asked a.files answer → (status ≡ status_after answer) ⊎ (status ≡ NoMemory) ⊎ (((status ≡ ReadFault) ⊎ (status ≡ WriteFault)) × ¬ (IsTrue a.steady))
-  ends_decided (inl done) answer decides = inl (done.0 ∙ ap status_after (decides_once asked a.files (Ok done.1.0) answer done.1.1 decides))
+  ends_decided (inl done) answer decides = inl (done.0 ∙ ap status_after (decides_once asked a.files (Ok done.1.bytes) answer done.1.decided decides))
   ends_decided (inr (inl failed)) answer decides = inr (inr (inr failed.0, failed.2))
   ends_decided (inr (inr (inl lost))) answer decides = inr (inl lost.0)
-  ends_decided (inr (inr (inr stopped))) answer decides = elim stopped.2 [
+  ends_decided (inr (inr (inr stopped))) answer decides = elim stopped.2.cause [
     | inl decided ↦ inl (stopped.1 ∙ ap status_after (decides_once asked a.files (Err stopped.0) answer decided decides))
     | inr (inl memory) ↦ inr (inl (stopped.1 ∙ ap status_of memory))
     | inr (inr failed) ↦ inr (inr (inl (stopped.1 ∙ ap status_of failed.0), failed.1))
@@ -150,50 +130,61 @@ module _ (asked : Asked) (status : Status) (a b : Contents) where
   ends_failed (inr (inr (inl lost))) is = absurd (let e = sym lost.0 ∙ is in cc)
   ends_failed (inr (inr (inr stopped))) is = absurd (no_stop stopped.0 WriteFault refl (sym is ∙ stopped.1))
 
-  ends_lost : Ends asked status a b → status ≡ NoMemory → OpensInOrder (inputs_of asked) a b ⊎ GivesPart asked a b
+  ends_lost : Ends asked status a b → status ≡ NoMemory → OpensInOrder (stage_of asked) a b ⊎ GivesPart asked a b
   ends_lost (inl done) is = absurd (let e = sym done.0 ∙ is in cc)
   ends_lost (inr (inl failed)) is = absurd (let e = sym failed.0 ∙ is in cc)
   ends_lost (inr (inr (inl lost))) is = inr lost.1
-  ends_lost (inr (inr (inr stopped))) is = inl stopped.3
+  ends_lost (inr (inr (inr stopped))) is = inl (went_opens (stage_of asked) (Err stopped.0) a b stopped.2.unread)
 
   ends_opens : Ends asked status a b → OpensNoOther asked a b
   ends_opens = reached (λ x. OpensNoOther asked a x)
-      (read_all (inputs_of asked) a, all_in_order (inputs_of asked) a, record { earlier = refl; last = refl; rest = refl })
-      (λ bytes. (read_all (inputs_of asked) a, all_in_order (inputs_of asked) a, given_inputs (place_of asked) bytes (read_all (inputs_of asked) a)))
-      (λ opens. (b, opens, record { earlier = refl; last = refl; rest = refl }))
+      (λ x opens. (x, opens, record { earlier = refl; last = refl; rest = refl }))
+      (λ x bytes opens. (x, opens, given_inputs (place_of asked) bytes x))
 
   ends_files : Ends asked status a b → ChangesNoOther asked a b
   ends_files = reached (λ x. ChangesNoOther asked a x)
-      (λ name other. ap (λ f. finite_map.get f name) (read_files (inputs_of asked) a))
-      (λ bytes name other. given_others (place_of asked) bytes name (read_all (inputs_of asked) a) other ∙ ap (λ f. finite_map.get f name) (read_files (inputs_of asked) a))
-      (λ opens name other. ap (λ f. finite_map.get f name) (in_order_files (inputs_of asked) a b opens))
+      (λ x opens name other. ap (λ f. finite_map.get f name) (in_order_files (stage_of asked) a x opens))
+      (λ x bytes opens name other. given_others (place_of asked) bytes name x other ∙ ap (λ f. finite_map.get f name) (in_order_files (stage_of asked) a x opens))
 
   ends_steady : Ends asked status a b → b.steady ≡ a.steady
   ends_steady = reached (λ x. x.steady ≡ a.steady)
-      (read_steady (inputs_of asked) a)
-      (λ bytes. given_steady (place_of asked) bytes (read_all (inputs_of asked) a) ∙ read_steady (inputs_of asked) a)
-      (in_order_steady (inputs_of asked) a b)
+      (λ x opens. in_order_steady (stage_of asked) a x opens)
+      (λ x bytes opens. given_steady (place_of asked) bytes x ∙ in_order_steady (stage_of asked) a x opens)
+
+-- the bytes of a stage that had all its values were given
+pub done_from : (asked : Asked) (bytes : List ℕ) (old mid new : Option Contents) → Tells old mid (Went (stage_of asked) (Ok bytes)) → Tells mid new (λ a b. b ≡ given (place_of asked) bytes a) → Tells old new (Ends asked Done)
+done_from asked bytes old mid new made gave = chained old mid new made gave (λ a b c went is. inl (
+  refl,
+  record { bytes = bytes; decided = went_decided (stage_of asked) bytes a b went; read = b; reads = went_read (stage_of asked) bytes a b went; gives = is },
+))
+
+part_from : (asked : Asked) (bytes : List ℕ) (a b c : Contents) → Went (stage_of asked) (Ok bytes) a b → GivesFront (place_of asked) bytes b c → GivesPart asked a c
+part_from asked bytes a b c went front = record { bytes = bytes; decided = went_decided (stage_of asked) bytes a b went; read = b; reads = went_read (stage_of asked) bytes a b went; gives = front }
 
 -- a writing that failed ends the command so, on a desk that is not steady
-pub failed_from : (asked : Asked) (bytes : List ℕ) (old mid new : Option Contents) → Tells old mid (λ a b. Decides asked a.files (Ok bytes) × (b ≡ read_all (inputs_of asked) a)) → Tells mid new (GivesFront (place_of asked) bytes) → (IsSteady mid → ⊥) → Tells old new (Ends asked WriteFault)
+pub failed_from : (asked : Asked) (bytes : List ℕ) (old mid new : Option Contents) → Tells old mid (Went (stage_of asked) (Ok bytes)) → Tells mid new (GivesFront (place_of asked) bytes) → (IsSteady mid → ⊥) → Tells old new (Ends asked WriteFault)
 failed_from asked bytes None None None made front steady = tt
 failed_from asked bytes None None (Some c) made front steady = front
 failed_from asked bytes None (Some b) new made front steady = absurd made
 failed_from asked bytes (Some a) None new made front steady = absurd made
 failed_from asked bytes (Some a) (Some b) None made front steady = front
 failed_from asked bytes (Some a) (Some b) (Some c) made front steady =
-    inr (inl (
-      refl,
-      (bytes, made.0, subst (λ x. GivesFront (place_of asked) bytes x c) made.1 front),
-      λ held. steady (subst IsTrue (sym (ap (λ (x : Contents). x.steady) made.1 ∙ read_steady (inputs_of asked) a)) held),
-    ))
+    let kept = in_order_steady (stage_of asked) a b (went_opens (stage_of asked) (Ok bytes) a b made) in
+    inr (inl (refl, part_from asked bytes a b c made front, λ held. steady (subst IsTrue (sym kept) held)))
 
 -- and one for which memory ran out so
-pub lost_from : (asked : Asked) (bytes : List ℕ) (old mid new : Option Contents) → Tells old mid (λ a b. Decides asked a.files (Ok bytes) × (b ≡ read_all (inputs_of asked) a)) → Tells mid new (GivesFront (place_of asked) bytes) → Tells old new (Ends asked NoMemory)
-lost_from asked bytes old mid new made front = chained old mid new made front (λ a b c m f.
-    inr (inr (inl (refl, (bytes, m.0, subst (λ x. GivesFront (place_of asked) bytes x c) m.1 f)))))
+pub lost_from : (asked : Asked) (bytes : List ℕ) (old mid new : Option Contents) → Tells old mid (Went (stage_of asked) (Ok bytes)) → Tells mid new (GivesFront (place_of asked) bytes) → Tells old new (Ends asked NoMemory)
+lost_from asked bytes old mid new made front = chained old mid new made front (λ a b c went part. inr (inr (inl (refl, part_from asked bytes a b c went part))))
 
--- the same of what a desk tells, of the command that the words are
+-- a command without output ends so
+pub stopped_from : (asked : Asked) (stop : Stop) (status : Status) (old new : Option Contents) → status ≡ status_of stop → Tells old new (Went (stage_of asked) (Err stop)) → Tells old new (Ends asked status)
+stopped_from asked stop status old new is told = retold old new told (λ a b went. inr (inr (inr (
+  stop,
+  is,
+  record { cause = went_stopped (stage_of asked) stop a b went; unread = went },
+))))
+
+-- what a desk tells, of the command that the words are
 module _ (old new : Option Contents) (words : List (List ℕ)) (asked other : Asked) (status : Status) (first : IsCommand words asked) (second : IsCommand words other) (ends : Tells old new (Ends asked status)) where
   told_ends : Tells old new (Ends other status)
   told_ends = subst (λ x. Tells old new (Ends x status)) (one_command words asked other first second) ends
@@ -201,7 +192,7 @@ module _ (old new : Option Contents) (words : List (List ℕ)) (asked other : As
   pub told_done : status ≡ Done → Tells old new (Gives other)
   told_done is = retold old new told_ends (λ a b e. ends_done other status a b e is)
 
-  pub told_stopped : (stop : Stop) → status ≡ status_of stop → status ≢ NoMemory → Tells old new (λ a b. MayStop a.steady stop (Decides other a.files (Err stop)) × OpensInOrder (inputs_of other) a b)
+  pub told_stopped : (stop : Stop) → status ≡ status_of stop → status ≢ NoMemory → Tells old new (Stops other stop)
   told_stopped stop is memory = retold old new told_ends (λ a b e. ends_stopped other status a b e stop is memory)
 
   pub told_decided : (answer : Result (List ℕ) Stop) → Tells old new (λ a b. Decides other a.files answer → (status ≡ status_after answer) ⊎ (status ≡ NoMemory) ⊎ (((status ≡ ReadFault) ⊎ (status ≡ WriteFault)) × ¬ (IsTrue a.steady)))
@@ -210,7 +201,7 @@ module _ (old new : Option Contents) (words : List (List ℕ)) (asked other : As
   pub told_failed : status ≡ WriteFault → Tells old new (λ a b. GivesPart other a b × ¬ (IsTrue a.steady))
   told_failed is = retold old new told_ends (λ a b e. ends_failed other status a b e is)
 
-  pub told_lost : status ≡ NoMemory → Tells old new (λ a b. OpensInOrder (inputs_of other) a b ⊎ GivesPart other a b)
+  pub told_lost : status ≡ NoMemory → Tells old new (λ a b. OpensInOrder (stage_of other) a b ⊎ GivesPart other a b)
   told_lost is = retold old new told_ends (λ a b e. ends_lost other status a b e is)
 
   pub told_opens : Tells old new (OpensNoOther other)
@@ -222,18 +213,5 @@ module _ (old new : Option Contents) (words : List (List ℕ)) (asked other : As
 pub told_steady : (old new : Option Contents) (asked : Asked) (status : Status) → Tells old new (Ends asked status) → Tells old new (λ a b. b.steady ≡ a.steady)
 told_steady old new asked status ends = retold old new ends (λ a b e. ends_steady asked status a b e)
 
--- a command without output ends so
-pub stopped_ends : (old new : Option Contents) (asked : Asked) (stop : Stop) (status : Status) → status ≡ status_of stop → Tells old new (λ a b. MayStop a.steady stop (Decides asked a.files (Err stop)) × OpensInOrder (inputs_of asked) a b) → Tells old new (Ends asked status)
-stopped_ends old new asked stop status is told = retold old new told (λ a b both. inr (inr (inr (stop, is, both.0, both.1))))
-
--- what nothing does
-pub unchanged : (P : Contents → Contents → Type 0) (told : Option Contents) → ((a : Contents) → P a a) → Tells told told P
-unchanged P None h = tt
-unchanged P (Some a) h = h a
-
 pub opens_nothing : (asked : Asked) (a : Contents) → OpensNoOther asked a a
-opens_nothing asked a = (a, none_yet (inputs_of asked) a, record { earlier = refl; last = refl; rest = refl })
-  where
-    none_yet : (names : List (List ℕ)) (x : Contents) → OpensInOrder names x x
-    none_yet [] x = refl
-    none_yet (name ∷ names) x = inl refl
+opens_nothing asked a = (a, none_yet (stage_of asked) a, record { earlier = refl; last = refl; rest = refl })

@@ -6,7 +6,7 @@ use Rattle.desk_io.specs.Takes.{Takes}
 use Rattle.desk_io.specs.declared.write_out.Out.TheVariants.{File}
 use Rattle.desk_io.proofs.TakesLemmas.{written-created}
 use Rattle.chl_cmd.specs.Outcome.{given, GivesFront}
-use Rattle.chl_cmd.proofs.ToldChanges.{chained}
+use Rattle.chl_inputs.proofs.ToldChanges.{chained}
 
 module _ (name other bytes : List ℕ) (same : name ≡ other) (old mid new : Option Contents) (first : Tells old mid (λ a b. b ≡ created name a)) where
   -- all bytes

@@ -1,10 +1,7 @@
 pub mod OptionalWords
 pub mod AskedWords
-pub mod ToldChanges
-pub mod InputFacts
 pub mod GivenFiles
 pub mod OneCommand
 pub mod PairAnswers
 pub mod Decisions
-pub mod ToldAnswers
 pub mod Endings

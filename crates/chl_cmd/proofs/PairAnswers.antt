@@ -1,16 +1,11 @@
 -- Answers of pairs: each pair has one, and one only.
 use Rattle.std.proofs.Common.{◌≡◌, ℕ, suc, ◌≤◌, List, [], ◌∷◌, map, refl, sym, ap, ◌∙◌, arith}
-use Rattle.std.specs.Prelude.{Option, Result, Ok}
+use Rattle.std.specs.Prelude.{Option}
 use Rattle.std.specs.List.{AllZip}
 use Rattle.hub_query.specs.Meant.{meant}
 use Rattle.hub_query.specs.declared.answer.Answer.{Answer}
-use Rattle.chl_cmd.specs.Decides.{ArePairsWithin, SaysAnswers}
-use Rattle.chl_cmd.specs.PrintedAnswers.{answer_lines}
-use Rattle.chl_cmd.specs.declared.stop.Stop.{Stop}
-
--- answers of pairs, each its own
-abbrev pub Answers : (ℕ → ℕ → Option (ℕ × ℕ) → Type 0) → List (ℕ × ℕ) → List (Option (ℕ × ℕ)) → Type 0
-Answers IsOwn pairs answers = AllZip (λ pair a. IsOwn pair.0 pair.1 a) pairs answers
+use Rattle.chl_inputs.specs.Inputs.{ArePairsWithin}
+use Rattle.chl_cmd.specs.Commands.{AreAnswers}
 
 module _ (n : ℕ) where
   -- the pairs behind the first are within the nodes, too
@@ -18,7 +13,7 @@ module _ (n : ℕ) where
   behind p pairs within = λ k d short. within (suc k) d (omega arith)
 
   module _ (IsOwn : ℕ → ℕ → Option (ℕ × ℕ) → Type 0) where
-    answers_exist : ((u v : ℕ) → 1 ≤ u → u ≤ n → 1 ≤ v → v ≤ n → (a : Option (ℕ × ℕ)) × IsOwn u v a) → (pairs : List (ℕ × ℕ)) → ArePairsWithin n pairs → (answers : List (Option (ℕ × ℕ))) × Answers IsOwn pairs answers
+    pub answers_exist : ((u v : ℕ) → 1 ≤ u → u ≤ n → 1 ≤ v → v ≤ n → (a : Option (ℕ × ℕ)) × IsOwn u v a) → (pairs : List (ℕ × ℕ)) → ArePairsWithin n pairs → (answers : List (Option (ℕ × ℕ))) × AreAnswers IsOwn pairs answers
     answers_exist some [] within = ([], tt)
     answers_exist some (p ∷ pairs) within =
         let here = within 0 p (omega arith) in
@@ -26,7 +21,7 @@ module _ (n : ℕ) where
         let rest = answers_exist some pairs (behind p pairs within) in
         (first.0 ∷ rest.0, (first.1, rest.1))
 
-    answers_unique : ((u v : ℕ) (a b : Option (ℕ × ℕ)) → 1 ≤ u → u ≤ n → 1 ≤ v → v ≤ n → IsOwn u v a → IsOwn u v b → a ≡ b) → (pairs : List (ℕ × ℕ)) → ArePairsWithin n pairs → (xs ys : List (Option (ℕ × ℕ))) → Answers IsOwn pairs xs → Answers IsOwn pairs ys → xs ≡ ys
+    pub answers_unique : ((u v : ℕ) (a b : Option (ℕ × ℕ)) → 1 ≤ u → u ≤ n → 1 ≤ v → v ≤ n → IsOwn u v a → IsOwn u v b → a ≡ b) → (pairs : List (ℕ × ℕ)) → ArePairsWithin n pairs → (xs ys : List (Option (ℕ × ℕ))) → AreAnswers IsOwn pairs xs → AreAnswers IsOwn pairs ys → xs ≡ ys
     answers_unique one [] within [] [] first second = refl
     answers_unique one [] within [] (y ∷ ys) first second = absurd second
     answers_unique one [] within (x ∷ xs) ys first second = absurd first
@@ -38,19 +33,8 @@ module _ (n : ℕ) where
         let rest = answers_unique one pairs (behind p pairs within) xs ys first.1 second.1 in
         ap (λ z. z ∷ xs) same ∙ ap (λ zs. y ∷ zs) rest
 
-    -- so their lines are something
-    pub says_always : ((u v : ℕ) → 1 ≤ u → u ≤ n → 1 ≤ v → v ≤ n → (a : Option (ℕ × ℕ)) × IsOwn u v a) → (pairs : List (ℕ × ℕ)) → ArePairsWithin n pairs → (answer : Result (List ℕ) Stop) × SaysAnswers IsOwn pairs answer
-    says_always some pairs within =
-        let answers = answers_exist some pairs within in
-        (Ok (answer_lines pairs answers.0), (answers.0, answers.1, refl))
-
-    -- and one thing
-    pub says_once : ((u v : ℕ) (a b : Option (ℕ × ℕ)) → 1 ≤ u → u ≤ n → 1 ≤ v → v ≤ n → IsOwn u v a → IsOwn u v b → a ≡ b) → (pairs : List (ℕ × ℕ)) → ArePairsWithin n pairs → (x y : Result (List ℕ) Stop) → SaysAnswers IsOwn pairs x → SaysAnswers IsOwn pairs y → x ≡ y
-    says_once one pairs within x y first second =
-        first.2 ∙ ap (λ answers. Ok (answer_lines pairs answers)) (answers_unique one pairs within first.0 second.0 first.1 second.1) ∙ sym second.2
-
   -- what each answer is, told in other words
-  pub answers_told : (P Q : ℕ → ℕ → Option (ℕ × ℕ) → Type 0) → ((u v : ℕ) (a : Option (ℕ × ℕ)) → 1 ≤ u → u ≤ n → 1 ≤ v → v ≤ n → P u v a → Q u v a) → (pairs : List (ℕ × ℕ)) → ArePairsWithin n pairs → (answers : List (Option (ℕ × ℕ))) → Answers P pairs answers → Answers Q pairs answers
+  pub answers_told : (P Q : ℕ → ℕ → Option (ℕ × ℕ) → Type 0) → ((u v : ℕ) (a : Option (ℕ × ℕ)) → 1 ≤ u → u ≤ n → 1 ≤ v → v ≤ n → P u v a → Q u v a) → (pairs : List (ℕ × ℕ)) → ArePairsWithin n pairs → (answers : List (Option (ℕ × ℕ))) → AreAnswers P pairs answers → AreAnswers Q pairs answers
   answers_told P Q tells [] within [] told = tt
   answers_told P Q tells [] within (a ∷ answers) told = told
   answers_told P Q tells (p ∷ pairs) within [] told = told
@@ -59,7 +43,7 @@ module _ (n : ℕ) where
       (tells p.0 p.1 a here.0 here.1 here.2 here.3 told.0, answers_told P Q tells pairs (behind p pairs within) answers told.1)
 
 -- what the code's answers mean
-pub answers_meant : (IsOwn : ℕ → ℕ → Option (ℕ × ℕ) → Type 0) (pairs : List (ℕ × ℕ)) (answers : List Answer) → AllZip (λ pair answer. IsOwn pair.0 pair.1 (meant answer)) pairs answers → Answers IsOwn pairs (map meant answers)
+pub answers_meant : (IsOwn : ℕ → ℕ → Option (ℕ × ℕ) → Type 0) (pairs : List (ℕ × ℕ)) (answers : List Answer) → AllZip (λ pair answer. IsOwn pair.0 pair.1 (meant answer)) pairs answers → AreAnswers IsOwn pairs (map meant answers)
 answers_meant IsOwn [] [] all = tt
 answers_meant IsOwn [] (a ∷ answers) all = all
 answers_meant IsOwn (p ∷ pairs) [] all = all

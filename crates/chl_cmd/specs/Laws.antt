@@ -3,8 +3,8 @@ use Rattle.std.specs.Prelude.{◌≡◌, ◌≤◌, ℕ, List, length, Some, Res
 use Rattle.std.specs.FinMap as finite_map
 use Rattle.desk_io.specs.Reading.{input_limit}
 use Rattle.desk_io.specs.Contents.{Files}
-use Rattle.chl_cmd.specs.Decides.{Decides}
-use Rattle.chl_cmd.specs.declared.stop.Stop.{Stop}
+use Rattle.chl_cmd.specs.Commands.{Decides}
+use Rattle.chl_inputs.specs.declared.stop.Stop.{Stop}
 use Rattle.chl_cmd.specs.declared.words.asked.By.{By}
 use Rattle.chl_cmd.specs.declared.words.asked.Asked.{Asked}
 use Rattle.chl_cmd.specs.declared.words.asked.Asked.TheVariants.{Build, Solve, Query}

@@ -1,9 +1,5 @@
 pub mod Words
-pub mod Inputs
-pub mod Stops
 pub mod Statuses
-pub mod PrintedRows
-pub mod PrintedAnswers
-pub mod Decides
+pub mod Commands
 pub mod Outcome
 pub mod Laws

@@ -1,14 +1,15 @@
 -- What a run does to its desk.
 use Rattle.std.specs.Prelude.{◌≡◌, ◌≢◌, ◌⊎◌, ◌++◌, ℕ, IsTrue, List, take, Option, Some, None, Ok, Err}
 use Rattle.std.specs.FinMap as finite_map
-use Rattle.desk_io.specs.Contents.{Contents}
-use Rattle.chl_cmd.specs.Decides.{Decides, inputs_of, place_of}
-use Rattle.chl_cmd.specs.Inputs.{OpensInOrder, read_all}
-use Rattle.chl_cmd.specs.Statuses.{status_of}
-use Rattle.chl_cmd.specs.Stops.{MayStop}
+use Rattle.desk_io.specs.Contents.{Contents, Tells}
+use Rattle.desk_io.specs.declared.desk.Desk.{Ghosts}
+use Rattle.chl_inputs.specs.Stages.{OpensInOrder, ReadsAll, Went}
+use Rattle.chl_inputs.specs.Stops.{MayStop}
+use Rattle.chl_inputs.specs.declared.stop.Stop.{Stop}
+use Rattle.chl_cmd.specs.Commands.{Decides, stage_of, place_of}
+use Rattle.chl_cmd.specs.Statuses.{status_of, CarriesFaultsAlone, CountsInput, CountsOutput, HasNoOutput}
 use Rattle.chl_cmd.specs.declared.status.Status.{Status}
 use Rattle.chl_cmd.specs.declared.status.Status.TheVariants.{Done, WriteFault, NoMemory}
-use Rattle.chl_cmd.specs.declared.stop.Stop.{Stop}
 use Rattle.chl_cmd.specs.declared.words.asked.Asked.{Asked}
 
 -- the desk after these bytes were said, or a file was created that has them
@@ -20,16 +21,29 @@ given (Some out) bytes a = record a { files = finite_map.insert a.files out byte
 abbrev pub GivesFront : Option (List ℕ) → List ℕ → Contents → Contents → Type 0
 GivesFront place bytes a b = (b ≡ a) ⊎ ((k : ℕ) × (b ≡ given place (take k bytes) a))
 
--- all inputs were opened in order and each was read to its end, then the bytes that the files decide were given, and
--- nothing else has changed
-abbrev pub Gives : Asked → Contents → Contents → Type 0
-Gives asked a b =
-    (bytes : List ℕ) × Decides asked a.files (Ok bytes) × (b ≡ given (place_of asked) bytes (read_all (inputs_of asked) a))
+-- All inputs were opened in order, and each was accepted and read to its end; then the bytes that the files decide were
+-- given, and nothing else has changed.
+pub record Gives (asked : Asked) (a b : Contents) : Type 0 where
+  pub bytes : List ℕ
+  pub decided : Decides asked a.files (Ok bytes)
+  pub read : Contents
+  pub reads : ReadsAll (stage_of asked) a read
+  pub gives : b ≡ given (place_of asked) bytes read
 
 -- the same of a front of these bytes
-abbrev pub GivesPart : Asked → Contents → Contents → Type 0
-GivesPart asked a b =
-    (bytes : List ℕ) × Decides asked a.files (Ok bytes) × GivesFront (place_of asked) bytes (read_all (inputs_of asked) a) b
+pub record GivesPart (asked : Asked) (a b : Contents) : Type 0 where
+  pub bytes : List ℕ
+  pub decided : Decides asked a.files (Ok bytes)
+  pub read : Contents
+  pub reads : ReadsAll (stage_of asked) a read
+  pub gives : GivesFront (place_of asked) bytes read b
+
+-- The command stopped as the files decide, or for want of memory, or as a call of a desk that is not steady failed. Nothing
+-- was given. Each input before the last one opened was accepted and read to its end, and of that nothing was read once a line
+-- or field within what was read was at fault, but for what came in one piece with it.
+pub record Stops (asked : Asked) (stop : Stop) (a b : Contents) : Type 0 where
+  pub cause : MayStop a.steady stop (Decides asked a.files (Err stop))
+  pub unread : Went (stage_of asked) (Err stop) a b
 
 -- the inputs that were opened, and what was left of each, are the same
 pub record HasInputsOf (a b : Contents) : Type 0 where
@@ -39,7 +53,7 @@ pub record HasInputsOf (a b : Contents) : Type 0 where
 
 -- no other input than those of the command was opened, none before the one before it was read to its end
 abbrev pub OpensNoOther : Asked → Contents → Contents → Type 0
-OpensNoOther asked a b = (mid : Contents) × OpensInOrder (inputs_of asked) a mid × HasInputsOf mid b
+OpensNoOther asked a b = (mid : Contents) × OpensInOrder (stage_of asked) a mid × HasInputsOf mid b
 
 -- no file has changed but the one that the command creates
 abbrev pub ChangesNoOther : Asked → Contents → Contents → Type 0
@@ -52,4 +66,14 @@ Ends asked status a b =
     ((status ≡ Done) × Gives asked a b)
     ⊎ ((status ≡ WriteFault) × GivesPart asked a b × ¬ (IsTrue a.steady))
     ⊎ ((status ≡ NoMemory) × GivesPart asked a b)
-    ⊎ ((stop : Stop) × (status ≡ status_of stop) × MayStop a.steady stop (Decides asked a.files (Err stop)) × OpensInOrder (inputs_of asked) a b)
+    ⊎ ((stop : Stop) × (status ≡ status_of stop) × Stops asked stop a b)
+
+-- How a command may go: what it does to what the desk tells; a file is created only for output; what it does to the two
+-- counts; and its status carries no reader's want of memory.
+pub record Runs {D : Type 0} (desk : Ghosts D) (asked : Asked) (status : Status) (old new : D) : Type 0 where
+  pub told : Tells (desk.told old) (desk.told new) (Ends asked status)
+  pub no_output : HasNoOutput status → desk.is_created new ≡ desk.is_created old
+  pub no_place : place_of asked ≡ None → desk.is_created new ≡ desk.is_created old
+  pub input_count : CountsInput status (desk.input_faults old) (desk.input_faults new)
+  pub output_count : CountsOutput status (desk.output_faults old) (desk.output_faults new)
+  pub faults_alone : CarriesFaultsAlone status

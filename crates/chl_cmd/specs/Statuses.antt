@@ -1,10 +1,12 @@
 -- The exit statuses.
-use Rattle.std.specs.Prelude.{◌≡◌, ℕ, List, Result, Ok, Err}
+use Rattle.std.specs.Prelude.{◌≡◌, ◌≢◌, ℕ, List, Result, Ok, Err}
 use Rattle.desk_io.specs.Counts.{Rises}
+use Rattle.index_file.specs.declared.fault.IndexFault.TheVariants as index_faults
+use Rattle.rank_table.specs.declared.order_fault.OrderFault.TheVariants as order_faults
 use Rattle.chl_cmd.specs.declared.status.Status.{Status}
 use Rattle.chl_cmd.specs.declared.status.Status.TheVariants.{Done, Usage, GraphText, OrderText, PairsText, IndexBytes, Overflow, ReadFault, WriteFault, NoMemory, TooLong}
-use Rattle.chl_cmd.specs.declared.stop.Stop.{Stop}
-use Rattle.chl_cmd.specs.declared.stop.Stop.TheVariants as stops
+use Rattle.chl_inputs.specs.declared.stop.Stop.{Stop}
+use Rattle.chl_inputs.specs.declared.stop.Stop.TheVariants as stops
 
 -- the number with which the program ends
 abbrev pub number_of : Status → ℕ
@@ -46,7 +48,12 @@ abbrev pub CountsOutput : Status → ℕ → ℕ → Type 0
 CountsOutput WriteFault old new = Rises old new
 CountsOutput status old new = new ≡ old
 
--- what a command does to the count of failed calls of the input: it has risen where one failed, and else stays
-abbrev pub CountsStop : {T : Type 0} → Result T Stop → ℕ → ℕ → Type 0
-CountsStop (Err stops.ReadFailed) old new = Rises old new
-CountsStop result old new = new ≡ old
+-- a fault that it carries is one of the input, and not want of memory
+abbrev pub CarriesFaultsAlone : Status → Type 0
+CarriesFaultsAlone (OrderText fault) = fault ≢ order_faults.NoMemory
+CarriesFaultsAlone (IndexBytes fault) = fault ≢ index_faults.NoMemory
+CarriesFaultsAlone status = Unit {0}
+
+-- no output was begun
+abbrev pub HasNoOutput : Status → Type 0
+HasNoOutput status = (status ≢ Done) × (status ≢ WriteFault) × (status ≢ NoMemory)

@@ -1,9 +1,7 @@
-ghost use Rattle.std.specs.Prelude.{◌≡◌, Ok, Err, IfOk, IfErr};
-ghost use Rattle.desk_io.specs.Contents.{Tells};
-ghost use Rattle.chl_cmd.specs.Decides.{Decides, inputs_of};
-ghost use Rattle.chl_cmd.specs.Inputs.{read_all, OpensInOrder};
-ghost use Rattle.chl_cmd.specs.Statuses.{CountsStop};
-ghost use Rattle.chl_cmd.specs.Stops.{MayStop};
+ghost use Rattle.std.specs.Prelude.{◌≡◌};
+ghost use Rattle.std.specs.Option.{option_copied};
+ghost use Rattle.chl_inputs.specs.Stages.{Goes};
+ghost use Rattle.chl_cmd.specs.Commands.{bytes_of, place_of, stage_of};
 ghost use Rattle.chl_cmd.specs.Words.{IsWithinLimits};
 
 mod build;
@@ -11,18 +9,19 @@ mod list;
 mod query;
 mod solve;
 
-use crate::stop::Stop;
-use crate::words::{Asked, Construction};
-use build::file_bytes;
+use crate::words::{Asked, Construction, Name};
+use build::build;
+use chl_inputs::Stop;
 use desk_io::{Desk, Gate};
-use list::rows_text;
-use query::replies_text;
-use solve::answers_text;
+use list::list;
+use query::query;
+use solve::solve;
 use std::alloc::Global;
+use std::sync::Wait;
 use std::thread::Threads;
 
 /// The bytes that a command gives, or why it gives none. It reads its inputs and works, and writes nothing.
-pub fn output<R: Threads + Sync, D: Desk, G: Gate + Sync>(
+pub fn output<R: Threads + Wait + Sync, D: Desk, G: Gate + Sync>(
     rt: &R,
     alloc: Global,
     asked: &Asked,
@@ -30,15 +29,10 @@ pub fn output<R: Threads + Sync, D: Desk, G: Gate + Sync>(
     gate: &G,
 ) -> Result<Vec<u8>, Stop>
     requires { IsWithinLimits asked.now }
-    ensures value { IfOk result (λ bytes. Tells (D.told desk.old) (D.told desk.new) (λ a b.
-        Decides asked.now a.files (Ok bytes.items) × (b ≡ read_all (inputs_of asked.now) a))) }
-    ensures stop { IfErr result (λ stop. Tells (D.told desk.old) (D.told desk.new) (λ a b.
-        MayStop a.steady stop (Decides asked.now a.files (Err stop)) × OpensInOrder (inputs_of asked.now) a b)) }
-    ensures input_count { CountsStop result (D.input_faults desk.old) (D.input_faults desk.new) }
-    ensures output_count { D.output_faults desk.new ≡ D.output_faults desk.old }
+    ensures { Goes D.Desk (stage_of asked.now) (bytes_of result) desk.old desk.new }
 {
     match asked {
-        Asked::List { graph, order } => rows_text(rt, alloc, graph, order, desk),
+        Asked::List { graph, order } => list(rt, alloc, graph.text(), order.text(), desk),
         Asked::Build {
             graph,
             order,
@@ -52,7 +46,7 @@ pub fn output<R: Threads + Sync, D: Desk, G: Gate + Sync>(
                 workers: *workers,
                 cut: *cut,
             };
-            file_bytes(rt, alloc, graph, order, construction, desk, gate)
+            build(rt, alloc, graph.text(), order.text(), construction, desk, gate)
         }
         Asked::Solve {
             graph,
@@ -67,8 +61,18 @@ pub fn output<R: Threads + Sync, D: Desk, G: Gate + Sync>(
                 workers: *workers,
                 cut: *cut,
             };
-            answers_text(rt, alloc, graph, order, pairs, construction, desk, gate)
+            solve(rt, alloc, graph.text(), order.text(), pairs.text(), construction, desk, gate)
         }
-        Asked::Query { index, pairs } => replies_text(rt, alloc, index, pairs, desk),
+        Asked::Query { index, pairs } => query(rt, alloc, index.text(), pairs.text(), desk),
+    }
+}
+
+/// The file that a command creates for its bytes, or None where it says them.
+pub fn out_file(asked: &Asked) -> Option<&Name>
+    ensures { option_copied result ≡ place_of asked.now }
+{
+    match asked {
+        Asked::List { .. } | Asked::Solve { .. } | Asked::Query { .. } => None,
+        Asked::Build { out, .. } => Some(out),
     }
 }

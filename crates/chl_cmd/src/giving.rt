@@ -1,24 +1,25 @@
 ghost use Rattle.std.specs.Prelude.{◌≡◌, ◌≢◌, ℕ, Some, None, Err, OnOk, OnErr};
+ghost use Rattle.std.specs.Option.{option_copied};
 ghost use Rattle.desk_io.specs.Contents.{Tells, IsSteady};
 ghost use Rattle.desk_io.specs.Counts.{CountsFailure};
 ghost use Rattle.desk_io.specs.declared.desk.DeskFault.TheVariants.{Failed};
-ghost use Rattle.chl_cmd.specs.Decides.{place_of};
 ghost use Rattle.chl_cmd.specs.Outcome.{given, GivesFront};
 
-use crate::words::{Asked, Name};
+use crate::words::Name;
 use desk_io::{Desk, DeskFault, Out, write_all};
 
-/// Gives the bytes of a command: to the file that it creates, or to standard output.
-pub fn give<D: Desk>(desk: &mut D, asked: &Asked, bytes: &[u8]) -> Result<(), DeskFault>
-    ensures ok { OnOk result (Tells (D.told desk.old) (D.told desk.new) (λ a b. b ≡ given (place_of asked.now) bytes.now a)) }
-    ensures err { OnErr result (Tells (D.told desk.old) (D.told desk.new) (GivesFront (place_of asked.now) bytes.now)) }
+/// Gives bytes: to the file of this name, which it creates, or to standard output.
+pub fn give<D: Desk>(desk: &mut D, out: Option<&Name>, bytes: &[u8]) -> Result<(), DeskFault>
+    ensures ok { OnOk result (Tells (D.told desk.old) (D.told desk.new) (λ a b. b ≡ given (option_copied out) bytes.now a)) }
+    ensures err { OnErr result (Tells (D.told desk.old) (D.told desk.new) (GivesFront (option_copied out) bytes.now)) }
     ensures steady { IsSteady (D.told desk.old) → result ≢ Err Failed }
+    ensures no_place { option_copied out ≡ None → D.is_created desk.new ≡ D.is_created desk.old }
     ensures input_count { D.input_faults desk.new ≡ D.input_faults desk.old }
     ensures output_count { CountsFailure result (D.output_faults desk.old) (D.output_faults desk.new) }
 {
-    match asked {
-        Asked::List { .. } | Asked::Solve { .. } | Asked::Query { .. } => say(desk, bytes),
-        Asked::Build { out, .. } => write_file(desk, out, bytes),
+    match out {
+        Some(name) => write_file(desk, name, bytes),
+        None => say(desk, bytes),
     }
 }
 
@@ -27,6 +28,7 @@ fn say<D: Desk>(desk: &mut D, bytes: &[u8]) -> Result<(), DeskFault>
     ensures ok { OnOk result (Tells (D.told desk.old) (D.told desk.new) (λ a b. b ≡ given None bytes.now a)) }
     ensures err { OnErr result (Tells (D.told desk.old) (D.told desk.new) (GivesFront None bytes.now)) }
     ensures steady { IsSteady (D.told desk.old) → result ≢ Err Failed }
+    ensures no_place { D.is_created desk.new ≡ D.is_created desk.old }
     ensures input_count { D.input_faults desk.new ≡ D.input_faults desk.old }
     ensures output_count { CountsFailure result (D.output_faults desk.old) (D.output_faults desk.new) }
 {

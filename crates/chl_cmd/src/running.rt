@@ -1,25 +1,25 @@
-ghost use Rattle.std.specs.Prelude.{◌≡◌, ◌≢◌, ◌⊎◌, ℕ, List, map, string_bytes, IsTrue, Result};
+ghost use Rattle.std.specs.Prelude.{◌≡◌, ◌≢◌, ◌⊎◌, ℕ, List, None, map, string_bytes, IsTrue, Result};
 ghost use Rattle.desk_io.specs.Contents.{Tells};
-ghost use Rattle.chl_cmd.specs.Decides.{Decides, inputs_of};
-ghost use Rattle.chl_cmd.specs.Inputs.{OpensInOrder};
-ghost use Rattle.chl_cmd.specs.Outcome.{Ends, Gives, GivesPart, OpensNoOther, ChangesNoOther};
-ghost use Rattle.chl_cmd.specs.Statuses.{CountsInput, CountsOutput, status_of, status_after};
-ghost use Rattle.chl_cmd.specs.Stops.{MayStop};
+ghost use Rattle.chl_inputs.specs.declared.stop.Stop.{Stop};
+ghost use Rattle.chl_inputs.specs.Stages.{OpensInOrder};
+ghost use Rattle.chl_cmd.specs.Commands.{Decides, place_of, stage_of};
+ghost use Rattle.chl_cmd.specs.Outcome.{Runs, Gives, GivesPart, Stops, OpensNoOther, ChangesNoOther};
+ghost use Rattle.chl_cmd.specs.Statuses.{CarriesFaultsAlone, CountsInput, CountsOutput, HasNoOutput, status_of, status_after};
 ghost use Rattle.chl_cmd.specs.Words.{IsCommand, IsNoCommand, IsWithinLimits};
 ghost use Rattle.chl_cmd.specs.declared.status.Status.TheVariants.{Done, Usage, ReadFault, WriteFault, NoMemory};
-ghost use Rattle.chl_cmd.specs.declared.stop.Stop.{Stop};
 ghost use Rattle.chl_cmd.specs.declared.words.asked.Asked.{Asked as Command};
 
-use crate::commands::output;
+use crate::commands::{out_file, output};
 use crate::giving::give;
 use crate::status::{Status, stopped};
 use crate::words::{AskFault, Asked, read_words};
 use desk_io::{Desk, DeskFault, Gate};
 use std::alloc::Global;
+use std::sync::Wait;
 use std::thread::Threads;
 
 /// Runs the command that the words ask for, over a desk, and says how it ended. What the named files decide of a command
-/// is `Decides` (specs/Decides). Over a desk that tells nothing, as the real one, the clauses with `Tells` say nothing.
+/// is `Decides` (specs/Commands). Over a desk that tells nothing, as the real one, the clauses with `Tells` say nothing.
 /// Want of memory may come at any time. The gate sees the roots of a build begin and end.
 ///
 /// ```text
@@ -27,7 +27,7 @@ use std::thread::Threads;
 /// chl build --graph path_of_three.gr --order path_of_three.order --out path_of_three.chl
 /// chl query --index path_of_three.chl --pairs path_of_three.p2p
 /// ```
-pub fn run<R: Threads + Sync, D: Desk, G: Gate + Sync>(
+pub fn run<R: Threads + Wait + Sync, D: Desk, G: Gate + Sync>(
     rt: &R,
     alloc: Global,
     words: &[String],
@@ -44,10 +44,9 @@ pub fn run<R: Threads + Sync, D: Desk, G: Gate + Sync>(
         → Tells (D.told desk.old) (D.told desk.new) (Gives asked) }
 
     // A command stops without output only as the files decide; but memory may run out, and a desk that is not steady may
-    // fail to read. Nothing was given then.
+    // fail to read. Nothing was given then, and the rest is unread.
     ensures stopped { (asked : Command) (stop : Stop) → IsCommand (map string_bytes words.now) asked → result ≡ status_of stop → result ≢ NoMemory
-        → Tells (D.told desk.old) (D.told desk.new) (λ a b.
-        MayStop a.steady stop (Decides asked a.files (Err stop)) × OpensInOrder (inputs_of asked) a b) }
+        → Tells (D.told desk.old) (D.told desk.new) (Stops asked stop) }
 
     // What the files decide comes; but memory may run out, and a desk that is not steady may fail.
     ensures decided { (asked : Command) (answer : Result (List ℕ) Stop) → IsCommand (map string_bytes words.now) asked
@@ -60,19 +59,27 @@ pub fn run<R: Threads + Sync, D: Desk, G: Gate + Sync>(
 
     // Without memory nothing was given, or a front of the bytes that the files decide.
     ensures no_memory { (asked : Command) → IsCommand (map string_bytes words.now) asked → result ≡ NoMemory
-        → Tells (D.told desk.old) (D.told desk.new) (λ a b. OpensInOrder (inputs_of asked) a b ⊎ GivesPart asked a b) }
+        → Tells (D.told desk.old) (D.told desk.new) (λ a b. OpensInOrder (stage_of asked) a b ⊎ GivesPart asked a b) }
 
-    // However a command ends, no other input was opened, none before the one before it was read to its end, and no other
-    // file has changed; and a steady desk stays steady.
+    // However a command ends, no other input was opened, none before the one before it was accepted and read to its end, and
+    // no other file has changed; and a steady desk stays steady.
     ensures opens { (asked : Command) → IsCommand (map string_bytes words.now) asked
         → Tells (D.told desk.old) (D.told desk.new) (OpensNoOther asked) }
     ensures files { (asked : Command) → IsCommand (map string_bytes words.now) asked
         → Tells (D.told desk.old) (D.told desk.new) (ChangesNoOther asked) }
     ensures steady { Tells (D.told desk.old) (D.told desk.new) (λ a b. b.steady ≡ a.steady) }
 
+    // Over any desk: a file is created only for output, and only by a command that has a file for it.
+    ensures no_output { HasNoOutput result → D.is_created desk.new ≡ D.is_created desk.old }
+    ensures no_place { (asked : Command) → IsCommand (map string_bytes words.now) asked → place_of asked ≡ None
+        → D.is_created desk.new ≡ D.is_created desk.old }
+
     // A read fault comes only where the input count has risen, a write fault only where the output count has.
     ensures input_count { CountsInput result (D.input_faults desk.old) (D.input_faults desk.new) }
     ensures output_count { CountsOutput result (D.output_faults desk.old) (D.output_faults desk.new) }
+
+    // No status carries a reader's want of memory: that is always NoMemory.
+    ensures faults_alone { CarriesFaultsAlone result }
 {
     match read_words(alloc, words) {
         Ok(asked) => carry_out(rt, alloc, &asked, desk, gate),
@@ -82,7 +89,7 @@ pub fn run<R: Threads + Sync, D: Desk, G: Gate + Sync>(
 }
 
 /// Carries out a command: all its bytes are made before the first is given.
-fn carry_out<R: Threads + Sync, D: Desk, G: Gate + Sync>(
+fn carry_out<R: Threads + Wait + Sync, D: Desk, G: Gate + Sync>(
     rt: &R,
     alloc: Global,
     asked: &Asked,
@@ -91,12 +98,10 @@ fn carry_out<R: Threads + Sync, D: Desk, G: Gate + Sync>(
 ) -> Status
     requires { IsWithinLimits asked.now }
     ensures never_usage { result ≢ Usage }
-    ensures ends { Tells (D.told desk.old) (D.told desk.new) (Ends asked.now result) }
-    ensures input_count { CountsInput result (D.input_faults desk.old) (D.input_faults desk.new) }
-    ensures output_count { CountsOutput result (D.output_faults desk.old) (D.output_faults desk.new) }
+    ensures runs { Runs D.Desk asked.now result desk.old desk.new }
 {
     match output(rt, alloc, asked, desk, gate) {
-        Ok(bytes) => match give(desk, asked, &bytes) {
+        Ok(bytes) => match give(desk, out_file(asked), &bytes) {
             Ok(()) => Status::Done,
             Err(DeskFault::Failed) => Status::WriteFault,
             Err(DeskFault::NoMemory) => Status::NoMemory,

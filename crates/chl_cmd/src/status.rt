@@ -1,8 +1,9 @@
 ghost use Rattle.std.specs.Prelude.{◌≡◌};
-ghost use Rattle.chl_cmd.specs.Statuses.{number_of, status_of};
-ghost use Rattle.chl_cmd.specs.declared.stop.Stop.{Stop as AnyStop};
+ghost use Rattle.chl_inputs.specs.Stops.{HasMemoryOnce};
+ghost use Rattle.chl_cmd.specs.Statuses.{number_of, status_of, CarriesFaultsAlone};
+ghost use Rattle.chl_inputs.specs.declared.stop.Stop.{Stop as AnyStop};
 
-use crate::stop::Stop;
+use chl_inputs::Stop;
 use dimacs_text::TextFault;
 use index_file::IndexFault;
 use rank_table::OrderFault;
@@ -69,7 +70,9 @@ impl Status {
 
 /// The status of a run whose command has no output.
 pub fn stopped(stop: Stop) -> Status
-    ensures { result ≡ status_of stop }
+    requires { HasMemoryOnce stop }
+    ensures status { result ≡ status_of stop }
+    ensures faults_alone { CarriesFaultsAlone result }
 {
     match stop {
         Stop::Graph(fault) => Status::GraphText(fault),

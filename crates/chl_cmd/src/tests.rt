@@ -13,6 +13,7 @@ use rank_table::OrderFault;
 use std::alloc::{AllocError, Global};
 use std::process::Abort;
 use std::test::Fail;
+use std::sync::Wait;
 use std::thread::Threads;
 
 /// A run over a desk that has the files `g` and `o`, and what it is to come to.
@@ -75,7 +76,7 @@ fn desk_of(
 }
 
 /// Runs the words over a desk, and compares the line of the status, and what standard output has taken.
-fn expect<R: Abort + AllocGlobal + Threads + Sync>(
+fn expect<R: Abort + AllocGlobal + Threads + Wait + Sync>(
     rt: &R,
     desk: &mut MemDesk,
     words: &str,
@@ -91,7 +92,7 @@ fn expect<R: Abort + AllocGlobal + Threads + Sync>(
 }
 
 /// Runs each case in pieces of each size.
-fn expect_all<R: Abort + AllocGlobal + Threads + Sync>(rt: &R, cases: &[Case]) -> Result<(), Fail> {
+fn expect_all<R: Abort + AllocGlobal + Threads + Wait + Sync>(rt: &R, cases: &[Case]) -> Result<(), Fail> {
     for case in cases {
         for bite in BITES {
             assert!(rt; 0 < bite);

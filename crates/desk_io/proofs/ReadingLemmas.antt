@@ -6,7 +6,7 @@ use Rattle.std.proofs.lemmas.List.{append-nil}
 use Rattle.desk_io.specs.Contents.{Contents, Tells}
 use Rattle.desk_io.specs.Feed.{TakesAll}
 use Rattle.desk_io.specs.HandOn.{Moves, RefusesNext}
-use Rattle.desk_io.specs.Reading.{input_limit, Reads, ReadsToEnd, HandsOn, HandsOnAll, HandsOnUntil, OnFailed, OnNoMemory, IfRefused}
+use Rattle.desk_io.specs.Reading.{input_limit, piece_limit, Reads, ReadsToEnd, HandsOn, HandsOnAll, HandsOnUntil, OnFailed, OnNoMemory, IfRefused}
 use Rattle.desk_io.specs.declared.read_all.ReadEnd.{ReadEnd}
 use Rattle.desk_io.specs.declared.read_all.ReadEnd.TheVariants.{Failed, TooLong, NoMemory, Refused}
 
@@ -82,14 +82,15 @@ module _ {F E : Type 0} (gives : F → List ℕ → Result (Unit {0}) E → F �
   HandsOnAll-from_moves f l old new size moved within end = record { pieces = moved.pieces; taken = moved.taken; within = subst (λ n. n ≤ input_limit) (sym moved.size_is) within; read = told_at_end (concat moved.pieces) old new moved.read end }
 
   -- and the feed refused the next piece
-  pub HandsOnUntil-from_moves : (fault : E) (f m l : F) (old mid new : Option Contents) (size room : ℕ) → Moves gives f m old mid size → size + room ≤ input_limit → RefusesNext gives fault m l mid new room → HandsOnUntil gives fault f l old new
-  HandsOnUntil-from_moves fault f m l old mid new size room moved within next = record {
+  pub HandsOnUntil-from_moves : (fault : E) (f m l : F) (old mid new : Option Contents) (size room : ℕ) → Moves gives f m old mid size → size + room ≤ input_limit → room ≤ piece_limit → RefusesNext gives fault m l mid new room → HandsOnUntil gives fault f l old new
+  HandsOnUntil-from_moves fault f m l old mid new size room moved within short next = record {
     pieces = moved.pieces;
     last = next.piece;
     middle = m;
     taken = moved.taken;
     refused = next.refused;
     nonempty = next.nonempty;
+    short = omega (arith, short, next.within);
     within = omega (arith, within, next.within, moved.size_is, length-append (concat moved.pieces) next.piece);
     read = told-append (concat moved.pieces) next.piece old mid new moved.read next.read;
   }

@@ -11,6 +11,10 @@ use Rattle.desk_io.specs.declared.read_all.ReadEnd.TheVariants.{Failed, TooLong,
 abbrev pub input_limit : ℕ
 input_limit = 2 ^ 48
 
+-- the most bytes of a piece
+abbrev pub piece_limit : ℕ
+piece_limit = 2 ^ 13
+
 -- these bytes were the front of the input, and are no longer; nothing else changed
 abbrev pub Reads : List ℕ → Contents → Contents → Type 0
 Reads bytes a b = (a.rest ≡ bytes ++ b.rest) × (b ≡ record a { rest = b.rest })
@@ -50,6 +54,7 @@ module _ {F E : Type 0} (gives : F → List ℕ → Result (Unit {0}) E → F �
     pub taken : TakesAll gives before pieces middle
     pub refused : gives middle last (Err fault) after
     pub nonempty : 0 < length last
+    pub short : length last ≤ piece_limit
     pub within : length (concat pieces ++ last) ≤ input_limit
     pub read : Tells old new (Reads (concat pieces ++ last))
 

@@ -9,8 +9,8 @@ use crate::feed::Feed;
 /// The most bytes that [`read_all_into`] hands on.
 pub const INPUT_LIMIT: u64 = 1 << 48;
 
-/// The bytes of the buffer through which it reads.
-const BUFFER_LEN: u64 = 8192;
+/// The most bytes of a piece: those of the buffer through which it reads.
+const BUFFER_LEN: u64 = 1 << 13;
 
 /// Why a reading ended before the end of the input.
 #[derive(Clone, Copy, Debug, PartialEq, Eq)]

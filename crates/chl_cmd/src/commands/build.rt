@@ -1,40 +1,56 @@
-ghost use Rattle.std.specs.Prelude.{◌≡◌, Ok, Err, IfOk, IfErr, ◌∷◌, []};
-ghost use Rattle.desk_io.specs.Contents.{Tells};
+ghost use Rattle.std.specs.Prelude.{◌≡◌, length, List, IfOk};
 ghost use Rattle.index_file.specs.Layout.{index_bytes};
-ghost use Rattle.chl_cmd.specs.Decides.{OfLabelling};
-ghost use Rattle.chl_cmd.specs.Inputs.{read_all, OpensInOrder};
-ghost use Rattle.chl_cmd.specs.Statuses.{CountsStop};
-ghost use Rattle.chl_cmd.specs.Stops.{MayStop};
+ghost use Rattle.walk_laws.specs.declared.entry.Entry.{Entry as AnyEntry};
+ghost use Rattle.walk_laws.specs.Joined.{Joined};
+ghost use Rattle.walk_laws.specs.Labelling.{IsChl};
+ghost use Rattle.chl_inputs.specs.Stages.{Goes};
+ghost use Rattle.chl_cmd.specs.Commands.{build_stage, bytes_of};
 ghost use Rattle.chl_cmd.specs.Words.{AreWithinLimits};
 
-use crate::labelling::read_labelling;
-use crate::stop::Stop;
-use crate::words::{Construction, Name};
+use crate::labelling::labelling;
+use crate::words::Construction;
+use chl_inputs::{Stop, read_graph, read_order};
 use desk_io::{Desk, Gate};
 use index_file::encode;
-use std::alloc::Global;
+use rank_table::Ranking;
+use std::alloc::{AllocError, Global};
+use std::sync::Wait;
 use std::thread::Threads;
+use walk_laws::Graph;
 
 /// The bytes of the index file of the canonical hub labelling of a graph under an order.
-pub fn file_bytes<R: Threads + Sync, D: Desk, G: Gate + Sync>(
+pub fn build<R: Threads + Wait + Sync, D: Desk, G: Gate + Sync>(
     rt: &R,
     alloc: Global,
-    graph: &Name,
-    order: &Name,
+    graph: &str,
+    order: &str,
     construction: Construction,
     desk: &mut D,
     gate: &G,
 ) -> Result<Vec<u8>, Stop>
     requires { AreWithinLimits construction.workers construction.cut }
-    ensures value { IfOk result (λ bytes. Tells (D.told desk.old) (D.told desk.new) (λ a b.
-        OfLabelling index_bytes graph.now order.now a.files (Ok bytes.items) × (b ≡ read_all (graph.now ∷ order.now ∷ []) a))) }
-    ensures stop { IfErr result (λ stop. Tells (D.told desk.old) (D.told desk.new) (λ a b.
-        MayStop a.steady stop (OfLabelling index_bytes graph.now order.now a.files (Err stop))
-        × OpensInOrder (graph.now ∷ order.now ∷ []) a b)) }
-    ensures input_count { CountsStop result (D.input_faults desk.old) (D.input_faults desk.new) }
-    ensures output_count { D.output_faults desk.new ≡ D.output_faults desk.old }
+    ensures { Goes D.Desk (build_stage graph.now order.now) (bytes_of result) desk.old desk.new }
 {
-    let index = read_labelling(rt, alloc, graph, order, construction, desk, gate)?;
-    let bytes = encode(alloc, &index)?;
+    let graph = read_graph(alloc, graph, desk)?;
+    let ranking = read_order(alloc, order, graph.n(), desk)?;
+    let bytes = file_bytes(rt, alloc, &graph, &ranking, construction, gate)?;
     Ok(bytes)
+}
+
+/// The bytes of the file.
+fn file_bytes<R: Threads + Wait + Sync, G: Gate + Sync>(
+    rt: &R,
+    alloc: Global,
+    graph: &Graph,
+    ranking: &Ranking,
+    construction: Construction,
+    gate: &G,
+) -> Result<Vec<u8>, AllocError>
+    requires size { length ranking.now ≡ graph.now.n }
+    requires limits { AreWithinLimits construction.workers construction.cut }
+    ensures { IfOk result (λ bytes. (rows : List (List AnyEntry)) × IsChl (Joined graph.now.edges) ranking.now rows
+        × (bytes.items ≡ index_bytes ranking.now rows)) }
+{
+    let index = labelling(rt, alloc, graph, ranking, construction, gate)?;
+    encode(alloc, &index)
 }

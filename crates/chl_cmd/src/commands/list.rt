@@ -1,42 +1,54 @@
-ghost use Rattle.std.specs.Prelude.{◌≡◌, Ok, Err, IfOk, IfErr, ◌∷◌, []};
-ghost use Rattle.desk_io.specs.Contents.{Tells};
-ghost use Rattle.chl_cmd.specs.Decides.{OfLabelling};
-ghost use Rattle.chl_cmd.specs.Inputs.{read_all, OpensInOrder};
-ghost use Rattle.chl_cmd.specs.PrintedRows.{lines_from};
-ghost use Rattle.chl_cmd.specs.Statuses.{CountsStop};
-ghost use Rattle.chl_cmd.specs.Stops.{MayStop};
+ghost use Rattle.std.specs.Prelude.{◌≡◌, length, List, IfOk};
+ghost use Rattle.walk_laws.specs.declared.entry.Entry.{Entry as AnyEntry};
+ghost use Rattle.walk_laws.specs.Joined.{Joined};
+ghost use Rattle.walk_laws.specs.Labelling.{IsChl};
+ghost use Rattle.chl_inputs.specs.Stages.{Goes};
+ghost use Rattle.chl_lines.specs.PrintedRows.{lines_from};
+ghost use Rattle.chl_cmd.specs.Commands.{bytes_of, list_stage};
 
-use crate::labelling::read_labelling;
-use crate::printed::row_lines;
-use crate::stop::Stop;
-use crate::words::{By, Construction, Name};
+use crate::labelling::labelling;
+use crate::words::{By, Construction};
+use chl_inputs::{Stop, read_graph, read_order};
+use chl_lines::row_lines;
 use desk_io::{Desk, FreeGate};
-use std::alloc::Global;
+use rank_table::Ranking;
+use std::alloc::{AllocError, Global};
+use std::sync::Wait;
 use std::thread::Threads;
+use walk_laws::Graph;
 
 /// The lines of the rows of the canonical hub labelling of a graph under an order, planted on one thread.
-pub fn rows_text<R: Threads + Sync, D: Desk>(
+pub fn list<R: Threads + Wait + Sync, D: Desk>(
     rt: &R,
     alloc: Global,
-    graph: &Name,
-    order: &Name,
+    graph: &str,
+    order: &str,
     desk: &mut D,
 ) -> Result<Vec<u8>, Stop>
-    ensures value { IfOk result (λ text. Tells (D.told desk.old) (D.told desk.new) (λ a b.
-        OfLabelling (λ at rows. lines_from at 1 rows) graph.now order.now a.files (Ok text.items)
-        × (b ≡ read_all (graph.now ∷ order.now ∷ []) a))) }
-    ensures stop { IfErr result (λ stop. Tells (D.told desk.old) (D.told desk.new) (λ a b.
-        MayStop a.steady stop (OfLabelling (λ at rows. lines_from at 1 rows) graph.now order.now a.files (Err stop))
-        × OpensInOrder (graph.now ∷ order.now ∷ []) a b)) }
-    ensures input_count { CountsStop result (D.input_faults desk.old) (D.input_faults desk.new) }
-    ensures output_count { D.output_faults desk.new ≡ D.output_faults desk.old }
+    ensures { Goes D.Desk (list_stage graph.now order.now) (bytes_of result) desk.old desk.new }
+{
+    let graph = read_graph(alloc, graph, desk)?;
+    let ranking = read_order(alloc, order, graph.n(), desk)?;
+    let text = rows_text(rt, alloc, &graph, &ranking)?;
+    Ok(text)
+}
+
+/// The lines of the rows.
+fn rows_text<R: Threads + Wait + Sync>(
+    rt: &R,
+    alloc: Global,
+    graph: &Graph,
+    ranking: &Ranking,
+) -> Result<Vec<u8>, AllocError>
+    requires { length ranking.now ≡ graph.now.n }
+    ensures { IfOk result (λ text. (rows : List (List AnyEntry)) × IsChl (Joined graph.now.edges) ranking.now rows
+        × (text.items ≡ lines_from ranking.now 1 rows)) }
 {
     let alone = Construction {
         by: By::Plant,
         workers: 1,
         cut: 1,
     };
-    let index = read_labelling(rt, alloc, graph, order, alone, desk, &FreeGate)?;
-    let text = row_lines(alloc, &index)?;
-    Ok(text)
+    let index = labelling(rt, alloc, graph, ranking, alone, &FreeGate)?;
+    row_lines(alloc, &index)
 }

@@ -1,37 +1,48 @@
-ghost use Rattle.std.specs.Prelude.{◌≡◌, Ok, Err, IfOk, IfErr, ◌∷◌, []};
-ghost use Rattle.desk_io.specs.Contents.{Tells};
-ghost use Rattle.chl_cmd.specs.Decides.{OfMeets};
-ghost use Rattle.chl_cmd.specs.Inputs.{read_all, OpensInOrder};
-ghost use Rattle.chl_cmd.specs.Statuses.{CountsStop};
-ghost use Rattle.chl_cmd.specs.Stops.{MayStop};
+ghost use Rattle.std.specs.Prelude.{◌≡◌, ℕ, List, Option, length, IfOk};
+ghost use Rattle.walk_laws.specs.Meet.{IsMeet};
+ghost use Rattle.chl_inputs.specs.Inputs.{ArePairsWithin};
+ghost use Rattle.chl_inputs.specs.Stages.{Goes};
+ghost use Rattle.chl_lines.specs.PrintedAnswers.{answer_lines as lines_of_answers};
+ghost use Rattle.chl_cmd.specs.Commands.{AreAnswers, bytes_of, query_stage};
 
-use crate::inputs::read_indexed;
-use crate::printed::answer_lines;
-use crate::stop::Stop;
-use crate::words::Name;
+use chl_inputs::{Stop, read_index, read_pairs};
+use chl_lines::answer_lines;
 use desk_io::Desk;
+use dimacs_text::Pairs;
+use hub_index::Index;
 use hub_query::ask_all;
-use std::alloc::Global;
+use std::alloc::{AllocError, Global};
+use std::sync::Wait;
 use std::thread::Threads;
 
 /// The lines of what the rows of an index file say of the pairs of a text: right answers where the index is that of the
 /// canonical hub labelling, and else no worse than what its rows have.
-pub fn replies_text<R: Threads + Sync, D: Desk>(
+pub fn query<R: Threads + Wait + Sync, D: Desk>(
     rt: &R,
     alloc: Global,
-    index: &Name,
-    pairs: &Name,
+    index: &str,
+    pairs: &str,
     desk: &mut D,
 ) -> Result<Vec<u8>, Stop>
-    ensures value { IfOk result (λ text. Tells (D.told desk.old) (D.told desk.new) (λ a b.
-        OfMeets index.now pairs.now a.files (Ok text.items) × (b ≡ read_all (index.now ∷ pairs.now ∷ []) a))) }
-    ensures stop { IfErr result (λ stop. Tells (D.told desk.old) (D.told desk.new) (λ a b.
-        MayStop a.steady stop (OfMeets index.now pairs.now a.files (Err stop)) × OpensInOrder (index.now ∷ pairs.now ∷ []) a b)) }
-    ensures input_count { CountsStop result (D.input_faults desk.old) (D.input_faults desk.new) }
-    ensures output_count { D.output_faults desk.new ≡ D.output_faults desk.old }
+    ensures { Goes D.Desk (query_stage index.now pairs.now) (bytes_of result) desk.old desk.new }
 {
-    let indexed = read_indexed(alloc, index, pairs, desk)?;
-    let answers = ask_all(rt, alloc, &indexed.index, &indexed.pairs)?;
-    let text = answer_lines(alloc, indexed.pairs.list(), answers.list())?;
+    let index = read_index(alloc, index, desk)?;
+    let pairs = read_pairs(alloc, pairs, index.n(), desk)?;
+    let text = replies_text(rt, alloc, &index, &pairs)?;
     Ok(text)
+}
+
+/// The lines of what the rows say of the pairs.
+pub fn replies_text<R: Threads + Wait + Sync>(
+    rt: &R,
+    alloc: Global,
+    index: &Index,
+    pairs: &Pairs,
+) -> Result<Vec<u8>, AllocError>
+    requires { ArePairsWithin (length index.now.order) pairs.now }
+    ensures { IfOk result (λ text. (answers : List (Option (ℕ × ℕ))) × AreAnswers (IsMeet index.now.order index.now.rows) pairs.now answers
+        × (text.items ≡ lines_of_answers pairs.now answers)) }
+{
+    let answers = ask_all(rt, alloc, index, pairs)?;
+    answer_lines(alloc, pairs.list(), answers.list())
 }

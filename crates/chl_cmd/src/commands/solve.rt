@@ -1,44 +1,65 @@
-ghost use Rattle.std.specs.Prelude.{◌≡◌, Ok, Err, IfOk, IfErr, ◌∷◌, []};
-ghost use Rattle.desk_io.specs.Contents.{Tells};
-ghost use Rattle.chl_cmd.specs.Decides.{OfAnswers};
-ghost use Rattle.chl_cmd.specs.Inputs.{read_all, OpensInOrder};
-ghost use Rattle.chl_cmd.specs.Statuses.{CountsStop};
-ghost use Rattle.chl_cmd.specs.Stops.{MayStop};
+ghost use Rattle.std.specs.Prelude.{◌≡◌, ℕ, List, Option, length, IfOk};
+ghost use Rattle.walk_laws.specs.Answer.{IsAnswer};
+ghost use Rattle.walk_laws.specs.Graph.{IsGraph};
+ghost use Rattle.walk_laws.specs.Joined.{Joined};
+ghost use Rattle.walk_laws.specs.Ranking.{IsRanking};
+ghost use Rattle.chl_inputs.specs.Inputs.{ArePairsWithin};
+ghost use Rattle.chl_inputs.specs.Stages.{Goes};
+ghost use Rattle.chl_lines.specs.PrintedAnswers.{answer_lines as lines_of_answers};
+ghost use Rattle.chl_cmd.specs.Commands.{AreAnswers, bytes_of, solve_stage};
 ghost use Rattle.chl_cmd.specs.Words.{AreWithinLimits};
 
-use crate::inputs::read_questions;
-use crate::labelling::labelling_of;
-use crate::printed::answer_lines;
-use crate::stop::Stop;
-use crate::words::{Construction, Name};
+use super::query::replies_text;
+use crate::labelling::labelling;
+use crate::words::Construction;
+use chl_inputs::{Stop, read_graph, read_order, read_pairs};
 use desk_io::{Desk, Gate};
-use hub_query::ask_all;
-use std::alloc::Global;
+use dimacs_text::Pairs;
+use rank_table::Ranking;
+use std::alloc::{AllocError, Global};
+use std::sync::Wait;
 use std::thread::Threads;
+use walk_laws::Graph;
 
 /// The lines of the distances of the pairs of a text in a graph, each with the highest-ranked node between.
-pub fn answers_text<R: Threads + Sync, D: Desk, G: Gate + Sync>(
+pub fn solve<R: Threads + Wait + Sync, D: Desk, G: Gate + Sync>(
     rt: &R,
     alloc: Global,
-    graph: &Name,
-    order: &Name,
-    pairs: &Name,
+    graph: &str,
+    order: &str,
+    pairs: &str,
     construction: Construction,
     desk: &mut D,
     gate: &G,
 ) -> Result<Vec<u8>, Stop>
     requires { AreWithinLimits construction.workers construction.cut }
-    ensures value { IfOk result (λ text. Tells (D.told desk.old) (D.told desk.new) (λ a b.
-        OfAnswers graph.now order.now pairs.now a.files (Ok text.items) × (b ≡ read_all (graph.now ∷ order.now ∷ pairs.now ∷ []) a))) }
-    ensures stop { IfErr result (λ stop. Tells (D.told desk.old) (D.told desk.new) (λ a b.
-        MayStop a.steady stop (OfAnswers graph.now order.now pairs.now a.files (Err stop))
-        × OpensInOrder (graph.now ∷ order.now ∷ pairs.now ∷ []) a b)) }
-    ensures input_count { CountsStop result (D.input_faults desk.old) (D.input_faults desk.new) }
-    ensures output_count { D.output_faults desk.new ≡ D.output_faults desk.old }
+    ensures { Goes D.Desk (solve_stage graph.now order.now pairs.now) (bytes_of result) desk.old desk.new }
 {
-    let questions = read_questions(alloc, graph, order, pairs, desk)?;
-    let index = labelling_of(rt, alloc, &questions.ranked, construction, gate)?;
-    let answers = ask_all(rt, alloc, &index, &questions.pairs)?;
-    let text = answer_lines(alloc, questions.pairs.list(), answers.list())?;
+    let graph = read_graph(alloc, graph, desk)?;
+    let ranking = read_order(alloc, order, graph.n(), desk)?;
+    let pairs = read_pairs(alloc, pairs, graph.n(), desk)?;
+    let text = answers_text(rt, alloc, &graph, &ranking, &pairs, construction, gate)?;
     Ok(text)
+}
+
+/// The lines of the answers, by the rows of the graph's labelling.
+fn answers_text<R: Threads + Wait + Sync, G: Gate + Sync>(
+    rt: &R,
+    alloc: Global,
+    graph: &Graph,
+    ranking: &Ranking,
+    pairs: &Pairs,
+    construction: Construction,
+    gate: &G,
+) -> Result<Vec<u8>, AllocError>
+    requires size { length ranking.now ≡ graph.now.n }
+    requires graph { IsGraph graph.now.n graph.now.edges }
+    requires ranking { IsRanking ranking.now }
+    requires within { ArePairsWithin graph.now.n pairs.now }
+    requires limits { AreWithinLimits construction.workers construction.cut }
+    ensures { IfOk result (λ text. (answers : List (Option (ℕ × ℕ))) × AreAnswers (IsAnswer (Joined graph.now.edges) ranking.now) pairs.now answers
+        × (text.items ≡ lines_of_answers pairs.now answers)) }
+{
+    let index = labelling(rt, alloc, graph, ranking, construction, gate)?;
+    replies_text(rt, alloc, &index, pairs)
 }

@@ -3,7 +3,7 @@ ghost use Rattle.std.specs.Prelude.{◌<◌};
 use super::*;
 
 /// Runs `list` of the path of three over a desk of which one call fails.
-fn list_failing<R: Abort + AllocGlobal + Threads + Sync>(
+fn list_failing<R: Abort + AllocGlobal + Threads + Wait + Sync>(
     rt: &R,
     bite: u32,
     fails: (Call, u32),

@@ -47,7 +47,7 @@ fn bad_pairs(pairs: &'static str, line: &'static str) -> Pairs {
 }
 
 /// Solves the pairs of each case, and asks an index that was built of the same texts, in pieces of each size.
-fn expect_pairs<R: Abort + AllocGlobal + Threads + Sync>(
+fn expect_pairs<R: Abort + AllocGlobal + Threads + Wait + Sync>(
     rt: &R,
     cases: &[Pairs],
 ) -> Result<(), Fail> {
@@ -154,7 +154,7 @@ fn pairs_texts_are_judged(rt: HostRuntime) -> Result<(), Fail> {
 const ONE_PAIR: &[u8] = b"p aux sp p2p 1\nq 1 3\n";
 
 /// The bytes of the index file of the path of three.
-fn path_index<R: Abort + AllocGlobal + Threads + Sync>(rt: &R) -> Result<Vec<u8>, Fail> {
+fn path_index<R: Abort + AllocGlobal + Threads + Wait + Sync>(rt: &R) -> Result<Vec<u8>, Fail> {
     let mut desk = desk_of(rt.alloc(), 4096, &[], PATH, PATH_ORDER)?;
     expect(rt, &mut desk, BUILD, "chl: done", "")?;
     let mut bytes = Vec::new(rt.alloc());
@@ -165,7 +165,7 @@ fn path_index<R: Abort + AllocGlobal + Threads + Sync>(rt: &R) -> Result<Vec<u8>
 }
 
 /// Asks an index file of these bytes, in pieces of each size.
-fn expect_of_index<R: Abort + AllocGlobal + Threads + Sync>(
+fn expect_of_index<R: Abort + AllocGlobal + Threads + Wait + Sync>(
     rt: &R,
     bytes: &[u8],
     line: &str,

@@ -22,7 +22,7 @@ pub returns-in_err-count-clause-refused : goal.returns-in_err-count-clause-refus
 returns-in_err-count-clause-refused g c =
     let p = err_from_is_err_and c.from_residual.result c.from_residual.ensures.1 in
     rw (p.1, p.2) (IfRefused-at_err c.in_err-count.field-0.0 c.in_err-count.ensures.refused (λ fault next.
-    HandsOnUntil-from_moves g.F.Feed.feed_gives fault _ _ _ _ _ _ _ _ c.loop-room.invariant.moved (grind (arith, common_steps)) next))
+    HandsOnUntil-from_moves g.F.Feed.feed_gives fault _ _ _ _ _ _ _ _ c.loop-room.invariant.moved (grind (arith, common_steps)) (grind (arith, common_steps)) next))
 
 pub returns-then-count-eq0-clause-ok : goal.returns-then-count-eq0-clause-ok
 returns-then-count-eq0-clause-ok g c =

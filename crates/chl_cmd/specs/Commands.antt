@@ -1,0 +1,84 @@
+-- The commands: what each reads and works out in turn, and where its bytes go. A new command is a stage and a case of
+-- `command_of`.
+use Rattle.std.specs.Prelude.{◌≡◌, ℕ, List, length, Option, Some, None, Result, Ok, Err, Vec}
+use Rattle.std.specs.List.{AllZip}
+use Rattle.desk_io.specs.Contents.{Files}
+use Rattle.index_file.specs.Layout.{index_bytes}
+use Rattle.walk_laws.specs.declared.entry.Entry.{Entry}
+use Rattle.walk_laws.specs.Answer.{IsAnswer}
+use Rattle.walk_laws.specs.Joined.{Joined}
+use Rattle.walk_laws.specs.Labelling.{IsChl}
+use Rattle.walk_laws.specs.Meet.{IsMeet}
+use Rattle.chl_inputs.specs.Inputs.{graph_input, order_input, pairs_input, index_input}
+use Rattle.chl_inputs.specs.Stages.{Stage, Comes, Works, Reads, Decided}
+use Rattle.chl_inputs.specs.declared.stop.Stop.{Stop}
+use Rattle.chl_lines.specs.PrintedAnswers.{answer_lines}
+use Rattle.chl_lines.specs.PrintedRows.{lines_from}
+use Rattle.chl_cmd.specs.declared.words.asked.Asked.{Asked}
+use Rattle.chl_cmd.specs.declared.words.asked.Asked.TheVariants.{List as ListRows, Build, Solve, Query}
+
+-- a graph, a ranking of its nodes, and the bytes of the rows of its canonical hub labelling
+abbrev pub labelling_stage : (List ℕ → List (List Entry) → List ℕ) → List ℕ → List ℕ → Stage (List ℕ)
+labelling_stage bytes_of graph order =
+    Reads (graph_input graph) (λ g.
+    Reads (order_input g.n order) (λ at.
+    Works (λ rows. IsChl (Joined g.edges) at rows) (λ rows.
+    Comes (Ok (bytes_of at rows)))))
+
+-- `list`: the lines of the rows
+abbrev pub list_stage : List ℕ → List ℕ → Stage (List ℕ)
+list_stage graph order = labelling_stage (λ at rows. lines_from at 1 rows) graph order
+
+-- `build`: the bytes of the index file
+abbrev pub build_stage : List ℕ → List ℕ → Stage (List ℕ)
+build_stage graph order = labelling_stage index_bytes graph order
+
+-- each pair has an answer that is its own
+abbrev pub AreAnswers : (ℕ → ℕ → Option (ℕ × ℕ) → Type 0) → List (ℕ × ℕ) → List (Option (ℕ × ℕ)) → Type 0
+AreAnswers IsOwn pairs answers = AllZip (λ pair a. IsOwn pair.0 pair.1 a) pairs answers
+
+-- the lines of pairs with their answers
+abbrev pub answers_stage : (ℕ → ℕ → Option (ℕ × ℕ) → Type 0) → List (ℕ × ℕ) → Stage (List ℕ)
+answers_stage IsOwn pairs = Works (λ answers. AreAnswers IsOwn pairs answers) (λ answers. Comes (Ok (answer_lines pairs answers)))
+
+-- `solve`: a graph, a ranking of its nodes, and pairs of them, each with the least length of a walk and the highest-ranked
+-- node on the shortest walks, or that no walk leads there
+abbrev pub solve_stage : List ℕ → List ℕ → List ℕ → Stage (List ℕ)
+solve_stage graph order pairs =
+    Reads (graph_input graph) (λ g.
+    Reads (order_input g.n order) (λ at.
+    Reads (pairs_input g.n pairs) (λ asked.
+    answers_stage (IsAnswer (Joined g.edges) at) asked)))
+
+-- `query`: an index, and pairs of its nodes, each with what the rows of the index say of it
+abbrev pub query_stage : List ℕ → List ℕ → Stage (List ℕ)
+query_stage index pairs =
+    Reads (index_input index) (λ i.
+    Reads (pairs_input (length i.order) pairs) (λ asked.
+    answers_stage (IsMeet i.order i.rows) asked))
+
+-- a command: its stage, and the file that it creates for its bytes, or none where it says them
+pub record Command : Type 1 where
+  pub stage : Stage (List ℕ)
+  pub place : Option (List ℕ)
+
+abbrev pub command_of : Asked → Command
+command_of (ListRows graph order) = record { stage = list_stage graph order; place = None }
+command_of (Build graph order out by workers cut) = record { stage = build_stage graph order; place = Some out }
+command_of (Solve graph order pairs by workers cut) = record { stage = solve_stage graph order pairs; place = None }
+command_of (Query index pairs) = record { stage = query_stage index pairs; place = None }
+
+abbrev pub stage_of : Asked → Stage (List ℕ)
+stage_of asked = (command_of asked).stage
+
+abbrev pub place_of : Asked → Option (List ℕ)
+place_of asked = (command_of asked).place
+
+-- what the files decide of a command: the bytes that it gives, or why it gives none
+abbrev pub Decides : Asked → Files → Result (List ℕ) Stop → Type 0
+Decides asked files answer = Decided (stage_of asked) files answer
+
+-- the bytes of an answer
+abbrev pub bytes_of : {Z : Type 0} → Result (Vec ℕ Z) Stop → Result (List ℕ) Stop
+bytes_of (Ok bytes) = Ok bytes.items
+bytes_of (Err stop) = Err stop

@@ -1,0 +1,4 @@
+pub mod ToldChanges
+pub mod StagesInTurn
+pub mod StageLaws
+pub mod InputFacts

@@ -1,0 +1,85 @@
+-- The inputs of a command, and what each comes to.
+use Rattle.std.specs.Prelude.{◌≤◌, ℕ, List, All, length, take, nat_lt, if◌then◌else◌, Option, Some, None, Result, Ok, Err}
+use Rattle.std.specs.Option.{option_map}
+use Rattle.std.specs.FinMap as finite_map
+use Rattle.desk_io.specs.Contents.{Files}
+use Rattle.desk_io.specs.Reading.{input_limit}
+use Rattle.dimacs_text.specs.GraphText.{graph_of_text, graph_fault_within}
+use Rattle.dimacs_text.specs.PairsText.{pairs_of_text, pairs_fault_within}
+use Rattle.hub_index.specs.HubIndex.{HubIndex}
+use Rattle.index_file.specs.Judging.{index_of, fault_within}
+use Rattle.rank_table.specs.OrderText.{order_of_text, order_fault_within}
+use Rattle.walk_laws.specs.Graph.{WeightedGraph}
+use Rattle.chl_inputs.specs.Stops.{graph_stop, order_stop, pairs_stop, index_stop}
+use Rattle.chl_inputs.specs.declared.stop.Stop.{Stop}
+use Rattle.chl_inputs.specs.declared.stop.Stop.TheVariants.{TooLong, ReadFailed}
+
+-- an input: the name of its file, the first fault that is plain by the end of a front of its bytes, and what all its bytes
+-- come to
+pub record Input (V : Type 0) : Type 0 where
+  pub name : List ℕ
+  pub plain : List ℕ → Option Stop
+  pub comes_to : List ℕ → Result V Stop
+
+-- more bytes than the limit: the fault that is plain by the limit, or else they are too many
+abbrev pub past_limit : {V : Type 0} → Option Stop → Result V Stop
+past_limit None = Err TooLong
+past_limit (Some stop) = Err stop
+
+-- What an input comes to: no file has its name; there are more bytes than the limit; or all bytes are judged.
+abbrev pub value_of : {V : Type 0} → Input V → Option (List ℕ) → Result V Stop
+value_of input None = Err ReadFailed
+value_of input (Some bytes) = if nat_lt input_limit (length bytes) then past_limit (input.plain (take input_limit bytes)) else input.comes_to bytes
+
+-- the same of the file that a table has by its name
+abbrev pub value_at : {V : Type 0} → Input V → Files → Result V Stop
+value_at input files = value_of input (finite_map.get files input.name)
+
+-- a value, or how the command stops at a fault
+abbrev pub judged : {V F : Type 0} → (F → Stop) → Result V F → Result V Stop
+judged stop (Ok value) = Ok value
+judged stop (Err fault) = Err (stop fault)
+
+-- the input that has this name and goes to a reader
+abbrev pub input_of_reader : {R V F : Type 0} → (R → List ℕ → Option F) → (R → List ℕ → Result V F) → (F → Stop) → R → List ℕ → Input V
+input_of_reader refused comes_to stop reader name = record {
+  name = name;
+  plain = λ bytes. option_map stop (refused reader bytes);
+  comes_to = λ bytes. judged stop (comes_to reader bytes);
+}
+
+-- a graph text of this name
+abbrev pub graph_input : List ℕ → Input WeightedGraph
+graph_input name = record {
+  name = name;
+  plain = λ bytes. option_map graph_stop (graph_fault_within bytes);
+  comes_to = λ bytes. judged graph_stop (graph_of_text bytes);
+}
+
+-- an order text, of a ranking of the nodes 1..n
+abbrev pub order_input : ℕ → List ℕ → Input (List ℕ)
+order_input n name = record {
+  name = name;
+  plain = λ bytes. option_map order_stop (order_fault_within n bytes);
+  comes_to = λ bytes. judged order_stop (order_of_text n bytes);
+}
+
+-- a pairs text, of pairs of the nodes 1..n
+abbrev pub pairs_input : ℕ → List ℕ → Input (List (ℕ × ℕ))
+pairs_input n name = record {
+  name = name;
+  plain = λ bytes. option_map pairs_stop (pairs_fault_within n bytes);
+  comes_to = λ bytes. judged pairs_stop (pairs_of_text n bytes);
+}
+
+-- an index file
+abbrev pub index_input : List ℕ → Input HubIndex
+index_input name = record {
+  name = name;
+  plain = λ bytes. option_map index_stop (fault_within bytes);
+  comes_to = λ bytes. judged index_stop (index_of bytes);
+}
+
+-- both nodes of each pair are of 1..n
+abbrev pub ArePairsWithin : ℕ → List (ℕ × ℕ) → Type 0
+ArePairsWithin n pairs = All (λ p. (1 ≤ p.0) × (p.0 ≤ n) × (1 ≤ p.1) × (p.1 ≤ n)) pairs

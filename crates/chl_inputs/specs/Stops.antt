@@ -1,0 +1,77 @@
+-- Why a command has no output.
+use Rattle.std.specs.Prelude.{◌≡◌, ◌≢◌, ◌⊎◌, Bool, IsTrue}
+use Rattle.desk_io.specs.declared.desk.DeskFault.{DeskFault}
+use Rattle.desk_io.specs.declared.desk.DeskFault.TheVariants as calls
+use Rattle.desk_io.specs.declared.read_all.ReadEnd.{ReadEnd}
+use Rattle.desk_io.specs.declared.read_all.ReadEnd.TheVariants as ends
+use Rattle.dimacs_text.specs.declared.fault.GrFault.{GrFault}
+use Rattle.dimacs_text.specs.declared.fault.GrFault.TheVariants as graph_faults
+use Rattle.dimacs_text.specs.declared.fault.PairsFault.{PairsFault}
+use Rattle.dimacs_text.specs.declared.fault.PairsFault.TheVariants as pairs_faults
+use Rattle.index_file.specs.declared.fault.IndexFault.{IndexFault}
+use Rattle.index_file.specs.declared.fault.IndexFault.TheVariants as index_faults
+use Rattle.rank_table.specs.declared.order_fault.OrderFault.{OrderFault}
+use Rattle.rank_table.specs.declared.order_fault.OrderFault.TheVariants as order_faults
+use Rattle.chl_inputs.specs.declared.stop.Stop.{Stop}
+use Rattle.chl_inputs.specs.declared.stop.Stop.TheVariants.{Graph, Overflow, Order, Pairs, Index, TooLong, ReadFailed, NoMemory}
+
+-- at a fault of a graph
+abbrev pub graph_stop : GrFault → Stop
+graph_stop (graph_faults.Text fault) = Graph fault
+graph_stop (graph_faults.Overflow n weight) = Overflow n weight
+graph_stop graph_faults.NoMemory = NoMemory
+
+-- of an order
+abbrev pub order_stop : OrderFault → Stop
+order_stop order_faults.NoMemory = NoMemory
+order_stop fault = Order fault
+
+-- of pairs
+abbrev pub pairs_stop : PairsFault → Stop
+pairs_stop (pairs_faults.Text fault) = Pairs fault
+pairs_stop pairs_faults.NoMemory = NoMemory
+
+-- of an index
+abbrev pub index_stop : IndexFault → Stop
+index_stop index_faults.NoMemory = NoMemory
+index_stop fault = Index fault
+
+-- at the end of a reading
+abbrev pub end_stop : {F : Type 0} → (F → Stop) → ReadEnd F → Stop
+end_stop stop ends.Failed = ReadFailed
+end_stop stop ends.TooLong = TooLong
+end_stop stop ends.NoMemory = NoMemory
+end_stop stop (ends.Refused fault) = stop fault
+
+-- where an input can't be opened
+abbrev pub opening_stop : DeskFault → Stop
+opening_stop calls.Failed = ReadFailed
+opening_stop calls.NoMemory = NoMemory
+
+-- a fault that it carries is one of the input, and not want of memory
+abbrev pub HasMemoryOnce : Stop → Type 0
+HasMemoryOnce (Order fault) = fault ≢ order_faults.NoMemory
+HasMemoryOnce (Index fault) = fault ≢ index_faults.NoMemory
+HasMemoryOnce stop = Unit {0}
+
+-- the work stopped so as this is what the files decide; or for want of memory; or as a call of a desk that is not steady failed
+abbrev pub MayStop : Bool → Stop → Type 0 → Type 0
+MayStop steady stop decided = decided ⊎ (stop ≡ NoMemory) ⊎ ((stop ≡ ReadFailed) × ¬ (IsTrue steady))
+
+-- each stop at a fault is such
+pub graph_memory_once : (fault : GrFault) → HasMemoryOnce (graph_stop fault)
+graph_memory_once (graph_faults.Text fault) = tt
+graph_memory_once (graph_faults.Overflow n weight) = tt
+graph_memory_once graph_faults.NoMemory = tt
+
+pub order_memory_once : (fault : OrderFault) → HasMemoryOnce (order_stop fault)
+order_memory_once order_faults.NoMemory = tt
+order_memory_once fault = λ same. cc
+
+pub pairs_memory_once : (fault : PairsFault) → HasMemoryOnce (pairs_stop fault)
+pairs_memory_once (pairs_faults.Text fault) = tt
+pairs_memory_once pairs_faults.NoMemory = tt
+
+pub index_memory_once : (fault : IndexFault) → HasMemoryOnce (index_stop fault)
+index_memory_once index_faults.NoMemory = tt
+index_memory_once fault = λ same. cc

@@ -1,0 +1,36 @@
+ghost use Rattle.std.specs.Prelude.{◌≡◌};
+ghost use Rattle.chl_inputs.specs.declared.stop.Stop.TheVariants.{NoMemory};
+
+use dimacs_text::TextFault;
+use index_file::IndexFault;
+use rank_table::OrderFault;
+use std::alloc::AllocError;
+
+/// Why a command has no output.
+#[derive(Clone, Copy, Debug, PartialEq, Eq)]
+pub enum Stop {
+    /// The graph text has this first fault.
+    Graph(TextFault),
+    /// The graph's number of nodes times its greatest weight is 2^62 or more.
+    Overflow { n: u32, weight: u64 },
+    /// The order text has this first fault.
+    Order(OrderFault),
+    /// The pairs text has this first fault.
+    Pairs(TextFault),
+    /// The index file has this first fault.
+    Index(IndexFault),
+    /// An input has more bytes than the limit, and none of its lines or fields within the limit was refused.
+    TooLong,
+    /// An input could not be opened or read.
+    ReadFailed,
+    /// There was no memory.
+    NoMemory,
+}
+
+impl From<AllocError> for Stop {
+    ghost from_gives = { λ _ stop. stop ≡ NoMemory };
+
+    fn from(_error: AllocError) -> Stop {
+        Stop::NoMemory
+    }
+}

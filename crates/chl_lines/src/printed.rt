@@ -1,0 +1,115 @@
+ghost use Rattle.std.specs.Prelude.{◌≡◌, ℕ, ◌<◌, ◌∷◌, ◌++◌, map, slice_index, IfOk, OnOk, length};
+ghost use Rattle.std.specs.Fmt.{decimal};
+ghost use Rattle.hub_query.specs.Meant.{meant};
+ghost use Rattle.chl_lines.specs.PrintedAnswers.{answer_line, answer_lines as lines_of_answers};
+ghost use Rattle.chl_lines.specs.PrintedRows.{entry_words, row_line, lines_from, HasPositions};
+
+use hub_index::Index;
+use hub_query::Answer;
+use itoa::Buffer;
+use rank_table::Ranking;
+use std::alloc::{AllocError, Global};
+use walk_laws::Entry;
+
+/// The lines `l V H D ..` of all nodes by rising node V, each with the hubs H of its row and their distances D, by
+/// falling rank of the hub.
+pub fn row_lines(alloc: Global, index: &Index) -> Result<Vec<u8>, AllocError>
+    ensures { IfOk result (λ text. text.items ≡ lines_from index.now.order 1 index.now.rows) }
+{
+    let mut text = Vec::new(alloc);
+    for v in 1..index.n() + 1 {
+        print_row(&mut text, index.ranking(), v, index.row(v))?;
+    }
+    Ok(text)
+}
+
+/// Puts the line of the row of the node `v` at the end of a text.
+fn print_row(text: &mut Vec<u8>, ranking: &Ranking, v: u32, row: &[Entry]) -> Result<(), AllocError>
+    requires { HasPositions (length ranking.now) row.now }
+    ensures { OnOk result (text.new.items ≡ text.old.items ++ row_line ranking.now v row.now) }
+{
+    let mut buffer = Buffer::new();
+    text.extend_from_slice(b"l ")?;
+    text.extend_from_slice(buffer.format(v).as_bytes())?;
+    for entry in row {
+        print_entry(text, ranking, *entry)?;
+    }
+    text.push(b'\n')?;
+    Ok(())
+}
+
+/// Puts the words of an entry at the end of a line: its hub and its distance.
+fn print_entry(text: &mut Vec<u8>, ranking: &Ranking, entry: Entry) -> Result<(), AllocError>
+    requires { entry.pos < length ranking.now }
+    ensures { OnOk result (text.new.items ≡ text.old.items ++ entry_words ranking.now entry) }
+{
+    let mut buffer = Buffer::new();
+    text.push(b' ')?;
+    text.extend_from_slice(buffer.format(hub_of(ranking, entry)).as_bytes())?;
+    text.push(b' ')?;
+    text.extend_from_slice(buffer.format(entry.dist).as_bytes())?;
+    Ok(())
+}
+
+/// The node of an entry's hub.
+fn hub_of(ranking: &Ranking, entry: Entry) -> u32
+    requires { entry.pos < length ranking.now }
+    ensures { result ≡ slice_index ranking.now entry.pos }
+{
+    ranking.at(entry.pos)
+}
+
+/// The lines of pairs with their answers: `d S T D H` or `u S T` for the nodes S and T.
+pub fn answer_lines(
+    alloc: Global,
+    pairs: &[(u32, u32)],
+    answers: &[Answer],
+) -> Result<Vec<u8>, AllocError>
+    requires { length answers.now ≡ length pairs.now }
+    ensures { IfOk result (λ text. text.items ≡ lines_of_answers pairs.now (map meant answers.now)) }
+{
+    let mut text = Vec::new(alloc);
+    for i in 0..pairs.len() {
+        print_answer(&mut text, pairs[i], answers[i])?;
+    }
+    Ok(text)
+}
+
+/// Puts the line of a pair with its answer at the end of a text.
+fn print_answer(text: &mut Vec<u8>, pair: (u32, u32), answer: Answer) -> Result<(), AllocError>
+    ensures { OnOk result (text.new.items ≡ text.old.items ++ answer_line pair (meant answer)) }
+{
+    match answer {
+        Answer::Near { dist, hub } => {
+            text.extend_from_slice(b"d ")?;
+            print_pair(text, pair)?;
+            print_number(text, dist)?;
+            print_number(text, u64::from(hub))?;
+        }
+        Answer::Far => {
+            text.extend_from_slice(b"u ")?;
+            print_pair(text, pair)?;
+        }
+    }
+    text.push(b'\n')?;
+    Ok(())
+}
+
+/// Puts the nodes of a pair at the end of a text.
+fn print_pair(text: &mut Vec<u8>, pair: (u32, u32)) -> Result<(), AllocError>
+    ensures { OnOk result (text.new.items ≡ text.old.items ++ (decimal pair.0 ++ (32 ∷ decimal pair.1))) }
+{
+    let mut buffer = Buffer::new();
+    text.extend_from_slice(buffer.format(pair.0).as_bytes())?;
+    print_number(text, u64::from(pair.1))
+}
+
+/// Puts a space and a number at the end of a text.
+fn print_number(text: &mut Vec<u8>, number: u64) -> Result<(), AllocError>
+    ensures { OnOk result (text.new.items ≡ text.old.items ++ (32 ∷ decimal number)) }
+{
+    let mut buffer = Buffer::new();
+    text.push(b' ')?;
+    text.extend_from_slice(buffer.format(number).as_bytes())?;
+    Ok(())
+}
