@@ -1,5 +1,5 @@
 -- What the reading of an input has shown of it.
-use Rattle.std.proofs.Common.{◌≡◌, ◌⊎◌, inl, inr, ℕ, ◌+◌, ◌-◌, ◌<◌, ◌≤◌, Bool, true, false, cond, IsTrue, List, [], ◌∷◌, ◌++◌, length, take, refl, sym, ap, subst, ◌∙◌, arith}
+use Rattle.std.proofs.Common.{◌≡◌, ◌≢◌, ◌⊎◌, inl, inr, ℕ, ◌+◌, ◌-◌, ◌<◌, ◌≤◌, Bool, true, false, cond, IsTrue, List, [], ◌∷◌, ◌++◌, length, take, refl, sym, ap, subst, ◌∙◌, arith}
 use Rattle.std.specs.Prelude.{◌↔◌, Option, Some, None, Result, Ok, Err, OnErr}
 use Rattle.std.specs.Option.{option_map}
 use Rattle.std.specs.List.{concat}
@@ -10,14 +10,16 @@ use Rattle.std.proofs.Math.Seq.{take-append_seam, take-append-add}
 use Rattle.desk_io.specs.Contents.{Contents, Tells, IsSteady, Lacks, opened}
 use Rattle.desk_io.specs.Feed.{TakesAll}
 use Rattle.desk_io.specs.Reader.{TakesPiece, StandsAt}
-use Rattle.desk_io.specs.Reading.{Reads as ReadsBytes, HandsOn, HandsOnAll, PassesLimit, HandsOnUntil, OnFailed, OnTooLong, OnNoMemory, IfRefused, input_limit, piece_limit}
+use Rattle.desk_io.specs.Reading.{Reads as ReadsBytes, HandsOn, HandsOnAll, PassesLimit, HandsOnUntil, OnFailed, OnTooLong, OnNoMemory, IfRefused, CountsReadFailure, input_limit, piece_limit}
 use Rattle.desk_io.specs.declared.desk.DeskFault.{DeskFault}
 use Rattle.desk_io.specs.declared.desk.DeskFault.TheVariants as calls
 use Rattle.desk_io.specs.declared.read_all.ReadEnd.{ReadEnd}
 use Rattle.desk_io.specs.declared.read_all.ReadEnd.TheVariants.{Failed, TooLong, NoMemory, Refused}
-use Rattle.chl_inputs.specs.Inputs.{Input, input_of_reader, judged, past_limit, value_at, value_of}
-use Rattle.chl_inputs.specs.Stages.{ReadsPart, reading, Went}
-use Rattle.chl_inputs.specs.Stops.{end_stop, opening_stop, MayStop}
+use Rattle.chl_inputs.specs.Inputs.{Input, input_from, judged, past_limit, value_at, value_of}
+use Rattle.chl_inputs.specs.Stages.{CountsStop, Goes, ReadsPart, reading, Went}
+use Rattle.desk_io.specs.declared.desk.Desk.{Ghosts}
+use mathlib.Core.Path.{fun_ext}
+use Rattle.chl_inputs.specs.Stops.{end_stop, opening_stop, HasMemoryOnce, MayStop}
 use Rattle.chl_inputs.specs.declared.stop.Stop.{Stop}
 use Rattle.chl_inputs.specs.declared.stop.Stop.TheVariants as stops
 use Rattle.chl_inputs.proofs.ToldChanges.{chained}
@@ -62,6 +64,25 @@ module _ {V : Type 0} (input : Input V) where
       missing true none = inl (ap (value_of input) (none refl))
       missing false none = inr (inr (refl, false≢true))
 
+-- a stop that is no failed call leaves the count as it is
+pub count_stays : (V : Type 0) (stop : Stop) (old new : ℕ) → stop ≢ stops.ReadFailed → new ≡ old → CountsStop {V = V} (Err stop) old new
+count_stays V stops.ReadFailed old new none same = absurd (none refl)
+count_stays V other old new none same = same
+
+-- how a reading counts, as a stop
+pub count_end : (V : Type 0) {F : Type 0} (stop : F → Stop) → ((fault : F) → stop fault ≢ stops.ReadFailed) → (end : ReadEnd F) (old new : ℕ) → CountsReadFailure {T = Unit {0}} (Err end) old new → CountsStop {V = V} (Err (end_stop stop end)) old new
+count_end V stop none Failed old new counts = counts
+count_end V stop none TooLong old new counts = counts
+count_end V stop none NoMemory old new counts = counts
+count_end V stop none (Refused fault) old new counts = count_stays V (stop fault) old new (none fault) counts
+
+-- and what it carries
+pub once_end : {F : Type 0} (stop : F → Stop) → ((fault : F) → HasMemoryOnce (stop fault)) → (end : ReadEnd F) → HasMemoryOnce (end_stop stop end)
+once_end stop once Failed = tt
+once_end stop once TooLong = tt
+once_end stop once NoMemory = tt
+once_end stop once (Refused fault) = once fault
+
 module _ {R V F : Type 0} (refused : R → List ℕ → Option F) (comes_to : R → List ℕ → Result V F) (no_memory : F) (gives : R → List ℕ → Result (Unit {0}) F → R → Type 0) (pieces : (old new : R) (piece : List ℕ) (answer : Result (Unit {0}) F) → gives old piece answer new → TakesPiece refused comes_to no_memory old piece answer new) (lasts : (reader : R) (bytes more : List ℕ) (fault : F) → refused reader bytes ≡ Some fault → StandsAt refused comes_to reader (bytes ++ more) fault) where
   -- after all pieces the reader stands where their bytes have led
   fed : (first last : R) (ps : List (List ℕ)) → TakesAll gives first ps last → (more : List ℕ) → (refused last more ≡ refused first (concat ps ++ more)) × (comes_to last more ≡ comes_to first (concat ps ++ more))
@@ -91,7 +112,7 @@ module _ {R V F : Type 0} (refused : R → List ℕ → Option F) (comes_to : R 
   module _ (stop : F → Stop) (want : stop no_memory ≡ stops.NoMemory) (name : List ℕ) (first last : R) (fresh : refused first [] ≡ None) where
     -- the named input
     abbrev the_input : Input V
-    the_input = input_of_reader refused comes_to stop first name
+    the_input = input_from (refused first) (comes_to first) stop name
 
     -- a fault that is plain within the limit decides, whatever follows
     plain_fault : (front rest : List ℕ) (fault : F) → length front ≤ input_limit → refused first front ≡ Some fault → value_of the_input (Some (front ++ rest)) ≡ Err (stop fault)
@@ -191,3 +212,9 @@ module _ {R V F : Type 0} (refused : R → List ℕ → Option F) (comes_to : R 
           inr (read_part the_input (concat refusal.pieces) refusal.last a b c o (r.0 ∙ append_assoc (concat refusal.pieces) refusal.last c.rest) r.1 (faultless refusal.pieces refusal.middle refusal.taken) refusal.short),
         ),
       ))
+
+-- a reader that finds such faults and comes to such values reads such an input
+pub reads_as : {D V F : Type 0} {desk : Ghosts D} {answer : Result V Stop} {old new : D} (stop : F → Stop) (name : List ℕ) (f g : List ℕ → Option F) (h k : List ℕ → Result V F) → ((bytes : List ℕ) → f bytes ≡ g bytes) → ((bytes : List ℕ) → h bytes ≡ k bytes) → Goes desk (reading (input_from f h stop name)) answer old new → Goes desk (reading (input_from g k stop name)) answer old new
+reads_as {desk} {answer} {old} {new} stop name f g h k same equal goes =
+    subst (λ x. Goes desk (reading (input_from g x stop name)) answer old new) (fun_ext equal)
+    (subst (λ x. Goes desk (reading (input_from x h stop name)) answer old new) (fun_ext same) goes)

@@ -129,4 +129,4 @@ module _ {V : Type 0} where
   decided_once (Comes is) files one x y first second = first ∙ sym second
   decided_once (Works P next) files one x y first second =
       decided_once (next first.0) files (one.1 first.0 first.1) x y first.2 (subst (λ u. Decided (next u) files y) (one.0 second.0 first.0 second.1 first.1) second.2)
-  decided_once (Reads input next) files one = after_once (value_at input files) (λ u answer. Decided (next u) files answer) (λ u is. decided_once (next u) files (one u is))
+  decided_once (Reads input next) files one x y first second = after_once (value_at input files) (λ u answer. Decided (next u) files answer) (λ u is. decided_once (next u) files (one u is)) x y first second

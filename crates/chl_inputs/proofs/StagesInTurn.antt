@@ -56,9 +56,9 @@ module _ {U V : Type 0} where
   went_stop (Reads input first) next stop a b (inl stopped) = inl (stopped.0, ap Err (same_stop_in stop stopped.0 stopped.1), stopped.2)
   went_stop (Reads input first) next stop a b (inr one) = inr (one.0, one.1, went_stop (first one.0) next stop (opened input.name [] a) b one.2)
 
-  count_stop : (stop : Stop) (old new : ℕ) → CountsStop {V = U} (Err stop) old new → CountsStop {V = V} (Err stop) old new
-  count_stop ReadFailed old new counts = counts
-  count_stop other old new counts = counts
+count_stop : (U V : Type 0) (stop : Stop) (old new : ℕ) → CountsStop {V = U} (Err stop) old new → CountsStop {V = V} (Err stop) old new
+count_stop U V ReadFailed old new counts = counts
+count_stop U V other old new counts = counts
 
 module _ {D U V : Type 0} {desk : Ghosts D} where
   -- one stage that had a value, and then another
@@ -76,7 +76,7 @@ module _ {D U V : Type 0} {desk : Ghosts D} where
   goes_stop {first} {stop} {old} {new} next one = record {
     told = retold (desk.told old) (desk.told new) one.told (λ a b x. went_stop first next stop a b x);
     no_file = one.no_file;
-    input_count = count_stop stop (desk.input_faults old) (desk.input_faults new) one.input_count;
+    input_count = count_stop U V stop (desk.input_faults old) (desk.input_faults new) one.input_count;
     output_count = one.output_count;
     memory_once = one.memory_once;
   }
@@ -90,6 +90,13 @@ module _ {D U V : Type 0} {desk : Ghosts D} where
     output_count = rest.output_count;
     memory_once = rest.memory_once;
   }
+
+  -- the same where the first stage is the reading of an input
+  pub goes_reads : {input : Input U} {next : U → Stage V} {u : U} {answer : Result V Stop} {old mid new : D} → Goes desk (reading input) (Ok u) old mid → Goes desk (next u) answer mid new → Goes desk (Reads input next) answer old new
+  goes_reads {next} one two = goes_in_turn next one two
+
+  pub goes_reads_stop : {input : Input U} {next : U → Stage V} {stop : Stop} {old new : D} → Goes desk (reading input) (Err stop) old new → Goes desk (Reads input next) (Err stop) old new
+  goes_reads_stop {next} one = goes_stop next one
 
 module _ {D V : Type 0} {desk : Ghosts D} where
   -- a stage that comes to a value

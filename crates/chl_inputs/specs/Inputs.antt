@@ -40,45 +40,29 @@ abbrev pub judged : {V F : Type 0} → (F → Stop) → Result V F → Result V 
 judged stop (Ok value) = Ok value
 judged stop (Err fault) = Err (stop fault)
 
--- the input that has this name and goes to a reader
-abbrev pub input_of_reader : {R V F : Type 0} → (R → List ℕ → Option F) → (R → List ℕ → Result V F) → (F → Stop) → R → List ℕ → Input V
-input_of_reader refused comes_to stop reader name = record {
+-- the input of this name whose fronts have such faults and whose bytes come to that, and at whose faults the command stops so
+abbrev pub input_from : {V F : Type 0} → (List ℕ → Option F) → (List ℕ → Result V F) → (F → Stop) → List ℕ → Input V
+input_from fault_within comes_to stop name = record {
   name = name;
-  plain = λ bytes. option_map stop (refused reader bytes);
-  comes_to = λ bytes. judged stop (comes_to reader bytes);
+  plain = λ bytes. option_map stop (fault_within bytes);
+  comes_to = λ bytes. judged stop (comes_to bytes);
 }
 
--- a graph text of this name
+-- a graph text
 abbrev pub graph_input : List ℕ → Input WeightedGraph
-graph_input name = record {
-  name = name;
-  plain = λ bytes. option_map graph_stop (graph_fault_within bytes);
-  comes_to = λ bytes. judged graph_stop (graph_of_text bytes);
-}
+graph_input name = input_from graph_fault_within graph_of_text graph_stop name
 
 -- an order text, of a ranking of the nodes 1..n
 abbrev pub order_input : ℕ → List ℕ → Input (List ℕ)
-order_input n name = record {
-  name = name;
-  plain = λ bytes. option_map order_stop (order_fault_within n bytes);
-  comes_to = λ bytes. judged order_stop (order_of_text n bytes);
-}
+order_input n name = input_from (order_fault_within n) (order_of_text n) order_stop name
 
 -- a pairs text, of pairs of the nodes 1..n
 abbrev pub pairs_input : ℕ → List ℕ → Input (List (ℕ × ℕ))
-pairs_input n name = record {
-  name = name;
-  plain = λ bytes. option_map pairs_stop (pairs_fault_within n bytes);
-  comes_to = λ bytes. judged pairs_stop (pairs_of_text n bytes);
-}
+pairs_input n name = input_from (pairs_fault_within n) (pairs_of_text n) pairs_stop name
 
 -- an index file
 abbrev pub index_input : List ℕ → Input HubIndex
-index_input name = record {
-  name = name;
-  plain = λ bytes. option_map index_stop (fault_within bytes);
-  comes_to = λ bytes. judged index_stop (index_of bytes);
-}
+index_input name = input_from fault_within index_of index_stop name
 
 -- both nodes of each pair are of 1..n
 abbrev pub ArePairsWithin : ℕ → List (ℕ × ℕ) → Type 0

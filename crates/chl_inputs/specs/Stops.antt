@@ -75,3 +75,21 @@ pairs_memory_once pairs_faults.NoMemory = tt
 pub index_memory_once : (fault : IndexFault) → HasMemoryOnce (index_stop fault)
 index_memory_once index_faults.NoMemory = tt
 index_memory_once fault = λ same. cc
+
+-- and no failed call
+pub graph_no_call : (fault : GrFault) → graph_stop fault ≢ ReadFailed
+graph_no_call (graph_faults.Text fault) = λ same. cc
+graph_no_call (graph_faults.Overflow n weight) = λ same. cc
+graph_no_call graph_faults.NoMemory = λ same. cc
+
+pub order_no_call : (fault : OrderFault) → order_stop fault ≢ ReadFailed
+order_no_call order_faults.NoMemory = λ same. cc
+order_no_call fault = λ same. cc
+
+pub pairs_no_call : (fault : PairsFault) → pairs_stop fault ≢ ReadFailed
+pairs_no_call (pairs_faults.Text fault) = λ same. cc
+pairs_no_call pairs_faults.NoMemory = λ same. cc
+
+pub index_no_call : (fault : IndexFault) → index_stop fault ≢ ReadFailed
+index_no_call index_faults.NoMemory = λ same. cc
+index_no_call fault = λ same. cc

@@ -9,10 +9,10 @@ use rank_table::{OrderFault, OrderReader};
 
 /// A reader of an input, at whose faults a command stops.
 pub trait StopsAt: Reader {
-    ghost use Rattle.std.specs.Prelude.{◌≡◌};
+    ghost use Rattle.std.specs.Prelude.{◌≡◌, ◌≢◌};
     ghost use Rattle.chl_inputs.specs.Stops.{HasMemoryOnce};
     ghost use Rattle.chl_inputs.specs.declared.stop.Stop.{Stop as AnyStop};
-    ghost use Rattle.chl_inputs.specs.declared.stop.Stop.TheVariants.{NoMemory};
+    ghost use Rattle.chl_inputs.specs.declared.stop.Stop.TheVariants.{ReadFailed, NoMemory};
 
     /// How the command stops at a fault.
     ghost stop_of: { Self.Fault → AnyStop };
@@ -25,11 +25,14 @@ pub trait StopsAt: Reader {
     ghost want: { stop_of Self.no_memory ≡ NoMemory };
 
     ghost memory_once: { (fault : Self.Fault) → HasMemoryOnce (stop_of fault) };
+
+    /// And a fault is no failed call.
+    ghost no_call: { (fault : Self.Fault) → stop_of fault ≢ ReadFailed };
 }
 
 impl StopsAt for GrReader {
     ghost use Rattle.std.specs.Prelude.{refl};
-    ghost use Rattle.chl_inputs.specs.Stops.{graph_stop, graph_memory_once};
+    ghost use Rattle.chl_inputs.specs.Stops.{graph_stop, graph_memory_once, graph_no_call};
 
     ghost stop_of = { graph_stop };
 
@@ -44,11 +47,13 @@ impl StopsAt for GrReader {
     ghost want = { refl };
 
     ghost memory_once = { graph_memory_once };
+
+    ghost no_call = { graph_no_call };
 }
 
 impl StopsAt for OrderReader {
     ghost use Rattle.std.specs.Prelude.{refl};
-    ghost use Rattle.chl_inputs.specs.Stops.{order_stop, order_memory_once};
+    ghost use Rattle.chl_inputs.specs.Stops.{order_stop, order_memory_once, order_no_call};
 
     ghost stop_of = { order_stop };
 
@@ -62,11 +67,13 @@ impl StopsAt for OrderReader {
     ghost want = { refl };
 
     ghost memory_once = { order_memory_once };
+
+    ghost no_call = { order_no_call };
 }
 
 impl StopsAt for PairsReader {
     ghost use Rattle.std.specs.Prelude.{refl};
-    ghost use Rattle.chl_inputs.specs.Stops.{pairs_stop, pairs_memory_once};
+    ghost use Rattle.chl_inputs.specs.Stops.{pairs_stop, pairs_memory_once, pairs_no_call};
 
     ghost stop_of = { pairs_stop };
 
@@ -80,11 +87,13 @@ impl StopsAt for PairsReader {
     ghost want = { refl };
 
     ghost memory_once = { pairs_memory_once };
+
+    ghost no_call = { pairs_no_call };
 }
 
 impl StopsAt for IndexReader {
     ghost use Rattle.std.specs.Prelude.{refl};
-    ghost use Rattle.chl_inputs.specs.Stops.{index_stop, index_memory_once};
+    ghost use Rattle.chl_inputs.specs.Stops.{index_stop, index_memory_once, index_no_call};
 
     ghost stop_of = { index_stop };
 
@@ -98,6 +107,8 @@ impl StopsAt for IndexReader {
     ghost want = { refl };
 
     ghost memory_once = { index_memory_once };
+
+    ghost no_call = { index_no_call };
 }
 
 /// How a command stops at the end of a reading.

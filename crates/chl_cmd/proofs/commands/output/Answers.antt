@@ -1,0 +1,1 @@
+use Rattle.chl_cmd.proofs.commands.output.Goals as goal
