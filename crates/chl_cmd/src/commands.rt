@@ -10,12 +10,12 @@ mod query;
 mod solve;
 
 use crate::words::{Asked, Construction, Name};
-use build::build;
+use build::build_output;
 use chl_inputs::Stop;
 use desk_io::{Desk, Gate};
-use list::list;
-use query::query;
-use solve::solve;
+use list::list_output;
+use query::query_output;
+use solve::solve_output;
 use std::alloc::Global;
 use std::sync::Wait;
 use std::thread::Threads;
@@ -32,7 +32,7 @@ pub fn output<R: Threads + Wait + Sync, D: Desk, G: Gate + Sync>(
     ensures { Goes D.Desk (stage_of asked.now) (bytes_of result) desk.old desk.new }
 {
     match asked {
-        Asked::List { graph, order } => list(rt, alloc, graph.text(), order.text(), desk),
+        Asked::List { graph, order } => list_output(rt, alloc, graph.text(), order.text(), desk),
         Asked::Build {
             graph,
             order,
@@ -46,7 +46,7 @@ pub fn output<R: Threads + Wait + Sync, D: Desk, G: Gate + Sync>(
                 workers: *workers,
                 cut: *cut,
             };
-            build(rt, alloc, graph.text(), order.text(), construction, desk, gate)
+            build_output(rt, alloc, graph.text(), order.text(), construction, desk, gate)
         }
         Asked::Solve {
             graph,
@@ -61,9 +61,9 @@ pub fn output<R: Threads + Wait + Sync, D: Desk, G: Gate + Sync>(
                 workers: *workers,
                 cut: *cut,
             };
-            solve(rt, alloc, graph.text(), order.text(), pairs.text(), construction, desk, gate)
+            solve_output(rt, alloc, graph.text(), order.text(), pairs.text(), construction, desk, gate)
         }
-        Asked::Query { index, pairs } => query(rt, alloc, index.text(), pairs.text(), desk),
+        Asked::Query { index, pairs } => query_output(rt, alloc, index.text(), pairs.text(), desk),
     }
 }
 

@@ -19,7 +19,7 @@ use std::thread::Threads;
 use walk_laws::Graph;
 
 /// The bytes of the index file of the canonical hub labelling of a graph under an order.
-pub fn build<R: Threads + Wait + Sync, D: Desk, G: Gate + Sync>(
+pub fn build_output<R: Threads + Wait + Sync, D: Desk, G: Gate + Sync>(
     rt: &R,
     alloc: Global,
     graph: &str,

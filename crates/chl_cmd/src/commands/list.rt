@@ -18,7 +18,7 @@ use std::thread::Threads;
 use walk_laws::Graph;
 
 /// The lines of the rows of the canonical hub labelling of a graph under an order, planted on one thread.
-pub fn list<R: Threads + Wait + Sync, D: Desk>(
+pub fn list_output<R: Threads + Wait + Sync, D: Desk>(
     rt: &R,
     alloc: Global,
     graph: &str,

@@ -17,7 +17,7 @@ use std::thread::Threads;
 
 /// The lines of what the rows of an index file say of the pairs of a text: right answers where the index is that of the
 /// canonical hub labelling, and else no worse than what its rows have.
-pub fn query<R: Threads + Wait + Sync, D: Desk>(
+pub fn query_output<R: Threads + Wait + Sync, D: Desk>(
     rt: &R,
     alloc: Global,
     index: &str,

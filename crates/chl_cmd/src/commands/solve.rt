@@ -22,7 +22,7 @@ use std::thread::Threads;
 use walk_laws::Graph;
 
 /// The lines of the distances of the pairs of a text in a graph, each with the highest-ranked node between.
-pub fn solve<R: Threads + Wait + Sync, D: Desk, G: Gate + Sync>(
+pub fn solve_output<R: Threads + Wait + Sync, D: Desk, G: Gate + Sync>(
     rt: &R,
     alloc: Global,
     graph: &str,

@@ -2,7 +2,7 @@ use Rattle.std.specs.Prelude.{Ok}
 use Rattle.std.proofs.Common.{ap, refl}
 use Rattle.std.proofs.lemmas.Result.{err_from_is_err_and}
 use Rattle.chl_inputs.proofs.StagesInTurn.{goes_comes, goes_lost, goes_reads, goes_reads_stop, goes_works}
-use Rattle.chl_cmd.proofs.commands.list.list.Goals as goal
+use Rattle.chl_cmd.proofs.commands.list.list_output.Goals as goal
 
 pub returns-in_err-graph : goal.returns-in_err-graph
 returns-in_err-graph g c =
