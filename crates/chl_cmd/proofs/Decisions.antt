@@ -35,6 +35,7 @@ use Rattle.chl_inputs.specs.declared.stop.Stop.{Stop}
 use Rattle.chl_inputs.proofs.StageLaws.{Answerable, Determined, decided_always, decided_once, after_ok, after_told, after_value}
 use Rattle.chl_inputs.proofs.StagesInTurn.{same_value}
 use Rattle.chl_lines.specs.PrintedAnswers.{answer_lines}
+use Rattle.chl_lines.specs.PrintedRows.{lines_from}
 use Rattle.chl_cmd.specs.Commands.{Decides, stage_of, labelling_stage, list_stage, build_stage, solve_stage, query_stage, answers_stage, AreAnswers}
 use Rattle.chl_cmd.specs.declared.words.asked.By.{By}
 use Rattle.chl_cmd.specs.declared.words.asked.Asked.{Asked}
@@ -144,14 +145,14 @@ module _ (index pairs : List ℕ) (files : Files) where
 
 -- a case for each command
 has_answer : (asked : Asked) (files : Files) → Answerable (stage_of asked) files
-has_answer (ListRows graph order) files = labelling_always _ graph order files
-has_answer (Build graph order out by workers cut) files = labelling_always _ graph order files
+has_answer (ListRows graph order) files = labelling_always (λ at rows. lines_from at 1 rows) graph order files
+has_answer (Build graph order out by workers cut) files = labelling_always index_bytes graph order files
 has_answer (Solve graph order pairs by workers cut) files = solve_always graph order pairs files
 has_answer (Query index pairs) files = query_always index pairs files
 
 has_one_answer : (asked : Asked) (files : Files) → Determined (stage_of asked) files
-has_one_answer (ListRows graph order) files = labelling_once _ graph order files
-has_one_answer (Build graph order out by workers cut) files = labelling_once _ graph order files
+has_one_answer (ListRows graph order) files = labelling_once (λ at rows. lines_from at 1 rows) graph order files
+has_one_answer (Build graph order out by workers cut) files = labelling_once index_bytes graph order files
 has_one_answer (Solve graph order pairs by workers cut) files = solve_once graph order pairs files
 has_one_answer (Query index pairs) files = query_once index pairs files
 
@@ -193,7 +194,7 @@ queries_answer graph order out index pairs by workers cut files others bytes ans
     (says.0, answers_of_rows g is_graph at rank.0 rank.1 rows chl asked (pairs_of_stage g.n pairs files asked pairs_is) says.0 says.1, says.2)) of_files))
   where
     Labelled : WeightedGraph → List ℕ → Type 0
-    Labelled g at = (rows : List (List Entry)) × IsChl (Joined g.edges) at rows × (Ok bytes ≡ Ok (index_bytes at rows))
+    Labelled g at = (rows : List (List Entry)) × IsChl (Joined g.edges) at rows × (◌≡◌ {A = Result (List ℕ) Stop} (Ok bytes) (Ok (index_bytes at rows)))
 
     Says : List ℕ → List (List Entry) → List (ℕ × ℕ) → Type 0
     Says at rows asked = (answers : List (Option (ℕ × ℕ))) × AreAnswers (IsMeet at rows) asked answers × (answer ≡ Ok (answer_lines asked answers))

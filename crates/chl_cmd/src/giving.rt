@@ -10,10 +10,10 @@ use desk_io::{Desk, DeskFault, Out, write_all};
 
 /// Gives bytes: to the file of this name, which it creates, or to standard output.
 pub fn give<D: Desk>(desk: &mut D, out: Option<&Name>, bytes: &[u8]) -> Result<(), DeskFault>
-    ensures ok { OnOk result (Tells (D.told desk.old) (D.told desk.new) (λ a b. b ≡ given (option_copied out) bytes.now a)) }
-    ensures err { OnErr result (Tells (D.told desk.old) (D.told desk.new) (GivesFront (option_copied out) bytes.now)) }
+    ensures ok { OnOk result (Tells (D.told desk.old) (D.told desk.new) (λ a b. b ≡ given (option_copied out.entry) bytes.now a)) }
+    ensures err { OnErr result (Tells (D.told desk.old) (D.told desk.new) (GivesFront (option_copied out.entry) bytes.now)) }
     ensures steady { IsSteady (D.told desk.old) → result ≢ Err Failed }
-    ensures no_place { option_copied out ≡ None → D.is_created desk.new ≡ D.is_created desk.old }
+    ensures no_place { option_copied out.entry ≡ None → D.is_created desk.new ≡ D.is_created desk.old }
     ensures input_count { D.input_faults desk.new ≡ D.input_faults desk.old }
     ensures output_count { CountsFailure result (D.output_faults desk.old) (D.output_faults desk.new) }
 {

@@ -39,7 +39,7 @@ pub fn replies_text<R: Threads + Wait + Sync>(
     index: &Index,
     pairs: &Pairs,
 ) -> Result<Vec<u8>, AllocError>
-    requires { ArePairsWithin (length index.now.order) pairs.now }
+    requires within { ArePairsWithin (length index.now.order) pairs.now }
     ensures { IfOk result (λ text. (answers : List (Option (ℕ × ℕ))) × AreAnswers (IsMeet index.now.order index.now.rows) pairs.now answers
         × (text.items ≡ lines_of_answers pairs.now answers)) }
 {

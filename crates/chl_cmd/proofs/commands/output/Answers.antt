@@ -1,1 +1,17 @@
 use Rattle.chl_cmd.proofs.commands.output.Goals as goal
+
+pub returns-in-List : goal.returns-in-List
+returns-in-List g c =
+    rw c.in-List.is (rw (c.text.ensures, c.text-in-List.ensures) at c.list_output.ensures)
+
+pub returns-in-Build : goal.returns-in-Build
+returns-in-Build g c =
+    rw c.in-Build.is (rw (c.text-in-Build.ensures, c.text-in-Build-2.ensures) at c.build_output.ensures)
+
+pub returns-in-Solve : goal.returns-in-Solve
+returns-in-Solve g c =
+    rw c.in-Solve.is (rw (c.text-in-Solve.ensures, c.text-in-Solve-2.ensures, c.text-in-Solve-3.ensures) at c.solve_output.ensures)
+
+pub returns-in-Query : goal.returns-in-Query
+returns-in-Query g c =
+    rw c.in-Query.is (rw (c.text-in-Query.ensures, c.text-in-Query-2.ensures) at c.query_output.ensures)

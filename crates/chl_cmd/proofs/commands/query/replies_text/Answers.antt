@@ -1,9 +1,19 @@
-use Rattle.std.proofs.lemmas.Slice.Zip.{AllZip-long}
 use Rattle.std.proofs.Common.{map}
+use Rattle.std.proofs.lemmas.Result.{IfOk-weaker}
+use Rattle.std.proofs.lemmas.Slice.Zip.{AllZip-long}
 use Rattle.hub_query.specs.Meant.{meant}
 use Rattle.walk_laws.specs.Meet.{IsMeet}
 use Rattle.chl_cmd.proofs.PairAnswers.{answers_meant}
 use Rattle.chl_cmd.proofs.commands.query.replies_text.Goals as goal
 
 pub answer_lines-requires : goal.answer_lines-requires
-answer_lines-requires c = rw (c.list.ensures, c.list-2.ensures) (AllZip-long _ _ _ c.in_ok-answers.ensures)
+answer_lines-requires g c = rw (c.list.ensures, c.list-2.ensures) (AllZip-long _ _ _ c.in_ok-answers.ensures)
+
+pub returns : goal.returns
+returns g c =
+    let lines = rw (c.list.ensures, c.list-2.ensures) at c.answer_lines.ensures in
+    IfOk-weaker c.answer_lines.result _ _ (λ text is. (
+      map meant c.in_ok-answers.answers,
+      answers_meant (IsMeet c.args.index.now.order c.args.index.now.rows) c.args.pairs.now c.in_ok-answers.answers c.in_ok-answers.ensures,
+      is,
+    )) lines
