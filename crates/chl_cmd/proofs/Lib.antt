@@ -5,3 +5,4 @@ pub mod OneCommand
 pub mod PairAnswers
 pub mod Decisions
 pub mod Endings
+pub mod WaysToEnd
