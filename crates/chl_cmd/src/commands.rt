@@ -46,7 +46,15 @@ pub fn output<R: Threads + Wait + Sync, D: Desk, G: Gate + Sync>(
                 workers: *workers,
                 cut: *cut,
             };
-            build_output(rt, alloc, graph.text(), order.text(), construction, desk, gate)
+            build_output(
+                rt,
+                alloc,
+                graph.text(),
+                order.text(),
+                construction,
+                desk,
+                gate,
+            )
         }
         Asked::Solve {
             graph,
@@ -61,7 +69,16 @@ pub fn output<R: Threads + Wait + Sync, D: Desk, G: Gate + Sync>(
                 workers: *workers,
                 cut: *cut,
             };
-            solve_output(rt, alloc, graph.text(), order.text(), pairs.text(), construction, desk, gate)
+            solve_output(
+                rt,
+                alloc,
+                graph.text(),
+                order.text(),
+                pairs.text(),
+                construction,
+                desk,
+                gate,
+            )
         }
         Asked::Query { index, pairs } => query_output(rt, alloc, index.text(), pairs.text(), desk),
     }

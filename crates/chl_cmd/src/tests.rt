@@ -12,8 +12,8 @@ use index_file::IndexFault;
 use rank_table::OrderFault;
 use std::alloc::{AllocError, Global};
 use std::process::Abort;
-use std::test::Fail;
 use std::sync::Wait;
+use std::test::Fail;
 use std::thread::Threads;
 
 /// A run over a desk that has the files `g` and `o`, and what it is to come to.
@@ -92,7 +92,10 @@ fn expect<R: Abort + AllocGlobal + Threads + Wait + Sync>(
 }
 
 /// Runs each case in pieces of each size.
-fn expect_all<R: Abort + AllocGlobal + Threads + Wait + Sync>(rt: &R, cases: &[Case]) -> Result<(), Fail> {
+fn expect_all<R: Abort + AllocGlobal + Threads + Wait + Sync>(
+    rt: &R,
+    cases: &[Case],
+) -> Result<(), Fail> {
     for case in cases {
         for bite in BITES {
             assert!(rt; 0 < bite);
