@@ -2,6 +2,7 @@ ghost use Rattle.std.specs.Prelude.{◌<◌};
 
 mod desks;
 mod files;
+mod gates;
 mod pairs;
 mod texts;
 

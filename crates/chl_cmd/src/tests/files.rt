@@ -77,7 +77,7 @@ fn one_file_for_all_workers(rt: HostRuntime) -> Result<(), Fail> {
 }
 
 /// The text of a grid of side 6: node 6 r + c + 1 at row r and column c, an edge to the right and one down.
-fn grid_of_side_6(alloc: Global) -> Result<String, AllocError> {
+pub fn grid_of_side_6(alloc: Global) -> Result<String, AllocError> {
     let mut text = String::from_str(alloc, "p sp 36 60\n")?;
     for v in 1..37u32 {
         if v % 6 != 0 {
@@ -93,7 +93,7 @@ fn grid_of_side_6(alloc: Global) -> Result<String, AllocError> {
 }
 
 /// The order of 36 nodes by steps of 7.
-fn order_by_steps(alloc: Global) -> Result<String, AllocError> {
+pub fn order_by_steps(alloc: Global) -> Result<String, AllocError> {
     let mut text = String::new(alloc);
     for k in 0..36u32 {
         let line = format!(in alloc; "{}\n", k * 7 % 36 + 1)?;

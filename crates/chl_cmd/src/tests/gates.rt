@@ -1,0 +1,294 @@
+//! Builds watched by gates: that two workers grow trees at the same time, and what a gate is told.
+ghost use Rattle.std.specs.Prelude.{◌≡◌, IfOk, length};
+
+use super::files::{grid_of_side_6, order_by_steps};
+use super::*;
+use desk_io::{Feed, Gate, Reader};
+use dimacs_text::GrReader;
+use hub_index::Index;
+use index_file::encode;
+use lcc_build::build_lcc;
+use plant_build::build_plant;
+use rank_table::{OrderReader, Ranking};
+use std::sync::atomic::{AtomicU32, Ordering};
+use std::thread::yield_now;
+use walk_laws::Graph;
+
+/// A word that one thread sets and another waits for, at most so many turns.
+#[derive(Drop)]
+struct Signal {
+    given: AtomicU32,
+}
+
+const TURNS: u32 = 50_000_000;
+
+impl Signal {
+    fn new() -> Signal {
+        Signal {
+            given: AtomicU32::new(0),
+        }
+    }
+
+    fn give(&self) {
+        self.given.store(1, Ordering::SeqCst);
+    }
+
+    /// Whether it was given before the turns ran out.
+    fn comes(&self) -> bool {
+        for _ in 0..TURNS {
+            if self.given.load(Ordering::SeqCst) == 1 {
+                return true;
+            }
+            yield_now();
+        }
+        false
+    }
+}
+
+/// What a gate saw of two roots: how many entries the second one's tree put, and whether a wait ran out.
+#[derive(Drop)]
+struct Seen {
+    puts: AtomicU32,
+    ran_out: AtomicU32,
+}
+
+impl Seen {
+    fn new() -> Seen {
+        Seen {
+            puts: AtomicU32::new(0),
+            ran_out: AtomicU32::new(0),
+        }
+    }
+
+    fn wait_for(&self, signal: &Signal) {
+        if !signal.comes() {
+            self.ran_out.store(1, Ordering::SeqCst);
+        }
+    }
+
+    fn puts(&self) -> Option<u32> {
+        if self.ran_out.load(Ordering::SeqCst) == 1 {
+            return None;
+        }
+        Some(self.puts.load(Ordering::SeqCst))
+    }
+}
+
+/// The first root begins only when the second one's tree has ended.
+#[derive(Drop)]
+struct SecondBeforeFirst {
+    seen: Seen,
+    second_ended: Signal,
+}
+
+impl Gate for SecondBeforeFirst {
+    fn begins(&self, p: u32) {
+        if p == 0 {
+            self.seen.wait_for(&self.second_ended);
+        }
+    }
+
+    fn ends(&self, p: u32, puts: u32) {
+        if p == 1 {
+            self.seen.puts.store(puts, Ordering::SeqCst);
+            self.second_ended.give();
+        }
+    }
+}
+
+/// The second root's tree grows when the first one's has ended; but it has begun before the first one's worker goes on.
+#[derive(Drop)]
+struct FirstBeforeSecond {
+    seen: Seen,
+    first_ended: Signal,
+    second_begun: Signal,
+}
+
+impl Gate for FirstBeforeSecond {
+    fn begins(&self, p: u32) {
+        if p == 1 {
+            self.second_begun.give();
+            self.seen.wait_for(&self.first_ended);
+        }
+    }
+
+    fn ends(&self, p: u32, puts: u32) {
+        if p == 0 {
+            self.first_ended.give();
+            self.seen.wait_for(&self.second_begun);
+        }
+        if p == 1 {
+            self.seen.puts.store(puts, Ordering::SeqCst);
+        }
+    }
+}
+
+fn second_before_first() -> SecondBeforeFirst {
+    SecondBeforeFirst {
+        seen: Seen::new(),
+        second_ended: Signal::new(),
+    }
+}
+
+fn first_before_second() -> FirstBeforeSecond {
+    FirstBeforeSecond {
+        seen: Seen::new(),
+        first_ended: Signal::new(),
+        second_begun: Signal::new(),
+    }
+}
+
+/// The graph and the ranking that two texts stand for.
+fn read<R: Abort>(rt: &R, alloc: Global, graph: &str, order: &str) -> Result<(Graph, Ranking), Fail>
+    ensures { IfOk result (λ read. length read.1 ≡ read.0.n) }
+{
+    let mut reader = GrReader::new(alloc)?;
+    assert!(rt; reader.feed(graph.as_bytes()).is_ok());
+    let Ok(graph) = reader.finish() else {
+        panic!(rt; "the graph")
+    };
+    let mut reader = OrderReader::new(alloc, graph.n())?;
+    assert!(rt; reader.feed(order.as_bytes()).is_ok());
+    let Ok(ranking) = reader.finish() else {
+        panic!(rt; "the order")
+    };
+    assert_eq!(rt; ranking.n(), graph.n());
+    Ok((graph, ranking))
+}
+
+const SQUARE_ORDER: &str = "1\n2\n3\n4\n";
+
+const BY_LCC: &str = "chl build --graph g --order o --out x --by lcc --workers 2";
+
+/// Two workers have roots 0 and 1 of the square 1-2-3-4-1 at the same time. The tree of root 1 puts three entries where it
+/// grows before that of root 0, and two after it: it finds then that node 1 covers the way to node 4.
+#[test]
+fn two_roots_at_once(rt: HostRuntime) -> Result<(), Fail> {
+    let (graph, ranking) = read(&rt, rt.alloc(), SQUARE, SQUARE_ORDER)?;
+    let gate = second_before_first();
+    build_lcc(&rt, rt.alloc(), &graph, &ranking, 2, &gate)?;
+    assert_eq!(rt; gate.seen.puts(), Some(3));
+    let gate = first_before_second();
+    build_lcc(&rt, rt.alloc(), &graph, &ranking, 2, &gate)?;
+    assert_eq!(rt; gate.seen.puts(), Some(2));
+    Ok(())
+}
+
+/// The same through a run: it grows pruned trees, in two threads, over rows that both write.
+#[test]
+fn two_roots_at_once_in_a_run(rt: HostRuntime) -> Result<(), Fail> {
+    let mut desk = desk_of(rt.alloc(), 4096, &[], SQUARE, SQUARE_ORDER)?;
+    let words = words_of(rt.alloc(), BY_LCC)?;
+    let gate = second_before_first();
+    assert_eq!(rt;
+        run(&rt, rt.alloc(), words.as_slice(), &mut desk, &gate),
+        Status::Done
+    );
+    assert_eq!(rt; gate.seen.puts(), Some(3));
+    let gate = first_before_second();
+    assert_eq!(rt;
+        run(&rt, rt.alloc(), words.as_slice(), &mut desk, &gate),
+        Status::Done
+    );
+    assert_eq!(rt; gate.seen.puts(), Some(2));
+    Ok(())
+}
+
+/// How often each root began, how often it ended, and how many entries it put.
+#[derive(Drop)]
+struct Roots {
+    begun: Vec<AtomicU32>,
+    ended: Vec<AtomicU32>,
+    puts: Vec<AtomicU32>,
+}
+
+impl Roots {
+    fn new(alloc: Global, n: u32) -> Result<Roots, AllocError> {
+        let mut begun = Vec::new(alloc);
+        let mut ended = Vec::new(alloc);
+        let mut puts = Vec::new(alloc);
+        for _ in 0..n {
+            begun.push(AtomicU32::new(0))?;
+            ended.push(AtomicU32::new(0))?;
+            puts.push(AtomicU32::new(0))?;
+        }
+        Ok(Roots { begun, ended, puts })
+    }
+}
+
+impl Gate for Roots {
+    fn begins(&self, p: u32) {
+        if let Some(begun) = self.begun.get(p as usize) {
+            begun.fetch_add(1, Ordering::SeqCst);
+        }
+    }
+
+    fn ends(&self, p: u32, puts: u32) {
+        if let Some(ended) = self.ended.get(p as usize) {
+            ended.fetch_add(1, Ordering::SeqCst);
+        }
+        if let Some(all) = self.puts.get(p as usize) {
+            all.fetch_add(puts, Ordering::SeqCst);
+        }
+    }
+}
+
+/// Checks that each root began once and ended once.
+fn expect_each_once<R: Abort>(rt: &R, roots: &Roots) {
+    for begun in &roots.begun {
+        assert_eq!(rt; begun.load(Ordering::SeqCst), 1);
+    }
+    for ended in &roots.ended {
+        assert_eq!(rt; ended.load(Ordering::SeqCst), 1);
+    }
+}
+
+/// How many entries of an index have this position.
+fn entries_at(index: &Index, p: usize) -> u32 {
+    let mut entries = 0u32;
+    for v in 0..index.n() {
+        for entry in index.row(v + 1) {
+            if entry.pos as usize == p {
+                entries = entries.saturating_add(1);
+            }
+        }
+    }
+    entries
+}
+
+/// Checks that each root ended with as many entries as the index has of it, or with no fewer.
+fn expect_puts<R: Abort>(rt: &R, roots: &Roots, index: &Index, exact: bool) {
+    for (p, puts) in roots.puts.iter().enumerate() {
+        let puts = puts.load(Ordering::SeqCst);
+        let entries = entries_at(index, p);
+        assert!(rt; puts >= entries);
+        assert!(rt; !exact || puts == entries);
+    }
+}
+
+/// Whatever the construction and the number of workers, each root of a grid of side 6 begins once and ends once, and the file
+/// is the same. Planted trees put the entries of the index; pruned ones of one worker, too, and of many maybe more, which
+/// cleaning deletes.
+#[test]
+fn each_root_begins_and_ends_once(rt: HostRuntime) -> Result<(), Fail> {
+    let grid = grid_of_side_6(rt.alloc())?;
+    let steps = order_by_steps(rt.alloc())?;
+    let (graph, ranking) = read(&rt, rt.alloc(), grid.as_str(), steps.as_str())?;
+    let index = build_plant(&rt, rt.alloc(), &graph, &ranking, 1, 1024, &FreeGate)?;
+    let wanted = encode(rt.alloc(), &index)?;
+    for workers in [1u32, 2, 4] {
+        assert!(rt; 1 <= workers);
+        assert!(rt; workers <= 64);
+        let roots = Roots::new(rt.alloc(), 36)?;
+        let index = build_lcc(&rt, rt.alloc(), &graph, &ranking, workers, &roots)?;
+        expect_each_once(&rt, &roots);
+        expect_puts(&rt, &roots, &index, workers == 1);
+        assert_eq!(rt; encode(rt.alloc(), &index)?.as_slice(), wanted.as_slice());
+        let roots = Roots::new(rt.alloc(), 36)?;
+        let index = build_plant(&rt, rt.alloc(), &graph, &ranking, workers, 1, &roots)?;
+        expect_each_once(&rt, &roots);
+        expect_puts(&rt, &roots, &index, true);
+        assert_eq!(rt; encode(rt.alloc(), &index)?.as_slice(), wanted.as_slice());
+    }
+    Ok(())
+}
