@@ -18,8 +18,10 @@ use std::sync::Wait;
 use std::thread;
 use std::thread::Threads;
 use walk_laws::Graph;
+use walk_laws::laws::the_lightest_edges_keep_the_labelling;
 
-/// The index of the canonical hub labelling of a graph under a ranking of its nodes. So many workers claim roots one by one,
+/// The index of the canonical hub labelling of a graph under a ranking of its nodes. It begins with the edges that matter: of
+/// those between two nodes the lightest. So many workers claim roots one by one,
 /// by rising position, and grow their pruned trees at the same time over rows that all of them write; then the rows are
 /// cleaned, on all cores. The gate sees each root begin, and end with the number of entries that its tree put. The only
 /// error is that memory ran out.
@@ -45,9 +47,11 @@ pub fn build_lcc<R: Threads + Wait + Sync, G: Gate + Sync>(
     let ranked = ranking.n();
     prove!(n == ranked);
     let order = ranking.copy(alloc)?;
-    let raw = raw_rows(rt, alloc, graph, ranking, workers, gate)?;
+    let light = graph.lightest(alloc)?;
+    let raw = raw_rows(rt, alloc, &light, ranking, workers, gate)?;
     let rows = clean_in_place(rt, alloc, ranking, raw)?;
     the_whole_is_the_labelling();
+    the_lightest_edges_keep_the_labelling();
     Ok(Index::new(order, rows))
 }
 
