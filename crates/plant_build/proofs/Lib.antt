@@ -1,3 +1,3 @@
 pub mod PlantedRows
 pub mod TestOrders
-pub mod WaitingEntries
+pub mod HeldParts

@@ -1,2 +1,4 @@
-pub mod Batches
 pub mod TreeEntries
+pub mod Gains
+pub mod Workers
+pub mod Marks

@@ -1,23 +1,30 @@
-ghost use Rattle.std.specs.Prelude.{◌≡◌, ℕ, ◌^◌, ◌≤◌, ◌++◌, length, IfOk, OnOk};
+ghost use Rattle.std.specs.Prelude.{◌≡◌, ℕ, ◌^◌, ◌≤◌, List, All, length, IfOk, OnOk, IfSome};
+ghost use Rattle.walk_laws.specs.declared.graph.Edge.{Edge as AnEdge};
 ghost use Rattle.walk_laws.specs.Joined.{Joined};
-ghost use Rattle.walk_laws.specs.Labelling.{IsChl, label_row};
+ghost use Rattle.walk_laws.specs.Labelling.{IsChl};
+ghost use Rattle.hub_index.specs.Sunk.{sunk_at, HoldsPart};
 ghost use Rattle.hub_index.specs.WellFormed.{IsWellFormed};
-ghost use Rattle.plant_tree.specs.Planted.{AreOfNodes};
-ghost use Rattle.plant_build.specs.TreeEntries.{entries_of};
+ghost use Rattle.plant_build.specs.Marks.{Adds, HasCome, IsMissing};
+ghost use Rattle.plant_build.specs.Workers.{IsReady, HasWorked};
 
-use crate::batched_rows::BatchedRows;
+use crate::batch::plant_batch;
+use crate::hand::deal;
+use crate::worker::PlantWorker;
 use desk_io::Gate;
-use hub_index::{Index, RowList};
+use hub_index::{EntrySink, Index, RowList, gather};
 use plant_tree::Planter;
 use rank_table::Ranking;
 use std::alloc::{AllocError, Global};
-use walk_laws::{Entry, Graph};
+use std::sync::Wait;
+use std::thread::{self, Threads};
+use walk_laws::Graph;
 
-/// The index of the canonical hub labelling of a graph under a ranking of its nodes. It plants the tree of every root, by
-/// rising position, on one thread; how many workers are asked for and how many roots make a batch changes nothing yet.
-/// The gate sees each root begin, and end with the number of its entries. The only error is that memory ran out.
-pub fn build_plant<R, G: Gate + Sync>(
-    _rt: &R,
+/// The index of the canonical hub labelling of a graph under a ranking of its nodes, by planted trees of all roots.
+/// The roots are dealt in batches of at most `cut` to so many workers, and who has none left steals from the others. The
+/// caller itself plants each batch that came from nobody. The gate sees each root begin, and end with the number of its
+/// entries. The only error is that memory ran out.
+pub fn build_plant<R: Threads + Wait + Sync, G: Gate + Sync>(
+    rt: &R,
     alloc: Global,
     graph: &Graph,
     ranking: &Ranking,
@@ -34,48 +41,175 @@ pub fn build_plant<R, G: Gate + Sync>(
     ensures labelling { IfOk result (λ index. IsChl (Joined graph.now.edges) ranking.now index.rows) }
 {
     let order = ranking.copy(alloc)?;
-    let rows = planted_rows(alloc, graph, ranking, gate)?;
+    let lightest = graph.lightest(alloc)?;
+    let rows = planted_rows(rt, alloc, &lightest, ranking, workers, cut, gate)?;
     Ok(Index::new(order, rows))
 }
 
-/// The rows of the labelling: the trees of all roots are put into them, by rising position.
-fn planted_rows<G: Gate>(
+/// The rows of the labelling: the trees of all roots are planted by the workers, and what they put is gathered.
+fn planted_rows<R: Threads + Wait + Sync, G: Gate + Sync>(
+    rt: &R,
     alloc: Global,
     graph: &Graph,
     ranking: &Ranking,
+    workers: u32,
+    cut: u32,
     gate: &G,
 ) -> Result<RowList, AllocError>
-    requires { length ranking.now ≡ graph.now.n }
+    requires nodes { length ranking.now ≡ graph.now.n }
+    requires workers_from { 1 ≤ workers }
+    requires workers_to { workers ≤ 64 }
+    requires cut_from { 1 ≤ cut }
     ensures labelling { IfOk result (λ rows. IsChl (Joined graph.now.edges) ranking.now rows) }
     ensures well_formed { IfOk result (λ rows. IsWellFormed ranking.now rows) }
 {
     let n = graph.n();
-    let mut planter = Planter::new(alloc, n)?;
-    let mut rows = BatchedRows::new(alloc, n)?;
-    for p in 0..ranking.n() {
-        gate.begins(p);
-        let (planted, _settled) = planter.plant(alloc, graph, ranking, p)?;
-        add_tree(&mut rows, p, &planted)?;
-        gate.ends(p, planted.len() as u32);
-    }
-    rows.into_rows()
+    let roots = ranking.n();
+    let batches = roots.div_ceil(cut).max(1).min(1 << 30);
+    let mut crew = crew_of(alloc, n, batches, workers)?;
+    work(rt, alloc, graph, ranking, batches, gate, &mut crew, workers);
+    let (come, mut sinks) = collect(alloc, batches, crew)?;
+    sinks.push(plant_missing(alloc, graph, ranking, batches, gate, &come)?)?;
+    gather(rt, alloc, n, &sinks)
 }
 
-/// Puts the entries of the tree of the root at the position `p` at the ends of the rows of its nodes.
-fn add_tree(rows: &mut BatchedRows, p: u32, planted: &[(u32, u64)]) -> Result<(), AllocError>
-    requires { AreOfNodes (length rows.old) planted.now }
-    ensures size { OnOk result (length rows.new ≡ length rows.old) }
-    ensures grows { OnOk result ((v : ℕ) → 1 ≤ v → v ≤ length rows.old
-        → label_row rows.new v ≡ label_row rows.old v ++ entries_of p v planted.now) }
+/// The workers plant, side by side.
+fn work<R: Threads + Wait + Sync, G: Gate + Sync>(
+    rt: &R,
+    alloc: Global,
+    graph: &Graph,
+    ranking: &Ranking,
+    batches: u32,
+    gate: &G,
+    crew: &mut [PlantWorker],
+    workers: u32,
+)
+    requires ready { All (IsReady graph.now.n) crew.old }
+    requires ranked { length ranking.now ≡ graph.now.n }
+    requires few { batches ≤ 2 ^ 30 }
+    requires workers { 1 ≤ workers }
+    ensures worked { All (HasWorked graph.now.edges ranking.now batches graph.now.n) crew.new }
 {
-    for (v, dist) in planted {
-        rows.push(
-            *v,
-            Entry {
-                pos: p,
-                dist: *dist,
-            },
-        )?;
+    thread::for_each_mut(
+        rt,
+        crew,
+        workers as usize,
+        &|_place: usize, worker: &mut PlantWorker|
+            requires { IsReady graph.now.n worker.now × (length ranking.now ≡ graph.now.n) × (batches ≤ 2 ^ 30) }
+            ensures { HasWorked graph.entry.now.edges ranking.entry.now batches graph.entry.now.n worker.exit.now }
+        { worker.plant(rt, alloc, graph, ranking, batches, gate) },
+    );
+}
+
+/// What the workers have put, with a mark for each batch that has come. The only error is that memory ran out, for a
+/// worker or here.
+fn collect(
+    alloc: Global,
+    batches: u32,
+    crew: Vec<PlantWorker>,
+) -> Result<(Vec<bool>, Vec<EntrySink>), AllocError>
+    ensures size { IfOk result (λ got. length got.0.items ≡ batches) }
+    ensures come { IfOk result (λ got. (edges : List AnEdge) (at : List ℕ) (n : ℕ) → All (HasWorked edges at batches n) crew.items → HasCome edges at n got.0.items got.1.items) }
+{
+    let mut come = vec![in alloc; false; batches as usize]?;
+    let mut sinks = Vec::with_capacity(alloc, crew.len())?;
+    for worker in crew {
+        take_in(alloc, &mut come, &mut sinks, worker)?;
+    }
+    Ok((come, sinks))
+}
+
+/// A worker for each hand, among which the batches are dealt. A batch that its deque did not take counts as come from
+/// nobody. The only error is that memory ran out.
+fn crew_of(
+    alloc: Global,
+    n: u32,
+    batches: u32,
+    workers: u32,
+) -> Result<Vec<PlantWorker>, AllocError>
+    requires workers_from { 1 ≤ workers }
+    requires workers_to { workers ≤ 64 }
+    ensures ready { IfOk result (λ crew. All (IsReady n) crew.items) }
+{
+    let (hands, _left) = deal(alloc, batches, workers)?;
+    let mut crew = Vec::with_capacity(alloc, workers as usize)?;
+    for hand in hands {
+        crew.push(PlantWorker::new(alloc, n, hand)?)?;
+    }
+    Ok(crew)
+}
+
+/// Takes in what a worker has put, and marks its batches. Where one of them has come already, all of them count as come
+/// from nobody. The only error is that memory ran out, for the worker or here.
+fn take_in(
+    alloc: Global,
+    come: &mut Vec<bool>,
+    sinks: &mut Vec<EntrySink>,
+    worker: PlantWorker,
+) -> Result<(), AllocError>
+    ensures size { OnOk result (length come.new.items ≡ length come.old.items) }
+    ensures holds { OnOk result ((edges : List AnEdge) (at : List ℕ) (n : ℕ) → HasWorked edges at (length come.old.items) n worker
+        → HasCome edges at n come.old.items sinks.old.items → HasCome edges at n come.new.items sinks.new.items) }
+{
+    if !worker.memory {
+        return Err(AllocError);
+    }
+    if let Some(more) = marked(alloc, come, &worker.numbers)? {
+        *come = more;
+        sinks.push(worker.sink)?;
     }
     Ok(())
+}
+
+/// The marks with those of these numbers, or None where one of them is marked already, stands twice or has no mark. The
+/// only error is that memory ran out.
+fn marked(alloc: Global, come: &[bool], numbers: &[u32]) -> Result<Option<Vec<bool>>, AllocError>
+    ensures { IfOk result (λ r. IfSome r (λ more. Adds come.now numbers.now more.items)) }
+{
+    let mut more = Vec::from_slice(alloc, come)?;
+    for number in numbers {
+        let place = *number as usize;
+        if place >= more.len() || more[place] {
+            return Ok(None);
+        }
+        more[place] = true;
+    }
+    Ok(Some(more))
+}
+
+/// What the caller itself plants: the batches that came from nobody. The only error is that memory ran out.
+fn plant_missing<G: Gate>(
+    alloc: Global,
+    graph: &Graph,
+    ranking: &Ranking,
+    batches: u32,
+    gate: &G,
+    come: &[bool],
+) -> Result<EntrySink, AllocError>
+    requires ranked { length ranking.now ≡ graph.now.n }
+    requires some { 1 ≤ batches }
+    requires few { batches ≤ 2 ^ 30 }
+    requires marks { length come.now ≡ batches }
+    ensures sink { IfOk result (λ sink. sink.n ≡ graph.now.n) }
+    ensures missing { IfOk result (λ sink. HoldsPart graph.now.edges ranking.now (IsMissing come.now) (sunk_at sink)) }
+{
+    let n = graph.n();
+    let mut planter = Planter::new(alloc, n)?;
+    let mut sink = EntrySink::new(alloc, n)?;
+    for batch in 0..batches {
+        if come[batch as usize] {
+            continue;
+        }
+        plant_batch(
+            alloc,
+            graph,
+            ranking,
+            batches,
+            batch,
+            gate,
+            &mut planter,
+            &mut sink,
+        )?;
+    }
+    Ok(sink)
 }

@@ -1,12 +1,18 @@
 //! PLaNT, the build of the canonical hub labelling by planted trees (Planting Trees, PVLDB 2019): each root's tree is
-//! planted on its own, with no look at any row, and its entries are put at the ends of the rows of its nodes.
-//! [`build_plant`] is the whole build. It stands on plant_tree (one tree), hub_index (rows and the index), desk_io (the gate
-//! that watches a build), walk_laws and rank_table. Its callers' clauses use `IsChl` of walk_laws and `HubIndex` of hub_index.
+//! planted on its own, with no look at any row, so trees grow on many cores side by side.
+//!
+//! [`deal`] deals batches of roots to the deques of the workers, and a [`Hand`] takes them, or steals them from the others;
+//! `batch` plants the roots of a batch; [`build_plant`] is the whole build. It stands on plant_tree (one tree), hub_index
+//! (entries, rows and the index), desk_io (the gate that watches a build), walk_laws and rank_table, and on crossbeam_deque.
+//! Its callers' clauses use `IsChl` of walk_laws and `HubIndex` of hub_index.
 #![tactic(auto)]
 
-mod batched_rows;
+mod batch;
 mod build;
+mod hand;
 #[cfg(test)]
 mod tests;
+mod worker;
 
 pub use build::build_plant;
+pub use hand::{Hand, deal};

@@ -1,0 +1,12 @@
+use Rattle.std.proofs.Common.{◌≡◌}
+use Rattle.hub_index.specs.Sunk.{sunk_at, HoldsPart}
+use Rattle.plant_build.proofs.HeldParts.{IsMissingBelow}
+use Rattle.plant_build.proofs.build.plant_missing.Given as goal
+
+-- of the batches so far those that are missing are planted
+abbrev pub invariant-loop-batch : goal.invariant-loop-batch
+invariant-loop-batch g l = record {
+  planter : l.planter ≡ l.graph.n;
+  sink : l.sink.n ≡ l.graph.n;
+  holds : HoldsPart l.graph.edges l.ranking (IsMissingBelow l.come l.batch) (sunk_at l.sink);
+}

@@ -1,0 +1,105 @@
+ghost use Rattle.std.specs.Prelude.{◌≡◌, ◌<◌, ◌≤◌, ◌^◌, true, length, IfOk, OnOk};
+ghost use Rattle.plant_build.specs.Workers.{IsReady, HasWorked};
+
+use crate::batch::plant_batch;
+use crate::hand::Hand;
+use desk_io::Gate;
+use hub_index::EntrySink;
+use plant_tree::Planter;
+use rank_table::Ranking;
+use std::alloc::{AllocError, Global};
+use std::sync::Wait;
+use walk_laws::Graph;
+
+/// One worker: its hand, a planter, what it has put, the numbers of the batches that it has planted, and whether memory
+/// has sufficed.
+#[derive(Drop)]
+pub struct PlantWorker {
+    pub hand: Hand,
+    pub planter: Planter,
+    pub sink: EntrySink,
+    pub numbers: Vec<u32>,
+    pub memory: bool,
+}
+
+impl PlantWorker {
+    /// A worker that has planted nothing. The only error is that memory ran out.
+    pub fn new(alloc: Global, n: u32, hand: Hand) -> Result<PlantWorker, AllocError>
+        ensures { IfOk result (IsReady n) }
+    {
+        Ok(PlantWorker {
+            hand,
+            planter: Planter::new(alloc, n)?,
+            sink: EntrySink::new(alloc, n)?,
+            numbers: Vec::new(alloc),
+            memory: true,
+        })
+    }
+
+    /// Takes batches and plants them, until every deque is found empty or memory runs out.
+    pub fn plant<R: Wait, G: Gate>(
+        &mut self,
+        rt: &R,
+        alloc: Global,
+        graph: &Graph,
+        ranking: &Ranking,
+        batches: u32,
+        gate: &G,
+    )
+        requires ready { IsReady graph.now.n self.old }
+        requires ranked { length ranking.now ≡ graph.now.n }
+        requires batches { batches ≤ 2 ^ 30 }
+        ensures { HasWorked graph.now.edges ranking.now batches graph.now.n self.new }
+    {
+        for _ in rt.forever() {
+            let Some(batch) = self.hand.take(rt) else {
+                return;
+            };
+            if batch >= batches {
+                continue;
+            }
+            if self
+                .plant_one(alloc, graph, ranking, batches, batch, gate)
+                .is_err()
+            {
+                self.memory = false;
+                return;
+            }
+        }
+    }
+
+    /// Plants a batch, and notes its number. The only error is that memory ran out.
+    fn plant_one<G: Gate>(
+        &mut self,
+        alloc: Global,
+        graph: &Graph,
+        ranking: &Ranking,
+        batches: u32,
+        batch: u32,
+        gate: &G,
+    ) -> Result<(), AllocError>
+        requires planter { self.old.planter ≡ graph.now.n }
+        requires worked { HasWorked graph.now.edges ranking.now batches graph.now.n self.old }
+        requires memory { self.old.memory ≡ true }
+        requires ranked { length ranking.now ≡ graph.now.n }
+        requires batches { batches ≤ 2 ^ 30 }
+        requires batch { batch < batches }
+        ensures planter { self.new.planter ≡ self.old.planter }
+        ensures memory { self.new.memory ≡ self.old.memory }
+        ensures sink { self.new.sink.n ≡ self.old.sink.n }
+        ensures worked { OnOk result (HasWorked graph.now.edges ranking.now batches graph.now.n self.new) }
+    {
+        plant_batch(
+            alloc,
+            graph,
+            ranking,
+            batches,
+            batch,
+            gate,
+            &mut self.planter,
+            &mut self.sink,
+        )?;
+        self.numbers.push(batch)?;
+        Ok(())
+    }
+}
