@@ -8,7 +8,7 @@ use crate::counted_text::CountedText;
 use crate::fault::{TextFault, TextKind};
 use crate::numbers::{read_numbers, strip_words};
 use crate::untaken::Untaken;
-use std::alloc::Global;
+use std::alloc::{AllocError, Global};
 use std::marker::Model;
 use text_lines::{JudgesLines, first_word};
 
@@ -98,18 +98,13 @@ where
         let Some(counts) = &self.counts else {
             return Err(Untaken::Faulty(TextKind::NoProblem));
         };
-        let item = match item_of(&self.text, counts, words) {
-            Ok(item) => item,
-            Err(kind) => return Err(Untaken::Faulty(kind)),
-        };
+        let item = item_of(&self.text, counts, words)?;
         let declared = last_count(counts);
         if self.items.len() as u64 == declared {
             let found = declared + 1;
             return Err(Untaken::Faulty(TextKind::Count { declared, found }));
         }
-        if self.items.push(item).is_err() {
-            return Err(Untaken::NoMemory);
-        }
+        self.items.push(item)?;
         Ok(())
     }
 }
@@ -130,15 +125,11 @@ where
 
     ghost ended = { counted_ended T.wording T.in_text T.value_of };
 
-    fn out_of_memory() -> T::Fault {
-        T::out_of_memory()
-    }
-
     fn judge(&mut self, number: u64, line: &[u8]) -> Result<(), T::Fault> {
         match self.take(line) {
             Ok(()) => Ok(()),
             Err(Untaken::Faulty(kind)) => Err(T::text_fault(TextFault { line: number, kind })),
-            Err(Untaken::NoMemory) => Err(T::out_of_memory()),
+            Err(Untaken::NoMemory) => Err(T::Fault::from(AllocError)),
         }
     }
 
@@ -161,6 +152,8 @@ where
         }
         text.value(alloc, counts, items)
     }
+
+    ghost want = { T.want };
 }
 
 /// The counts of a `p` line, by the words behind the `p`.
@@ -185,13 +178,9 @@ fn read_counts(alloc: Global, line: &[u8], places: usize) -> Result<Vec<u64>, Un
     ensures numbers { GivesKept (λ counts. counts.items) (numbers_in places (words_of line.now)) result }
     ensures places { IfOk result (λ counts. length counts.items ≡ places) }
 {
-    let Ok(mut counts) = vec![in alloc; 0u64; places] else {
-        return Err(Untaken::NoMemory);
-    };
-    match read_numbers(line, &mut counts) {
-        Ok(()) => Ok(counts),
-        Err(kind) => Err(Untaken::Faulty(kind)),
-    }
+    let mut counts = vec![in alloc; 0u64; places]?;
+    read_numbers(line, &mut counts)?;
+    Ok(counts)
 }
 
 /// What a line of the letter stands for, by the words behind it.

@@ -1,9 +1,10 @@
 ghost use Rattle.std.specs.Prelude.{◌≡◌, ◌⊎◌, ℕ, ◌-◌, ◌^◌, ◌<◌, ◌≤◌, true, List, All, map, length, Result, Ok, Err, IfOk, IfErr};
 ghost use Rattle.dimacs_text.specs.declared.fault.TextFault.{TextFault};
+ghost use Rattle.std.specs.declared.alloc.AllocError.{AllocError as NoMemory};
 ghost use Rattle.dimacs_text.specs.Counted.{Wording, AreAccepted, JudgesNumbers, are_within, is_outside, kept};
 
 use crate::fault::{TextFault, TextKind};
-use std::alloc::Global;
+use std::alloc::{AllocError, Global};
 
 /// The words of a counted text, and what its numbers stand for.
 pub trait CountedText {
@@ -14,7 +15,7 @@ pub trait CountedText {
     type Value;
 
     /// Why a text is refused.
-    type Fault;
+    type Fault: From<AllocError>;
 
     /// The words, and the faults of numbers.
     ghost wording: { Self → Wording };
@@ -73,9 +74,8 @@ pub trait CountedText {
     fn text_fault(fault: TextFault) -> Self::Fault
         ensures { result ≡ in_text fault };
 
-    /// The fault of one who has no memory.
-    fn out_of_memory() -> Self::Fault
-        ensures { result ≡ no_memory };
+    /// A fault that is made of want of memory is that.
+    ghost want: { (error : NoMemory) (fault : Self.Fault) → Self.Fault.from_gives error fault → fault ≡ no_memory };
 }
 
 /// Whether a number is no node of 1..n.

@@ -1,3 +1,8 @@
+ghost use Rattle.std.specs.Prelude.{◌≡◌};
+ghost use Rattle.dimacs_text.specs.declared.fault.GrFault.TheVariants as graph;
+ghost use Rattle.dimacs_text.specs.declared.fault.PairsFault.TheVariants as pairs;
+
+use std::alloc::AllocError;
 use thiserror::Error;
 
 /// What is wrong with a line of a graph or pairs text.
@@ -66,4 +71,20 @@ pub enum PairsFault {
     /// There was no memory for it.
     #[error("out of memory")]
     NoMemory,
+}
+
+impl From<AllocError> for GrFault {
+    ghost from_gives = { λ _ fault. fault ≡ graph.NoMemory };
+
+    fn from(_error: AllocError) -> GrFault {
+        GrFault::NoMemory
+    }
+}
+
+impl From<AllocError> for PairsFault {
+    ghost from_gives = { λ _ fault. fault ≡ pairs.NoMemory };
+
+    fn from(_error: AllocError) -> PairsFault {
+        PairsFault::NoMemory
+    }
 }

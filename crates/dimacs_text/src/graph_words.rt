@@ -86,19 +86,15 @@ impl CountedText for GraphWords {
         if !fits(n, weight) {
             return Err(GrFault::Overflow { n, weight });
         }
-        match Graph::new(alloc, n, items) {
-            Ok(graph) => Ok(graph),
-            Err(_) => Err(GrFault::NoMemory),
-        }
+        let graph = Graph::new(alloc, n, items)?;
+        Ok(graph)
     }
 
     fn text_fault(fault: TextFault) -> GrFault {
         GrFault::Text(fault)
     }
 
-    fn out_of_memory() -> GrFault {
-        GrFault::NoMemory
-    }
+    ghost want = { λ error fault is. is };
 }
 
 /// The greatest weight of the edges, 0 without edges.

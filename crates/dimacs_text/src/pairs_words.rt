@@ -78,7 +78,5 @@ impl CountedText for PairsWords {
         PairsFault::Text(fault)
     }
 
-    fn out_of_memory() -> PairsFault {
-        PairsFault::NoMemory
-    }
+    ghost want = { λ error fault is. is };
 }

@@ -1,3 +1,7 @@
+ghost use Rattle.std.specs.Prelude.{◌≡◌};
+ghost use Rattle.index_file.specs.declared.fault.IndexFault.TheVariants.{NoMemory};
+
+use std::alloc::{AllocError, AllocFailed};
 use thiserror::Error;
 
 /// Why bytes are no index file. Each field is judged as soon as it is whole, from left to right.
@@ -31,4 +35,20 @@ pub enum IndexFault {
     /// There was no memory for it.
     #[error("out of memory")]
     NoMemory,
+}
+
+impl From<AllocError> for IndexFault {
+    ghost from_gives = { λ _ fault. fault ≡ NoMemory };
+
+    fn from(_error: AllocError) -> IndexFault {
+        IndexFault::NoMemory
+    }
+}
+
+impl<T: Drop> From<AllocFailed<T>> for IndexFault {
+    ghost from_gives = { λ _ fault. fault ≡ NoMemory };
+
+    fn from(_error: AllocFailed<T>) -> IndexFault {
+        IndexFault::NoMemory
+    }
 }

@@ -102,10 +102,9 @@ fn after_name(alloc: Global, names: Naming, v: u32) -> Result<Next, IndexFault>
     ensures { Gives result (after_field 0 (Node names) v) }
 {
     let place = names.len() as u32;
-    match names.with(v) {
-        Ok(Some(names)) => after_names(alloc, names),
-        Ok(None) => Err(IndexFault::Order { place }),
-        Err(AllocError) => Err(IndexFault::NoMemory),
+    match names.with(v)? {
+        Some(names) => after_names(alloc, names),
+        None => Err(IndexFault::Order { place }),
     }
 }
 
@@ -117,10 +116,8 @@ fn after_names(alloc: Global, names: Naming) -> Result<Next, IndexFault>
     if names.len() < names.n() as usize {
         return Ok(Next::Node(names));
     }
-    match Done::new(alloc, names.into_order()) {
-        Ok(done) => Ok(after_rows(done)),
-        Err(AllocError) => Err(IndexFault::NoMemory),
-    }
+    let done = Done::new(alloc, names.into_order())?;
+    Ok(after_rows(done))
 }
 
 /// Behind the last row comes the end.
@@ -170,10 +167,8 @@ fn after_distance(done: Done, part: PartRow, pos: u32, dist: u64) -> Result<Next
             place: part.len() as u32,
         });
     }
-    match after_entry(done, part, Entry { pos, dist }) {
-        Ok(next) => Ok(next),
-        Err(AllocError) => Err(IndexFault::NoMemory),
-    }
+    let next = after_entry(done, part, Entry { pos, dist })?;
+    Ok(next)
 }
 
 /// Behind the last entry the row is done.

@@ -12,7 +12,7 @@ use crate::next::Next;
 use crate::part_row::PartRow;
 use byteorder::{BigEndian, ByteOrder};
 use hub_index::Index;
-use std::alloc::{AllocError, Global};
+use std::alloc::Global;
 use std::marker::Model;
 use walk_laws::Entry;
 
@@ -152,9 +152,7 @@ fn gather(
     requires { IsSound (record { next = next; held = held.items; at = at }) }
     ensures { Gives result (fed (Ok (record { next = next; held = held.items; at = at })) (byte ∷ [])) }
 {
-    if held.push(byte).is_err() {
-        return Err(IndexFault::NoMemory);
-    }
+    held.push(byte)?;
     if held.len() < width(&next) {
         return Ok(Progress { next, held, at });
     }
@@ -179,10 +177,10 @@ fn take_names<'a>(
     while rest.len() >= 4 && names.len() + 1 < names.n() as usize {
         let place = names.len() as u32;
         let (field, left) = rest.split_at(4);
-        names = match names.with(BigEndian::read_u32(field)) {
-            Ok(Some(names)) => names,
-            Ok(None) => return Err(IndexFault::Order { place }),
-            Err(AllocError) => return Err(IndexFault::NoMemory),
+        let named = names.with(BigEndian::read_u32(field))?;
+        names = match named {
+            Some(names) => names,
+            None => return Err(IndexFault::Order { place }),
         };
         at += 4;
         rest = left;
@@ -205,9 +203,7 @@ fn take_entries<'a>(
     let own = done.own();
     let mut rest = bytes;
     let more = part.count() as usize - part.len();
-    if part.reserve(more.min(bytes.len() / 12)).is_err() {
-        return Err(IndexFault::NoMemory);
-    }
+    part.reserve(more.min(bytes.len() / 12))?;
     while rest.len() >= 12 && !part.is_last() {
         let (field, left) = rest.split_at(12);
         take_entry(done, own, &mut part, field)?;
@@ -242,8 +238,6 @@ fn take_entry(done: &Done, own: u32, part: &mut PartRow, field: &[u8]) -> Result
             place: part.len() as u32,
         });
     }
-    if part.push(entry).is_err() {
-        return Err(IndexFault::NoMemory);
-    }
+    part.push(entry)?;
     Ok(())
 }

@@ -55,16 +55,12 @@ impl JudgesLines for NodeLines {
 
     ghost ended = { order_ended };
 
-    fn out_of_memory() -> OrderFault {
-        OrderFault::NoMemory
-    }
-
     fn judge(&mut self, number: u64, line: &[u8]) -> Result<(), OrderFault> {
         let node = node_of_line(line, self.n, number)?;
-        match self.nodes.add(node) {
-            Err(_) => Err(OrderFault::NoMemory),
-            Ok(false) => Err(OrderFault::Repeated { line: number, node }),
-            Ok(true) => Ok(()),
+        if self.nodes.add(node)? {
+            Ok(())
+        } else {
+            Err(OrderFault::Repeated { line: number, node })
         }
     }
 
@@ -77,11 +73,11 @@ impl JudgesLines for NodeLines {
                 found: found as u32,
             });
         }
-        match Ranking::new(alloc, nodes.into_nodes()) {
-            Ok(ranking) => Ok(ranking),
-            Err(_) => Err(OrderFault::NoMemory),
-        }
+        let ranking = Ranking::new(alloc, nodes.into_nodes())?;
+        Ok(ranking)
     }
+
+    ghost want = { λ error fault is. is };
 }
 
 /// The node of 1..n that the line with this number names.

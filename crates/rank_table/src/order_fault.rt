@@ -1,3 +1,7 @@
+ghost use Rattle.std.specs.Prelude.{◌≡◌};
+ghost use Rattle.rank_table.specs.declared.order_fault.OrderFault.TheVariants.{NoMemory};
+
+use std::alloc::AllocError;
 use thiserror::Error;
 
 /// Why a text is no ranking of the nodes 1..n. Lines count from 1.
@@ -21,4 +25,12 @@ pub enum OrderFault {
     /// There was no memory for it.
     #[error("out of memory")]
     NoMemory,
+}
+
+impl From<AllocError> for OrderFault {
+    ghost from_gives = { λ _ fault. fault ≡ NoMemory };
+
+    fn from(_error: AllocError) -> OrderFault {
+        OrderFault::NoMemory
+    }
 }

@@ -135,9 +135,7 @@ where
             }
             rest = behind;
         }
-        let Ok(()) = self.gathered.gather(rest) else {
-            return Err(J::out_of_memory());
-        };
+        self.gathered.gather(rest)?;
         Ok(())
     }
 
@@ -153,12 +151,8 @@ where
         if self.gathered.line().is_empty() {
             return judge_line(&mut self.judge, &mut self.next, strip_cr(run));
         }
-        let Ok(()) = self.gathered.gather(run) else {
-            return Err(J::out_of_memory());
-        };
-        let Ok(_) = self.gathered.push(b'\n') else {
-            return Err(J::out_of_memory());
-        };
+        self.gathered.gather(run)?;
+        let _ = self.gathered.push(b'\n')?;
         judge_line(&mut self.judge, &mut self.next, self.gathered.line())?;
         self.gathered.clear();
         Ok(())

@@ -10,6 +10,6 @@ some_node false new names is = absurd cc
 -- one node more
 pub after_names-requires : goal.after_names-requires
 after_names-requires c =
-    let named : Some c.in-Ok-Some.names ≡ cond (is_new_node c.args.names c.args.v) (Some (with_node c.args.names c.args.v)) None = rw c.in-Ok-Some.field-0-is at c.in-Ok-Some.ensures in
-    let new = some_node (is_new_node c.args.names c.args.v) c.in-Ok-Some.names (with_node c.args.names c.args.v) named in
+    let named : Some c.in-Some.names ≡ cond (is_new_node c.args.names c.args.v) (Some (with_node c.args.names c.args.v)) None = rw c.in-Some.is at c.in_ok-names.ensures in
+    let new = some_node (is_new_node c.args.names c.args.v) c.in-Some.names (with_node c.args.names c.args.v) named in
     rw new.1 (AreNames-more c.args.names c.args.v c.requires.names c.requires.more new.0)

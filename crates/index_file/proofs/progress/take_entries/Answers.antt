@@ -10,7 +10,7 @@ overflow_add-at c = omega (arith, offset-le (at_position c.args.done.now c.loop-
 
 pub returns-in_err-take_entry-clause-refused : goal.returns-in_err-take_entry-clause-refused
 returns-in_err-take_entry-clause-refused c =
-    let p = err_from_is_err_and c.from_residual.result c.from_residual.ensures.1 in
+    let p = err_from_is_err_and c.from_residual-in_err-take_entry.result c.from_residual-in_err-take_entry.ensures.1 in
     let cur = at_position c.args.done.now c.loop-rest.part c.loop-rest.at in
     rw (p.1, p.2) (Refuses-then (at_position c.args.done.now c.args.part c.args.at) cur c.args.bytes.now c.loop-rest.rest.now _ c.loop-rest.invariant.takes (Refuses-part cur c.loop-rest.rest.now c.split_at.result.0.now c.split_at.result.1.now _ c.split_at.ensures.by_index.0 (c.in_err-take_entry.ensures.refused c.loop-rest.at)))
 

@@ -22,12 +22,12 @@ new-requires c =
     let weight_is : c.greatest_weight_of-weight.result ≡ greatest_weight c.args.items.items = c.greatest_weight_of-weight.ensures ∙ ap greatest_weight c.deref.ensures.value in
     rw n_is (accepted_graph c.args.self counts edges c.requires (told_fits counts edges c.index.result.now c.greatest_weight_of-weight.result c.fits.result n_is weight_is c.fits.ensures c.if-not-fits.false))
 
-pub returns-in-Ok-clause-ok : goal.returns-in-Ok-clause-ok
-returns-in-Ok-clause-ok c =
+pub returns-clause-ok : goal.returns-clause-ok
+returns-clause-ok c =
     let counts = c.args.counts.items in
     let edges = c.args.items.items in
     let some : 0 < length c.args.counts.items = omega (arith, c.requires.counted) in
     let n_is : c.index.result.now ≡ get_or c.args.counts.items 0 0 = c.index.ensures ∙ get_or_default c.args.counts.items 0 c.index.result.now 0 some in
     let weight_is : c.greatest_weight_of-weight.result ≡ greatest_weight c.args.items.items = c.greatest_weight_of-weight.ensures ∙ ap greatest_weight c.deref.ensures.value in
     fits_graph c.args.self counts edges (told_fits counts edges c.index.result.now c.greatest_weight_of-weight.result c.fits.result n_is weight_is c.fits.ensures c.if-not-fits.false)
-    ∙ (λ i. Ok (record { n = sym (c.in-Ok.ensures.n ∙ n_is) i; edges = sym c.in-Ok.ensures.edges i }))
+    ∙ (λ i. Ok (record { n = sym (c.in_ok-graph.ensures.n ∙ n_is) i; edges = sym c.in_ok-graph.ensures.edges i }))

@@ -1,4 +1,5 @@
 use Rattle.std.proofs.Common.{inl, inr, ◌++◌, Ok, ap, sym, ◌∙◌}
+use Rattle.std.proofs.lemmas.Result.{err_from_is_err_and}
 use Rattle.desk_io.specs.Lines.{open_bytes}
 use Rattle.desk_io.proofs.LineCuts.{whole_lines-run, open_rest-run}
 use Rattle.text_lines.specs.Judgement.{behind_lines}
@@ -35,7 +36,12 @@ returns-clause-judged g c =
 
 pub returns-clause-begun : goal.returns-clause-begun
 returns-clause-begun g c =
-    ap open_bytes c.in-Ok.ensures.ok
+    ap open_bytes c.in_ok-gather.ensures.ok
     ∙ ap (λ r. r.begun ++ c.loop-run.rest.now) c.self.view_is
     ∙ sym (open_rest-run c.loop-run.self.begun c.loop-run.rest.now c.in_default.ensures.none)
     ∙ c.loop-run.invariant.begun
+
+pub returns-in_err-gather-clause-err : goal.returns-in_err-gather-clause-err
+returns-in_err-gather-clause-err g c =
+    let p = err_from_is_err_and c.from_residual.result c.from_residual.ensures.1 in
+    rw p.1 (inl (g.met.J.JudgesLines.want _ _ p.2))
