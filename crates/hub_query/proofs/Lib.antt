@@ -2,4 +2,9 @@ pub mod Sums
 pub mod Walked
 pub mod RowFacts
 pub mod Meetings
+pub mod ArcsInOrder
+pub mod Onward
+pub mod LabelledWalks
+pub mod PathsDecided
 pub mod TestRows
+pub mod TestGraphs

@@ -5,6 +5,7 @@ use Rattle.std.proofs.lemmas.List.Elements.{All-append, All-contains, All-cons, 
 use Rattle.std.proofs.lemmas.List.Kept.{AllPairs-from_increasing}
 use Rattle.walk_laws.specs.declared.entry.Entry.{Entry}
 use Rattle.walk_laws.specs.Labelling.{label_row}
+use Rattle.walk_laws.specs.Ranking.{position_of}
 use Rattle.walk_laws.specs.Meet.{HasSum}
 use Rattle.walk_laws.proofs.LabelRows.{Rises, Rises-first, Rises-rest}
 use Rattle.walk_laws.proofs.Members.{Contains-first, Contains-cons_cases, Contains-empty}
@@ -41,14 +42,21 @@ module _ (at : List ℕ) (rows : List (List Entry)) (v : ℕ) (well : IsWellForm
       (λ k d lt. (row_is.far k d lt).1)
       (omega arith)
 
-  -- and each position is one of the ranking
-  pub row_positions : All (λ (e : Entry). e.pos < length at) (label_row rows v)
-  row_positions =
-      let own = position-lt at v well.ranking from_one up_to_n in
+  -- no position is past that of the node
+  pub row_ranked : All (λ (e : Entry). e.pos ≤ position_of at v) (label_row rows v)
+  row_ranked =
       let up = subst (Rises pos_of) row_is.ends (AllPairs-from_increasing (map (λ e. e.pos) (label_row rows v)) row_is.rising) in
-      row_All (λ (e : Entry). e.pos < length at) at v (label_row rows v) row_is
-      (All-weaker (Contains row_is.others) (λ (e : Entry). e.pos < length at) (λ e here. omega (arith, others_below row_is.others (own_entry at v) e up here, own)) row_is.others (All-contains_itself row_is.others))
-      own
+      row_All (λ (e : Entry). e.pos ≤ position_of at v) at v (label_row rows v) row_is
+      (All-weaker (Contains row_is.others) (λ (e : Entry). e.pos ≤ position_of at v) (λ e here. omega (arith, others_below row_is.others (own_entry at v) e up here)) row_is.others (All-contains_itself row_is.others))
+      (omega arith)
+
+  -- so each position is one of the ranking
+  pub row_positions : All (λ (e : Entry). e.pos < length at) (label_row rows v)
+  row_positions = λ k d lt. omega (arith, row_ranked k d lt, position-lt at v well.ranking from_one up_to_n)
+
+  -- and the node's own is there
+  pub row_own : Contains (label_row rows v) (own_entry at v)
+  row_own = subst (λ row. Contains row (own_entry at v)) (sym row_is.ends) (Contains-append_right row_is.others (own_entry at v ∷ []) (own_entry at v) (Contains-first (own_entry at v) []))
 
 -- so the position of a sum is one of the ranking, too
 pub HasSum-position : (first second : List Entry) (p d n : ℕ) → HasSum first second p d → All (λ (e : Entry). e.pos < n) first → p < n

@@ -12,17 +12,17 @@ use Rattle.walk_laws.proofs.Squares.{labelling_of_the_square}
 use Rattle.hub_index.specs.WellFormed.{IsWellFormed, IsWellFormedRow}
 use Rattle.hub_index.proofs.CanonicalRows.{IsWellFormed-canonical}
 
-ranking : IsRanking first_four
+pub ranking : IsRanking first_four
 unfolding IsDistinct
 ranking = record {
   node = All-from_recursion (λ v. (1 ≤ v) × (v ≤ 4)) (1 ∷ 2 ∷ 3 ∷ 4 ∷ []) (search rules);
   once = search rules;
 }
 
-side : (u v : ℕ) → 1 ≤ u → u ≤ 4 → 1 ≤ v → v ≤ 4 → IsEdge 4 (edge u v 1)
+pub side : (u v : ℕ) → 1 ≤ u → u ≤ 4 → 1 ≤ v → v ≤ 4 → IsEdge 4 (edge u v 1)
 side u v from_one up_to_n to_one to_n = record { from_one = from_one; up_to_n = up_to_n; to_one = to_one; to_n = to_n; weight = omega arith }
 
-square_is : IsGraph 4 square
+pub square_is : IsGraph 4 square
 square_is = record {
   small = omega arith;
   edge = All-from_recursion (IsEdge 4) square (

@@ -10,10 +10,16 @@ mod answers;
 mod asking;
 pub mod laws;
 mod meeting;
+mod nodes;
+mod path_answer;
 #[cfg(test)]
 mod tests;
+mod walking;
 
 pub use answer::Answer;
 pub use answers::Answers;
 pub use asking::ask_all;
 pub use meeting::ask;
+pub use nodes::Nodes;
+pub use path_answer::Path;
+pub use walking::path;

@@ -1,5 +1,5 @@
 ghost use Rattle.std.specs.Prelude.{◌≡◌, ◌≤◌, [], ◌∷◌, All, map, IfOk};
-ghost use Rattle.walk_laws.specs.Worked.{entry as entry_of, first_four, square_rows as rows_of_square};
+ghost use Rattle.walk_laws.specs.Worked.{entry as entry_of, edge as edge_of, first_four, square_rows as rows_of_square};
 ghost use Rattle.hub_index.specs.WellFormed.{IsWellFormed};
 
 use super::*;
@@ -9,6 +9,7 @@ use rank_table::Ranking;
 use std::alloc::Global;
 use std::process::Abort;
 use std::test::Fail;
+use walk_laws::{Edge, Graph};
 
 fn entry(pos: u32, dist: u64) -> Entry
     ensures { result ≡ entry_of pos dist }
@@ -148,4 +149,93 @@ fn many_pairs_are_answered(rt: HostRuntime) -> Result<(), Fail> {
         assert_eq!(rt; *answer, four[k % 4], "at {k}");
     }
     Ok(())
+}
+
+fn edge(u: u32, v: u32) -> Edge
+    ensures { result ≡ edge_of u v 1 }
+{
+    Edge { u, v, w: 1 }
+}
+
+fn square_graph(alloc: Global) -> Result<Graph, Fail> {
+    let sides = vec![in alloc; edge(1, 2), edge(2, 3), edge(3, 4), edge(4, 1)]?;
+    Ok(Graph::new(alloc, 4, sides)?)
+}
+
+/// The square without the sides 2-3 and 4-1.
+fn halves_graph(alloc: Global) -> Result<Graph, Fail> {
+    let sides = vec![in alloc; edge(1, 2), edge(3, 4)]?;
+    Ok(Graph::new(alloc, 4, sides)?)
+}
+
+fn three_nodes(alloc: Global) -> Result<Graph, Fail> {
+    let sides = Vec::new(alloc);
+    Ok(Graph::new(alloc, 3, sides)?)
+}
+
+/// Asks for the walk of each pair of the table, and compares what is shown of the answers.
+fn compare_walks<R: Abort>(
+    rt: &R,
+    alloc: Global,
+    graph: &Graph,
+    index: &Index,
+    table: &[(u32, u32, &str)],
+) -> Result<(), Fail> {
+    for (u, v, answer) in table {
+        let (u, v) = (*u, *v);
+        assert!(rt; 1 <= u && u <= index.n() && 1 <= v && v <= index.n());
+        let told = path(alloc, graph, index, u, v)?;
+        let text = format!(in alloc; "{told:?}")?;
+        assert_eq!(rt; text.as_str(), *answer);
+    }
+    Ok(())
+}
+
+#[test]
+fn walks_of_the_square(rt: HostRuntime) -> Result<(), Fail> {
+    let index = square(rt.alloc())?;
+    let graph = square_graph(rt.alloc())?;
+    compare_walks(
+        &rt,
+        rt.alloc(),
+        &graph,
+        &index,
+        [
+            (
+                2,
+                4,
+                "Walk { length: 2, nodes: Nodes { nodes: [2, 1, 4] } }",
+            ),
+            (
+                1,
+                3,
+                "Walk { length: 2, nodes: Nodes { nodes: [1, 2, 3] } }",
+            ),
+            (3, 3, "Walk { length: 0, nodes: Nodes { nodes: [3] } }"),
+        ]
+        .as_slice(),
+    )
+}
+
+#[test]
+fn walks_by_an_index_of_another_graph(rt: HostRuntime) -> Result<(), Fail> {
+    let index = square(rt.alloc())?;
+    let graph = halves_graph(rt.alloc())?;
+    compare_walks(
+        &rt,
+        rt.alloc(),
+        &graph,
+        &index,
+        [
+            (2, 4, "Stuck { at: 1, to: 4 }"),
+            (3, 4, "Walk { length: 1, nodes: Nodes { nodes: [3, 4] } }"),
+        ]
+        .as_slice(),
+    )?;
+    let fewer = three_nodes(rt.alloc())?;
+    let sizes = [(2, 4, "Sizes { graph: 3, index: 4 }")];
+    compare_walks(&rt, rt.alloc(), &fewer, &index, sizes.as_slice())?;
+    let apart = tying(rt.alloc())?;
+    let none = [(1, 2, "Unreachable")];
+    compare_walks(&rt, rt.alloc(), &graph, &apart, none.as_slice())
 }

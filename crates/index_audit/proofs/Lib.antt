@@ -1,0 +1,11 @@
+pub mod OneEntry
+pub mod Searched
+pub mod Meets
+pub mod Around
+pub mod Verdicts
+pub mod Sound
+pub mod Labelled
+pub mod Faults
+pub mod Decided
+pub mod Decisive
+pub mod TestGraphs

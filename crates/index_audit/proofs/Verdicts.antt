@@ -1,0 +1,72 @@
+-- What the checks of an entry, one after the other, say of it.
+use Rattle.std.proofs.Common.{◌≡◌, ◌↔◌, ℕ, ◌+◌, ◌<◌, ◌≤◌, List, All, Contains, get_or, slice_get, Some, refl, sym, ap, subst, ◌∙◌, inl, inr, arith}
+use Rattle.std.proofs.lemmas.Bool.{cases_eq}
+use Rattle.std.proofs.lemmas.Option.{get_or_from_slice_get}
+use Rattle.walk_laws.specs.declared.entry.Entry.{Entry}
+use Rattle.walk_laws.specs.Ranking.{position_of}
+use Rattle.walk_laws.specs.Labelling.{label_row}
+use Rattle.hub_index.specs.WellFormed.{IsWellFormed}
+use Rattle.hub_query.proofs.RowFacts.{row_own}
+use Rattle.index_audit.specs.Checks.{MeetAt, IsFirstMeet, IsWalked, IsCoveredAt, IsCovered, IsRedundantBy, IsSoundEntry}
+use Rattle.index_audit.specs.Audited.{IsNeedless, AreSoundBefore}
+use Rattle.index_audit.proofs.Searched.{nothing}
+use Rattle.index_audit.proofs.Sound.{place_of, node_at}
+
+-- what holds of the entry read at a place holds of the one that stands there
+pub of_entry : (P : Entry → Type 0) (row whole : List Entry) (k : ℕ) → row ≡ whole → P (get_or row k nothing) → (e : Entry) → slice_get whole k ≡ Some e → P e
+of_entry P row whole k same holds e is =
+    subst P (ap (λ (r : List Entry). get_or r k nothing) same ∙ get_or_from_slice_get whole k e nothing is) holds
+
+-- two rows meet the other way, too
+pub MeetAt-swap : (first second : List Entry) (d q : ℕ) → MeetAt first second d q → MeetAt second first d q
+MeetAt-swap first second d q m = record {
+  sum = m.sum;
+  both = record { before = m.both.after; after = m.both.before; in_first = m.both.in_second; in_second = m.both.in_first; long = omega (arith, m.both.long) };
+  short = m.short;
+}
+
+-- a row that has a node's hub near enough shares that hub with it
+pub covered_by_itself : (at : List ℕ) (rows : List (List Entry)) (h p y d far : ℕ) → IsWellFormed at rows → slice_get at p ≡ Some h → Contains (label_row rows y) (record { pos = p; dist = far }) → far ≤ d → IsCoveredAt rows h y d
+covered_by_itself at rows h p y d far well place there near =
+    let node = node_at at p h well.ranking place in (
+      p,
+      record {
+        sum = far;
+        both = record {
+          before = 0;
+          after = far;
+          in_first = subst (λ q. Contains (label_row rows h) (record { pos = q; dist = 0 })) (place_of at p h well.ranking place) (row_own at rows h well node.0 node.1);
+          in_second = there;
+          long = omega arith;
+        };
+        short = near;
+      },
+    )
+
+module _ (J : ℕ → ℕ → ℕ → Type 0) (at : List ℕ) (rows : List (List Entry)) (v h : ℕ) (e : Entry) (place : slice_get at e.pos ≡ Some h) (walked : IsWalked J rows v h e) (covered : IsCovered J rows v h e) where
+  pub sound_of : ((q : ℕ) → q < e.pos → MeetAt (label_row rows v) (label_row rows h) e.dist q → ⊥) → IsSoundEntry J at rows v e
+  sound_of none = record {
+    hub = h;
+    place = place;
+    walked = walked;
+    covered = covered;
+    needed = λ q r. none q r.above (MeetAt-swap (label_row rows h) (label_row rows v) e.dist q r.meet);
+  }
+
+  pub needless_of : (q by : ℕ) → q < e.pos → slice_get at q ≡ Some by → IsFirstMeet (label_row rows v) (label_row rows h) e.dist q → IsNeedless J at rows v h by e
+  needless_of q by above node first = record {
+    place = place;
+    walked = walked;
+    covered = covered;
+    position = q;
+    node = node;
+    redundant = record { above = above; meet = MeetAt-swap (label_row rows v) (label_row rows h) e.dist q first.here };
+    highest = λ r redundant. first.least r (MeetAt-swap (label_row rows h) (label_row rows v) e.dist r redundant.meet);
+  }
+
+-- one row more
+pub one_row_more : (J : ℕ → ℕ → ℕ → Type 0) (at : List ℕ) (rows : List (List Entry)) (v end : ℕ) → end ≡ v + 1 → AreSoundBefore J at rows v → All (IsSoundEntry J at rows v) (label_row rows v) → AreSoundBefore J at rows end
+one_row_more J at rows v end is before last x from_one below = elim (cases_eq x v) [
+  | inl same ↦ subst (λ y. All (IsSoundEntry J at rows y) (label_row rows y)) (sym same) last
+  | inr other ↦ before x from_one (omega (arith, is, below, other))
+]

@@ -1,0 +1,4 @@
+pub mod Places
+pub mod Checks
+pub mod Audited
+pub mod Laws
