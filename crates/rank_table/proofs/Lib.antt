@@ -1,1 +1,4 @@
+pub mod CountedArcs
+pub mod DegreeOrder
+pub mod DegreeRankings
 pub mod OrderNodes

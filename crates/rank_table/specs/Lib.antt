@@ -1,2 +1,4 @@
+pub mod ByDegree
+pub mod DegreeLaws
 pub mod OrderLaws
 pub mod OrderText

@@ -1,7 +1,8 @@
 use super::*;
 use desk_io::{Feed, Reader};
-use std::alloc::Global;
+use std::alloc::{AllocError, Global};
 use std::test::Fail;
+use walk_laws::{Edge, Graph};
 
 /// What an order text of the nodes 1..n comes to where it is fed in pieces of some size.
 fn order_of(alloc: Global, n: u32, text: &[u8], size: usize) -> Result<Ranking, OrderFault> {
@@ -80,5 +81,40 @@ fn order_texts_are_read(rt: HostRuntime) -> Result<(), Fail> {
         assert_eq!(rt; ranking.at(2), 3);
         assert_eq!(rt; order_of(rt.alloc(), 0, b"\n", *size)?.n(), 0);
     }
+    Ok(())
+}
+
+/// The nodes of a graph by degree, highest rank first.
+fn nodes_by_degree(alloc: Global, graph: &Graph) -> Result<Vec<u32>, AllocError> {
+    let ranking = by_degree(alloc, graph)?;
+    let mut nodes = Vec::new(alloc);
+    for p in 0..ranking.n() {
+        nodes.push(ranking.at(p))?;
+    }
+    Ok(nodes)
+}
+
+#[test]
+fn a_path_is_ranked_by_degree(rt: HostRuntime) -> Result<(), Fail> {
+    let edges = vec![in rt.alloc(); Edge { u: 1, v: 2, w: 1 }, Edge { u: 2, v: 3, w: 1 }]?;
+    let graph = Graph::new(rt.alloc(), 3, edges)?;
+    assert_eq!(rt;
+        nodes_by_degree(rt.alloc(), &graph)?.as_slice(),
+        [2, 1, 3].as_slice()
+    );
+    Ok(())
+}
+
+/// The loop at 3 counts two, so 3 ranks above 1 and 4; node 2 has no edge.
+#[test]
+fn loops_and_nodes_without_edges_are_ranked(rt: HostRuntime) -> Result<(), Fail> {
+    let edges = vec![in rt.alloc(); Edge { u: 3, v: 3, w: 1 }, Edge { u: 4, v: 1, w: 1 }]?;
+    let graph = Graph::new(rt.alloc(), 4, edges)?;
+    assert_eq!(rt;
+        nodes_by_degree(rt.alloc(), &graph)?.as_slice(),
+        [3, 1, 4, 2].as_slice()
+    );
+    let none = Graph::new(rt.alloc(), 0, Vec::new(rt.alloc()))?;
+    assert_eq!(rt; nodes_by_degree(rt.alloc(), &none)?.len(), 0);
     Ok(())
 }

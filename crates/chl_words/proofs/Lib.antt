@@ -1,0 +1,10 @@
+pub mod CommandParts
+pub mod Defaults
+pub mod Levels
+pub mod Options
+pub mod Programs
+pub mod Strays
+pub mod TypedWords
+pub mod UseFaults
+pub mod UseRows
+pub mod UseWalks

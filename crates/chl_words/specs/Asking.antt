@@ -1,0 +1,108 @@
+-- What a list of words asks for, by clap's meaning of it.
+use Rattle.std.specs.Prelude.{◌≤◌, ◌^◌, ◌&&◌, ℕ, List, [], ◌∷◌, Option, Some, None, option_and_then, nat_le, nat_lt, codes, if◌then◌else◌}
+use Rattle.std.specs.Str.{bytes_eq}
+use Rattle.std.specs.Str.Parse.{digits_value, without_leading_plus}
+use Rattle.clap.specs.Words.{Kinds, Row, Text, fault_of, first_of, subcommand_of}
+use Rattle.clap.specs.ValueTests.{is_numeral}
+use Rattle.chl_words.specs.Literal.{program}
+use Rattle.chl_words.specs.declared.reading.Building.{Building}
+use Rattle.chl_words.specs.declared.asked.By.{By}
+use Rattle.chl_words.specs.declared.asked.By.TheVariants.{Plant, Lcc}
+use Rattle.chl_words.specs.declared.asked.Asked.{Asked}
+use Rattle.chl_words.specs.declared.asked.Asked.TheVariants.{List as ListRows, Build, Solve, Query, Degree}
+
+-- what each option has as its value, if any
+abbrev pub Values : Type 0
+Values = Text → Option Text
+
+-- one step behind another, where it has a value
+infixl 20 ◌>>=◌
+abbrev pub ◌>>=◌ : {A B : Type 0} → Option A → (A → Option B) → Option B
+value >>= next = option_and_then next value
+
+-- the construction that a word names
+abbrev pub construction_of : Text → Option By
+construction_of word = if bytes_eq word (codes "plant") then Some Plant else (if bytes_eq word (codes "lcc") then Some Lcc else None)
+
+-- the number below 2^32 that a word is: digits, which may have zeros or one plus in front
+abbrev pub any_number_of : Text → Option ℕ
+any_number_of word =
+    let digits = without_leading_plus word in
+    if is_numeral digits && nat_lt (digits_value 10 digits) (2 ^ 32) then Some (digits_value 10 digits) else None
+
+-- the number, where it is from 1 to the limit
+abbrev pub within : ℕ → ℕ → Option ℕ
+within most n = if nat_le 1 n && nat_le n most then Some n else None
+
+-- the number from 1 to the limit that a word is
+abbrev pub number_of : ℕ → Text → Option ℕ
+number_of most word = any_number_of word >>= within most
+
+-- how many workers there may be, and how many roots one may take at a time
+abbrev pub most_workers : ℕ
+most_workers = 64
+
+abbrev pub most_roots : ℕ
+most_roots = 2 ^ 30
+
+-- how an index is to be built, by the options that may be left out
+abbrev pub building_of : Values → Option Building
+building_of value =
+    value (codes "by") >>= construction_of
+    >>= λ by. value (codes "workers") >>= number_of most_workers
+    >>= λ workers. value (codes "cut") >>= number_of most_roots
+    >>= λ cut. Some (record { by = by; workers = workers; cut = cut })
+
+-- what each command asks for, by the values of its options
+abbrev pub list_of : Values → Option Asked
+list_of value = value (codes "graph") >>= λ graph. value (codes "order") >>= λ order. Some (ListRows graph order)
+
+abbrev pub build_of : Values → Option Asked
+build_of value = value (codes "graph") >>= λ graph. value (codes "order") >>= λ order. value (codes "out") >>= λ out. building_of value >>= λ built. Some (Build graph order out built.by built.workers built.cut)
+
+abbrev pub solve_of : Values → Option Asked
+solve_of value = value (codes "graph") >>= λ graph. value (codes "order") >>= λ order. value (codes "pairs") >>= λ pairs. building_of value >>= λ built. Some (Solve graph order pairs built.by built.workers built.cut)
+
+abbrev pub query_of : Values → Option Asked
+query_of value = value (codes "index") >>= λ index. value (codes "pairs") >>= λ pairs. Some (Query index pairs)
+
+abbrev pub degree_of : Values → Option Asked
+degree_of value = value (codes "graph") >>= λ graph. Some (Degree graph)
+
+-- what the command of this name asks for
+abbrev pub asked_of : Text → Values → Option Asked
+asked_of name value =
+    if bytes_eq name (codes "list") then list_of value
+    else (if bytes_eq name (codes "build") then build_of value
+    else (if bytes_eq name (codes "solve") then solve_of value
+    else (if bytes_eq name (codes "query") then query_of value
+    else (if bytes_eq name (codes "degree") then degree_of value
+    else None))))
+
+-- the values of the options in what was found
+abbrev pub values_in : List Row → Values
+values_in rows option = first_of option rows
+
+-- what was found of the subcommand that the words name
+abbrev pub asked_in : Option (Text × List Row) → Option Asked
+asked_in None = None
+asked_in (Some found) = asked_of found.0 (values_in found.1)
+
+-- nothing, where there is a fault
+abbrev pub unless_refused : Kinds → Option Asked → Option Asked
+unless_refused [] asked = asked
+unless_refused (kind ∷ kinds) asked = None
+
+-- what the words ask for: nothing where clap refuses them, and else what it finds of the command that they name
+abbrev pub asked_by : List Text → Option Asked
+asked_by words = unless_refused (fault_of program words) (asked_in (subcommand_of program words))
+
+-- the numbers of workers and of roots are within their limits
+abbrev pub AreWithinLimits : ℕ → ℕ → Type 0
+AreWithinLimits workers cut = (1 ≤ workers) × (workers ≤ most_workers) × (1 ≤ cut) × (cut ≤ most_roots)
+
+-- those of a command are
+abbrev pub IsWithinLimits : Asked → Type 0
+IsWithinLimits (Build graph order out by workers cut) = AreWithinLimits workers cut
+IsWithinLimits (Solve graph order pairs by workers cut) = AreWithinLimits workers cut
+IsWithinLimits asked = Unit {0}

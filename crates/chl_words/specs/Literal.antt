@@ -1,0 +1,74 @@
+-- The program as one command of clap, with a subcommand for each of its commands.
+use Rattle.std.specs.Prelude.{◌≡◌, ◌^◌, ℕ, true, false, List, [], ◌∷◌, Some, codes}
+use Rattle.clap.specs.Words.{App, Rule, Shape, Text, app_of, new_rule, rule_of}
+use Rattle.clap.specs.Simple.{new_shape}
+use Rattle.clap.specs.declared.builder.arg.Arg.{Arg}
+use Rattle.clap.specs.declared.builder.command.Command.{Command}
+use Rattle.clap.specs.declared.builder.command.Command.TheViews.{out-Command as fields_of}
+use Rattle.clap.specs.declared.builder.value_parser.ValueParser.TheVariants.{Unsigned}
+
+-- ---- options
+
+-- an option with any text as its value
+abbrev pub option_named : Text → Rule
+option_named name = record (new_rule name) { long = Some name }
+
+-- one that must be there, with the name of a file
+abbrev pub file : Text → Rule
+file name = record (option_named name) { required = true }
+
+-- one that names a construction, planting where it is left out
+abbrev pub construction : Rule
+construction = record (option_named (codes "by")) { defaults = codes "plant" ∷ [] }
+
+-- one with a number from 1 to a limit, and this number where it is left out
+abbrev pub number : Text → ℕ → Text → Rule
+number name most default = record (option_named name) { parser = Some (Unsigned 1 most); defaults = default ∷ [] }
+
+-- ---- commands
+
+abbrev pub command : Text → List Rule → Shape
+command name options = record (new_shape name) { rules = options }
+
+-- the options of a build that may be left out
+abbrev pub building : List Rule
+building = construction ∷ number (codes "workers") 64 (codes "1") ∷ number (codes "cut") (2 ^ 30) (codes "1024") ∷ []
+
+abbrev pub list : Shape
+list = command (codes "list") (file (codes "graph") ∷ file (codes "order") ∷ [])
+
+abbrev pub build : Shape
+build = command (codes "build") (file (codes "graph") ∷ file (codes "order") ∷ file (codes "out") ∷ building)
+
+abbrev pub solve : Shape
+solve = command (codes "solve") (file (codes "graph") ∷ file (codes "order") ∷ file (codes "pairs") ∷ building)
+
+abbrev pub query : Shape
+query = command (codes "query") (file (codes "index") ∷ file (codes "pairs") ∷ [])
+
+abbrev pub degree : Shape
+degree = command (codes "degree") (file (codes "graph") ∷ [])
+
+abbrev pub commands : List Shape
+commands = list ∷ build ∷ solve ∷ query ∷ degree ∷ []
+
+-- the program: it takes one of its commands, and has no help
+abbrev pub program : App
+program = record {
+  top = record (new_shape (codes "chl")) { is_leaf = false; disable_help_flag = true; disable_help_subcommand = true; subcommand_required = true };
+  subs = commands;
+}
+
+-- ---- what the code makes of them
+
+-- a command with no subcommand
+abbrev pub command_alone : Shape → App
+command_alone s = record { top = s; subs = [] }
+
+-- the option has this rule, and is of its own command alone
+abbrev pub IsOption : Rule → Arg → Type 0
+IsOption rule a = (rule_of a ≡ rule) × (a.global ≡ false)
+
+-- the command is this one, and so are all of its options
+abbrev pub IsProgram : App → Command → Type 0
+IsProgram app c = (app_of c ≡ app) × ((fields_of c).has_globals ≡ false)

@@ -1,0 +1,104 @@
+ghost use Rattle.std.specs.Prelude.{◌≡◌, string_bytes, IfOk, MatchResult};
+ghost use Rattle.chl_words.specs.declared.asked.AskFault.TheVariants.{NoMemory};
+
+use std::alloc::{AllocError, Global};
+use std::marker::Model;
+
+/// The name of a file. Contracts see its bytes.
+#[derive(Debug, Drop)]
+pub struct Name {
+    text: String,
+}
+
+impl Model for Name {
+    ghost use Rattle.std.specs.Prelude.{ℕ, List, string_bytes};
+
+    ghost Value = { List ℕ };
+
+    ghost view = { λ n. string_bytes n.text };
+}
+
+impl Name {
+    /// A name of its own, with this text. Want of memory is the only error.
+    pub fn new(alloc: Global, text: &str) -> Result<Name, AllocError>
+        ensures { IfOk result (λ n. n ≡ text.now) }
+    {
+        let text = String::from_str(alloc, text)?;
+        Ok(Name { text })
+    }
+
+    /// The text of the name.
+    pub fn text(&self) -> &str
+        ensures { result.now ≡ self.now }
+    {
+        self.text.as_str()
+    }
+}
+
+/// The construction by which an index is built. All give the same index.
+#[derive(Clone, Copy, Debug, PartialEq, Eq)]
+pub enum By {
+    /// Planted trees: each root by itself, with no look at the rows of others.
+    Plant,
+    /// Pruned trees: each root prunes its tree by the rows that stand already, and the rows are cleaned in the end.
+    Lcc,
+}
+
+/// What a command line asks for.
+#[derive(Debug, Drop)]
+pub enum Asked {
+    /// Print the rows of the labelling of a graph under an order.
+    List {
+        graph: Name,
+        order: Name,
+    },
+    /// Write the index of the labelling to a file.
+    Build {
+        graph: Name,
+        order: Name,
+        /// The file that is created.
+        out: Name,
+        by: By,
+        /// How many workers build: 1..64.
+        workers: u32,
+        /// How many roots a worker takes at a time: 1..2^30.
+        cut: u32,
+    },
+    /// Say the distance of each pair of nodes of a graph, with the highest-ranked node between under an order.
+    Solve {
+        graph: Name,
+        order: Name,
+        pairs: Name,
+        by: By,
+        /// How many workers build: 1..64.
+        workers: u32,
+        /// How many roots a worker takes at a time: 1..2^30.
+        cut: u32,
+    },
+    /// Say what the rows of an index say of each pair of its nodes.
+    Query {
+        index: Name,
+        pairs: Name,
+    },
+    /// Print the order of a graph's nodes by falling degree.
+    Degree {
+        graph: Name,
+    },
+}
+
+/// Why a command line asks for nothing.
+#[derive(Clone, Copy, Debug, PartialEq, Eq)]
+pub enum AskFault {
+    /// The words are no command.
+    Usage,
+    /// There was no memory for it.
+    NoMemory,
+}
+
+impl From<AllocError> for AskFault {
+    ghost from_gives = { λ _ fault. fault ≡ NoMemory };
+
+    fn from(_error: AllocError) -> AskFault {
+        AskFault::NoMemory
+    }
+}

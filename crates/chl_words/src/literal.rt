@@ -1,0 +1,104 @@
+//! The commands and their options, as clap has them. A new command, or a new option of one, is an entry here and one in
+//! specs/Literal.
+ghost use Rattle.std.specs.Prelude.{◌≡◌, ℕ, List, codes, false, IfOk};
+ghost use Rattle.clap.specs.Words.{App, Rule, with_rule};
+ghost use Rattle.chl_words.specs.Literal as literal;
+ghost use Rattle.chl_words.specs.Literal.{IsOption, IsProgram, command_alone};
+
+use clap::builder::ValueParser;
+use clap::{Arg, Command};
+use std::alloc::{AllocError, Global};
+
+/// The most workers that a command line may ask for.
+pub const MOST_WORKERS: u32 = 64;
+
+/// The most roots that a worker may take at a time.
+pub const MOST_ROOTS: u32 = 1 << 30;
+
+/// How many roots a worker takes at a time, where the command line doesn't say.
+const USUAL_ROOTS: &str = "1024";
+
+/// The program, with a subcommand for each of its commands.
+pub fn program<'a>(alloc: Global) -> Result<Command<'a>, AllocError>
+    ensures { IfOk result (IsProgram literal.program) }
+{
+    Command::new(alloc, "chl")
+        .disable_help_flag(true)
+        .disable_help_subcommand(true)
+        .subcommand_required(true)
+        .subcommand(list(alloc)?)?
+        .subcommand(build(alloc)?)?
+        .subcommand(solve(alloc)?)?
+        .subcommand(query(alloc)?)?
+        .subcommand(degree(alloc)?)
+}
+
+fn list<'a>(alloc: Global) -> Result<Command<'a>, AllocError>
+    ensures { IfOk result (IsProgram (command_alone literal.list)) }
+{
+    Command::new(alloc, "list")
+        .arg(file(alloc, "graph"))?
+        .arg(file(alloc, "order"))
+}
+
+fn build<'a>(alloc: Global) -> Result<Command<'a>, AllocError>
+    ensures { IfOk result (IsProgram (command_alone literal.build)) }
+{
+    Command::new(alloc, "build")
+        .arg(file(alloc, "graph"))?
+        .arg(file(alloc, "order"))?
+        .arg(file(alloc, "out"))?
+        .arg(construction(alloc))?
+        .arg(number(alloc, "workers", MOST_WORKERS, "1"))?
+        .arg(number(alloc, "cut", MOST_ROOTS, USUAL_ROOTS))
+}
+
+fn solve<'a>(alloc: Global) -> Result<Command<'a>, AllocError>
+    ensures { IfOk result (IsProgram (command_alone literal.solve)) }
+{
+    Command::new(alloc, "solve")
+        .arg(file(alloc, "graph"))?
+        .arg(file(alloc, "order"))?
+        .arg(file(alloc, "pairs"))?
+        .arg(construction(alloc))?
+        .arg(number(alloc, "workers", MOST_WORKERS, "1"))?
+        .arg(number(alloc, "cut", MOST_ROOTS, USUAL_ROOTS))
+}
+
+fn query<'a>(alloc: Global) -> Result<Command<'a>, AllocError>
+    ensures { IfOk result (IsProgram (command_alone literal.query)) }
+{
+    Command::new(alloc, "query")
+        .arg(file(alloc, "index"))?
+        .arg(file(alloc, "pairs"))
+}
+
+fn degree<'a>(alloc: Global) -> Result<Command<'a>, AllocError>
+    ensures { IfOk result (IsProgram (command_alone literal.degree)) }
+{
+    Command::new(alloc, "degree").arg(file(alloc, "graph"))
+}
+
+/// An option that must be there, with the name of a file.
+fn file<'a>(alloc: Global, name: &'a str) -> Arg<'a>
+    ensures { IsOption (literal.file name.entry.now) result }
+{
+    Arg::new(alloc, name).long(name).required(true)
+}
+
+/// The option that names a construction.
+fn construction<'a>(alloc: Global) -> Arg<'a>
+    ensures { IsOption literal.construction result }
+{
+    Arg::new(alloc, "by").long("by").default_value("plant")
+}
+
+/// An option with a number from 1 to a limit, and this number where it is left out.
+fn number<'a>(alloc: Global, name: &'a str, most: u32, default: &'a str) -> Arg<'a>
+    ensures { IsOption (literal.number name.entry.now most default.entry.now) result }
+{
+    Arg::new(alloc, name)
+        .long(name)
+        .value_parser(ValueParser::unsigned(1, u64::from(most)))
+        .default_value(default)
+}
