@@ -5,6 +5,7 @@ pub mod Options
 pub mod Programs
 pub mod Strays
 pub mod TypedWords
+pub mod Unknown
 pub mod UseFaults
 pub mod UseRows
 pub mod UseWalks

@@ -37,7 +37,7 @@ unfolding walk_fault walked
 no_more p [] = refl
 no_more p (x ∷ xs) = no_more (p.0, p.1 ++ x ∷ []) xs
 
-unless_is : (k : Kinds) (asked : Option Asked) → unless_refused k asked ≡ cond (none k) asked None
+pub unless_is : (k : Kinds) (asked : Option Asked) → unless_refused k asked ≡ cond (none k) asked None
 unless_is [] asked = refl
 unless_is (x ∷ k) asked = refl
 

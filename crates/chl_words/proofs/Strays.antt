@@ -17,11 +17,11 @@ use Rattle.chl_words.proofs.UseFaults.{none, none_or}
 use Rattle.chl_words.proofs.UseRows.{opt_of}
 use Rattle.chl_words.proofs.Programs.{command_is, is_judged}
 
-and_false : (b : Bool) → (b && false) ≡ false
+pub and_false : (b : Bool) → (b && false) ≡ false
 and_false true = refl
 and_false false = refl
 
-or_refused : (a b : Kinds) → none a ≡ false → none (or_else a b) ≡ false
+pub or_refused : (a b : Kinds) → none a ≡ false → none (or_else a b) ≡ false
 or_refused a b is = none_or a b ∙ ap (λ t. t && none b) is
 
 -- no option has a place among words without dashes

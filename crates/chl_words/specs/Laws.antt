@@ -1,5 +1,7 @@
 -- The laws of command lines. `laws` has a public function for each.
 use Rattle.std.specs.Prelude.{◌≡◌, false, List, [], ◌∷◌, ◌++◌, Contains, None, if◌then◌else◌}
+use Rattle.std.specs.List.{list_any}
+use Rattle.std.specs.Str.{bytes_eq}
 use Rattle.clap.specs.Words.{Shape, Text}
 use Rattle.chl_words.specs.Literal.{commands}
 use Rattle.chl_words.specs.Forms.{Use, AreTyped, begins_with_dash, is_taken, value_of, words_of}
@@ -19,3 +21,8 @@ NoCommandIsNone = (asked_by [] ≡ None) × ((program : Text) → asked_by (prog
 abbrev pub StrayWordsAreNoCommand : Type 0
 StrayWordsAreNoCommand = (program : Text) (s : Shape) (uses : List Use) (word : Text) (rest : List Text) → Contains commands s → AreTyped uses → begins_with_dash word ≡ false
     → asked_by (program ∷ s.name ∷ (words_of uses ++ word ∷ rest)) ≡ None
+
+-- where the first word behind the program's name is no command's name, as `help`, `--help` and `-h`, the words ask for nothing,
+-- whatever follows
+abbrev pub UnknownCommandsAreNone : Type 0
+UnknownCommandsAreNone = (program name : Text) (rest : List Text) → list_any (λ s. bytes_eq s.name name) commands ≡ false → asked_by (program ∷ name ∷ rest) ≡ None
