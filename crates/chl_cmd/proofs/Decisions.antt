@@ -36,10 +36,11 @@ use Rattle.chl_inputs.proofs.StageLaws.{Answerable, Determined, decided_always, 
 use Rattle.chl_inputs.proofs.StagesInTurn.{same_value}
 use Rattle.chl_lines.specs.PrintedAnswers.{answer_lines}
 use Rattle.chl_lines.specs.PrintedRows.{lines_from}
-use Rattle.chl_cmd.specs.Commands.{Decides, stage_of, labelling_stage, list_stage, build_stage, solve_stage, query_stage, answers_stage, AreAnswers}
-use Rattle.chl_cmd.specs.declared.words.asked.By.{By}
-use Rattle.chl_cmd.specs.declared.words.asked.Asked.{Asked}
-use Rattle.chl_cmd.specs.declared.words.asked.Asked.TheVariants.{List as ListRows, Build, Solve, Query}
+use Rattle.chl_cmd.specs.Commands.{Decides, stage_of, labelling_stage, list_stage, build_stage, solve_stage, query_stage, degree_stage, answers_stage, AreAnswers}
+use Rattle.chl_words.specs.declared.asked.By.{By}
+use Rattle.chl_words.specs.declared.asked.Asked.{Asked}
+use Rattle.chl_words.specs.declared.asked.Asked.TheVariants.{List as ListRows, Build, Solve, Query, Degree}
+use Rattle.rank_table.proofs.DegreeRankings.{ranked_by_degree, IsByDegree-unique}
 use Rattle.chl_cmd.proofs.PairAnswers.{answers_exist, answers_unique, answers_told}
 
 module _ {V F : Type 0} (stop : F → Stop) where
@@ -143,18 +144,27 @@ module _ (index pairs : List ℕ) (files : Files) where
       lines_once (length i.order) (IsMeet i.order i.rows) asked (pairs_of_stage (length i.order) pairs files asked pairs_is) files
       (λ u v a b first first_within second second_within one other. meet_unique i.order i.rows u v a b one other)
 
+module _ (graph : List ℕ) (files : Files) where
+  degree_always : Answerable (degree_stage graph) files
+  degree_always = λ g graph_is. let ranked = ranked_by_degree g in (ranked.0, ranked.1, tt)
+
+  degree_once : Determined (degree_stage graph) files
+  degree_once = λ g graph_is. (IsByDegree-unique g, λ at ranked. tt)
+
 -- a case for each command
 has_answer : (asked : Asked) (files : Files) → Answerable (stage_of asked) files
 has_answer (ListRows graph order) files = labelling_always (λ at rows. lines_from at 1 rows) graph order files
 has_answer (Build graph order out by workers cut) files = labelling_always index_bytes graph order files
 has_answer (Solve graph order pairs by workers cut) files = solve_always graph order pairs files
 has_answer (Query index pairs) files = query_always index pairs files
+has_answer (Degree graph) files = degree_always graph files
 
 has_one_answer : (asked : Asked) (files : Files) → Determined (stage_of asked) files
 has_one_answer (ListRows graph order) files = labelling_once (λ at rows. lines_from at 1 rows) graph order files
 has_one_answer (Build graph order out by workers cut) files = labelling_once index_bytes graph order files
 has_one_answer (Solve graph order pairs by workers cut) files = solve_once graph order pairs files
 has_one_answer (Query index pairs) files = query_once index pairs files
+has_one_answer (Degree graph) files = degree_once graph files
 
 pub decides_always : (asked : Asked) (files : Files) → (answer : Result (List ℕ) Stop) × Decides asked files answer
 decides_always asked files = decided_always (stage_of asked) files (has_answer asked files)

@@ -18,7 +18,7 @@ use Rattle.chl_cmd.specs.Outcome.{Ends, Gives, GivesFront, GivesPart, Stops, giv
 use Rattle.chl_cmd.specs.Statuses.{status_of, status_after}
 use Rattle.chl_cmd.specs.declared.status.Status.{Status}
 use Rattle.chl_cmd.specs.declared.status.Status.TheVariants.{Done, Usage, GraphText, OrderText, PairsText, IndexBytes, Overflow, ReadFault, WriteFault, NoMemory, TooLong}
-use Rattle.chl_cmd.specs.declared.words.asked.Asked.{Asked}
+use Rattle.chl_words.specs.declared.asked.Asked.{Asked}
 use Rattle.chl_cmd.specs.Words.{IsCommand}
 use Rattle.chl_cmd.proofs.Decisions.{decides_once}
 use Rattle.chl_cmd.proofs.OneCommand.{one_command}

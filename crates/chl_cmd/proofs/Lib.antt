@@ -1,5 +1,3 @@
-pub mod OptionalWords
-pub mod AskedWords
 pub mod GivenFiles
 pub mod OneCommand
 pub mod PairAnswers

@@ -12,7 +12,7 @@ use Rattle.chl_cmd.specs.Commands.{stage_of, place_of}
 use Rattle.chl_cmd.specs.Outcome.{given, GivesFront, Runs}
 use Rattle.chl_cmd.specs.Statuses.{CarriesFaultsAlone, CountsInput, CountsOutput, status_of}
 use Rattle.chl_cmd.specs.declared.status.Status.TheVariants.{Done, WriteFault, NoMemory}
-use Rattle.chl_cmd.specs.declared.words.asked.Asked.{Asked}
+use Rattle.chl_words.specs.declared.asked.Asked.{Asked}
 use Rattle.chl_cmd.proofs.Endings.{done_from, failed_from, lost_from, stopped_from}
 
 -- what a stop does to the counts, and what it carries, as a status

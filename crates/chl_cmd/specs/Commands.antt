@@ -13,9 +13,11 @@ use Rattle.chl_inputs.specs.Inputs.{graph_input, order_input, pairs_input, index
 use Rattle.chl_inputs.specs.Stages.{Stage, Comes, Works, Reads, Decided}
 use Rattle.chl_inputs.specs.declared.stop.Stop.{Stop}
 use Rattle.chl_lines.specs.PrintedAnswers.{answer_lines}
+use Rattle.chl_lines.specs.PrintedOrders.{order_lines}
 use Rattle.chl_lines.specs.PrintedRows.{lines_from}
-use Rattle.chl_cmd.specs.declared.words.asked.Asked.{Asked}
-use Rattle.chl_cmd.specs.declared.words.asked.Asked.TheVariants.{List as ListRows, Build, Solve, Query}
+use Rattle.rank_table.specs.ByDegree.{IsByDegree}
+use Rattle.chl_words.specs.declared.asked.Asked.{Asked}
+use Rattle.chl_words.specs.declared.asked.Asked.TheVariants.{List as ListRows, Build, Solve, Query, Degree}
 
 -- a graph, a ranking of its nodes, and the bytes of the rows of its canonical hub labelling
 abbrev pub labelling_stage : (List ℕ → List (List Entry) → List ℕ) → List ℕ → List ℕ → Stage (List ℕ)
@@ -57,6 +59,10 @@ query_stage index pairs =
     Reads (pairs_input (length i.order) pairs) (λ asked.
     answers_stage (IsMeet i.order i.rows) asked))
 
+-- `degree`: a graph, and the order text of its nodes by falling degree
+abbrev pub degree_stage : List ℕ → Stage (List ℕ)
+degree_stage graph = Reads (graph_input graph) (λ g. Works (λ at. IsByDegree g at) (λ at. Comes (Ok (order_lines at))))
+
 -- a command: its stage, and the file that it creates for its bytes, or none where it says them
 pub record Command : Type 1 where
   pub stage : Stage (List ℕ)
@@ -67,6 +73,7 @@ command_of (ListRows graph order) = record { stage = list_stage graph order; pla
 command_of (Build graph order out by workers cut) = record { stage = build_stage graph order; place = Some out }
 command_of (Solve graph order pairs by workers cut) = record { stage = solve_stage graph order pairs; place = None }
 command_of (Query index pairs) = record { stage = query_stage index pairs; place = None }
+command_of (Degree graph) = record { stage = degree_stage graph; place = None }
 
 abbrev pub stage_of : Asked → Stage (List ℕ)
 stage_of asked = (command_of asked).stage

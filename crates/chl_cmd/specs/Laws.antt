@@ -5,9 +5,9 @@ use Rattle.desk_io.specs.Reading.{input_limit}
 use Rattle.desk_io.specs.Contents.{Files}
 use Rattle.chl_cmd.specs.Commands.{Decides}
 use Rattle.chl_inputs.specs.declared.stop.Stop.{Stop}
-use Rattle.chl_cmd.specs.declared.words.asked.By.{By}
-use Rattle.chl_cmd.specs.declared.words.asked.Asked.{Asked}
-use Rattle.chl_cmd.specs.declared.words.asked.Asked.TheVariants.{Build, Solve, Query}
+use Rattle.chl_words.specs.declared.asked.By.{By}
+use Rattle.chl_words.specs.declared.asked.Asked.{Asked}
+use Rattle.chl_words.specs.declared.asked.Asked.TheVariants.{Build, Solve, Query}
 
 -- every command over every table of files has an answer
 abbrev pub TheFilesDecide : Type 0

@@ -10,7 +10,7 @@ use Rattle.chl_cmd.specs.Commands.{Decides, stage_of, place_of}
 use Rattle.chl_cmd.specs.Statuses.{status_of, CarriesFaultsAlone, CountsInput, CountsOutput, HasNoOutput}
 use Rattle.chl_cmd.specs.declared.status.Status.{Status}
 use Rattle.chl_cmd.specs.declared.status.Status.TheVariants.{Done, WriteFault, NoMemory}
-use Rattle.chl_cmd.specs.declared.words.asked.Asked.{Asked}
+use Rattle.chl_words.specs.declared.asked.Asked.{Asked}
 
 -- the desk after these bytes were said, or a file was created that has them
 abbrev pub given : Option (List ℕ) → List ℕ → Contents → Contents

@@ -2,16 +2,19 @@ ghost use Rattle.std.specs.Prelude.{◌≡◌};
 ghost use Rattle.std.specs.Option.{option_copied};
 ghost use Rattle.chl_inputs.specs.Stages.{Goes};
 ghost use Rattle.chl_cmd.specs.Commands.{bytes_of, place_of, stage_of};
-ghost use Rattle.chl_cmd.specs.Words.{IsWithinLimits};
+ghost use Rattle.chl_words.specs.Asking.{IsWithinLimits};
 
 mod build;
+mod degree;
 mod list;
 mod query;
 mod solve;
 
-use crate::words::{Asked, Construction, Name};
+use crate::construction::Construction;
 use build::build_output;
 use chl_inputs::Stop;
+use chl_words::{Asked, Name};
+use degree::degree_output;
 use desk_io::{Desk, Gate};
 use list::list_output;
 use query::query_output;
@@ -81,6 +84,7 @@ pub fn output<R: Threads + Wait + Sync, D: Desk, G: Gate + Sync>(
             )
         }
         Asked::Query { index, pairs } => query_output(rt, alloc, index.text(), pairs.text(), desk),
+        Asked::Degree { graph } => degree_output(alloc, graph.text(), desk),
     }
 }
 
@@ -89,7 +93,8 @@ pub fn out_file(asked: &Asked) -> Option<&Name>
     ensures { option_copied result ≡ place_of asked.now }
 {
     match asked {
-        Asked::List { .. } | Asked::Solve { .. } | Asked::Query { .. } => None,
+        Asked::List { .. } | Asked::Solve { .. } | Asked::Query { .. } | Asked::Degree { .. } =>
+            None,
         Asked::Build { out, .. } => Some(out),
     }
 }

@@ -5,7 +5,7 @@ ghost use Rattle.desk_io.specs.Counts.{CountsFailure};
 ghost use Rattle.desk_io.specs.declared.desk.DeskFault.TheVariants.{Failed};
 ghost use Rattle.chl_cmd.specs.Outcome.{given, GivesFront};
 
-use crate::words::Name;
+use chl_words::Name;
 use desk_io::{Desk, DeskFault, Out, write_all};
 
 /// Gives bytes: to the file of this name, which it creates, or to standard output.

@@ -1,9 +1,10 @@
 ghost use Rattle.std.specs.Prelude.{◌≡◌, length, IfOk};
 ghost use Rattle.walk_laws.specs.Joined.{Joined};
 ghost use Rattle.walk_laws.specs.Labelling.{IsChl};
-ghost use Rattle.chl_cmd.specs.Words.{AreWithinLimits};
+ghost use Rattle.chl_words.specs.Asking.{AreWithinLimits};
 
-use crate::words::{By, Construction};
+use crate::construction::Construction;
+use chl_words::By;
 use desk_io::Gate;
 use hub_index::Index;
 use lcc_build::build_lcc;

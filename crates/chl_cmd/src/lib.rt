@@ -1,5 +1,5 @@
 //! The commands of the program, over any desk: [`run`] reads the words, carries the command out, and says how it ended.
-//! `words` reads what is asked for, `commands` has a file for the bytes of each command, and `giving` writes them. It stands on
+//! The words are read by chl_words. `commands` has a file for the bytes of each command, and `giving` writes them. It stands on
 //! all crates below. What a command reads and works out, and where its bytes go, is one case of `command_of` (specs/Commands),
 //! and what the files decide of it is `Decides`, of which `laws` has two laws. The clauses of [`run`] name no command; they use
 //! these words and those of specs/Outcome (what a run does to its desk), specs/Words (the lists of words that are commands),
@@ -7,6 +7,7 @@
 #![tactic(auto)]
 
 mod commands;
+mod construction;
 mod giving;
 mod labelling;
 pub mod laws;
@@ -14,9 +15,8 @@ mod running;
 mod status;
 #[cfg(test)]
 mod tests;
-mod words;
 
 pub use chl_inputs::Stop;
+pub use chl_words::{AskFault, Asked, By, Name, read_words};
 pub use running::run;
 pub use status::Status;
-pub use words::{AskFault, Asked, By, Name, read_words};

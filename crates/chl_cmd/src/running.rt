@@ -5,14 +5,15 @@ ghost use Rattle.chl_inputs.specs.Stages.{OpensInOrder};
 ghost use Rattle.chl_cmd.specs.Commands.{Decides, place_of, stage_of};
 ghost use Rattle.chl_cmd.specs.Outcome.{Runs, Gives, GivesPart, Stops, OpensNoOther, ChangesNoOther};
 ghost use Rattle.chl_cmd.specs.Statuses.{CarriesFaultsAlone, CountsInput, CountsOutput, HasNoOutput, status_of, status_after};
-ghost use Rattle.chl_cmd.specs.Words.{IsCommand, IsNoCommand, IsWithinLimits};
+ghost use Rattle.chl_cmd.specs.Words.{IsCommand, IsNoCommand};
+ghost use Rattle.chl_words.specs.Asking.{IsWithinLimits};
 ghost use Rattle.chl_cmd.specs.declared.status.Status.TheVariants.{Done, Usage, ReadFault, WriteFault, NoMemory};
-ghost use Rattle.chl_cmd.specs.declared.words.asked.Asked.{Asked as Command};
+ghost use Rattle.chl_words.specs.declared.asked.Asked.{Asked as Command};
 
 use crate::commands::{out_file, output};
 use crate::giving::give;
 use crate::status::{Status, stopped};
-use crate::words::{AskFault, Asked, read_words};
+use chl_words::{AskFault, Asked, read_words};
 use desk_io::{Desk, DeskFault, Gate};
 use std::alloc::Global;
 use std::sync::Wait;

@@ -1,2 +1,3 @@
 pub mod PrintedRows
 pub mod PrintedAnswers
+pub mod PrintedOrders

@@ -2,6 +2,7 @@ ghost use Rattle.std.specs.Prelude.{◌≡◌, ℕ, ◌<◌, ◌∷◌, ◌++◌
 ghost use Rattle.std.specs.Fmt.{decimal};
 ghost use Rattle.hub_query.specs.Meant.{meant};
 ghost use Rattle.chl_lines.specs.PrintedAnswers.{answer_line, answer_lines as lines_of_answers};
+ghost use Rattle.chl_lines.specs.PrintedOrders.{node_line, order_lines as lines_of_nodes};
 ghost use Rattle.chl_lines.specs.PrintedRows.{entry_words, row_line, lines_from, HasPositions};
 
 use hub_index::Index;
@@ -111,5 +112,26 @@ fn print_number(text: &mut Vec<u8>, number: u64) -> Result<(), AllocError>
     let mut buffer = Buffer::new();
     text.push(b' ')?;
     text.extend_from_slice(buffer.format(number).as_bytes())?;
+    Ok(())
+}
+
+/// The order text of a ranking: its nodes, highest rank first, each on a line of its own.
+pub fn order_lines(alloc: Global, ranking: &Ranking) -> Result<Vec<u8>, AllocError>
+    ensures { IfOk result (λ text. text.items ≡ lines_of_nodes ranking.now) }
+{
+    let mut text = Vec::new(alloc);
+    for p in 0..ranking.n() {
+        print_node(&mut text, ranking.at(p))?;
+    }
+    Ok(text)
+}
+
+/// Puts the line of a node at the end of a text.
+fn print_node(text: &mut Vec<u8>, node: u32) -> Result<(), AllocError>
+    ensures { OnOk result (text.new.items ≡ text.old.items ++ node_line node) }
+{
+    let mut buffer = Buffer::new();
+    text.extend_from_slice(buffer.format(node).as_bytes())?;
+    text.push(b'\n')?;
     Ok(())
 }

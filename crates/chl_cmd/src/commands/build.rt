@@ -5,10 +5,10 @@ ghost use Rattle.walk_laws.specs.Joined.{Joined};
 ghost use Rattle.walk_laws.specs.Labelling.{IsChl};
 ghost use Rattle.chl_inputs.specs.Stages.{Goes};
 ghost use Rattle.chl_cmd.specs.Commands.{build_stage, bytes_of};
-ghost use Rattle.chl_cmd.specs.Words.{AreWithinLimits};
+ghost use Rattle.chl_words.specs.Asking.{AreWithinLimits};
 
+use crate::construction::Construction;
 use crate::labelling::labelling;
-use crate::words::Construction;
 use chl_inputs::{Stop, read_graph, read_order};
 use desk_io::{Desk, Gate};
 use index_file::encode;

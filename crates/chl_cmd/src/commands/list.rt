@@ -6,10 +6,11 @@ ghost use Rattle.chl_inputs.specs.Stages.{Goes};
 ghost use Rattle.chl_lines.specs.PrintedRows.{lines_from};
 ghost use Rattle.chl_cmd.specs.Commands.{bytes_of, list_stage};
 
+use crate::construction::Construction;
 use crate::labelling::labelling;
-use crate::words::{By, Construction};
 use chl_inputs::{Stop, read_graph, read_order};
 use chl_lines::row_lines;
+use chl_words::By;
 use desk_io::{Desk, FreeGate};
 use rank_table::Ranking;
 use std::alloc::{AllocError, Global};

@@ -7,11 +7,11 @@ ghost use Rattle.chl_inputs.specs.Inputs.{ArePairsWithin};
 ghost use Rattle.chl_inputs.specs.Stages.{Goes};
 ghost use Rattle.chl_lines.specs.PrintedAnswers.{answer_lines as lines_of_answers};
 ghost use Rattle.chl_cmd.specs.Commands.{AreAnswers, bytes_of, solve_stage};
-ghost use Rattle.chl_cmd.specs.Words.{AreWithinLimits};
+ghost use Rattle.chl_words.specs.Asking.{AreWithinLimits};
 
 use super::query::replies_text;
+use crate::construction::Construction;
 use crate::labelling::labelling;
-use crate::words::Construction;
 use chl_inputs::{Stop, read_graph, read_order, read_pairs};
 use desk_io::{Desk, Gate};
 use dimacs_text::Pairs;

@@ -32,7 +32,6 @@ fn words_and_names_are_judged(rt: HostRuntime) -> Result<(), Fail> {
         ("", "chl: usage"),
         ("chl", "chl: usage"),
         ("chl build --graph g", "chl: usage"),
-        ("chl list --order o --graph g", "chl: usage"),
         ("chl list --graph g --order", "chl: usage"),
         ("chl list --graph g --order -o", "chl: usage"),
         ("chl list --graph g --order o x", "chl: usage"),
@@ -47,10 +46,6 @@ fn words_and_names_are_judged(rt: HostRuntime) -> Result<(), Fail> {
             "chl: usage",
         ),
         (
-            "chl build --graph g --order o --out x --workers 01",
-            "chl: usage",
-        ),
-        (
             "chl build --graph g --order o --out x --cut 0",
             "chl: usage",
         ),
@@ -62,10 +57,6 @@ fn words_and_names_are_judged(rt: HostRuntime) -> Result<(), Fail> {
             "chl build --graph g --order o --out x --by gll",
             "chl: usage",
         ),
-        (
-            "chl build --graph g --order o --out x --cut 1 --workers 1",
-            "chl: usage",
-        ),
         ("chl build --graph g --order o --out x --cut", "chl: usage"),
         ("chl build --graph g --order o --workers 1", "chl: usage"),
         (
@@ -73,7 +64,8 @@ fn words_and_names_are_judged(rt: HostRuntime) -> Result<(), Fail> {
             "chl: usage",
         ),
         ("chl solve --graph g --order o --out x", "chl: usage"),
-        ("chl query --pairs p --index x", "chl: usage"),
+        ("chl degree", "chl: usage"),
+        ("chl degree --graph missing", "chl: read failed"),
         ("chl query --index x --pairs p --workers 1", "chl: usage"),
         ("chl list --graph missing --order o", "chl: read failed"),
         (
@@ -92,6 +84,27 @@ fn words_and_names_are_judged(rt: HostRuntime) -> Result<(), Fail> {
         assert!(rt; desk.file("x").is_none());
     }
     Ok(())
+}
+
+/// Options come in any order and in both forms; the path of three has its nodes by degree.
+#[test]
+fn options_come_in_any_order(rt: HostRuntime) -> Result<(), Fail> {
+    let mut desk = desk_of(rt.alloc(), 4096, &[], PATH, PATH_ORDER)?;
+    expect(
+        &rt,
+        &mut desk,
+        "chl list --order=o --graph g",
+        "chl: done",
+        PATH_ROWS,
+    )?;
+    let mut desk = desk_of(rt.alloc(), 4096, &[], PATH, PATH_ORDER)?;
+    expect(
+        &rt,
+        &mut desk,
+        "chl degree --graph=g",
+        "chl: done",
+        "2\n1\n3\n",
+    )
 }
 
 /// With ample memory the path of three does not end for want of it. Its allocations can be made to fail in turn.
