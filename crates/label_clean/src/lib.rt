@@ -1,7 +1,8 @@
 //! Cleaning of label rows: of the entries that workers put, as they went, exactly the canonical ones are kept.
 //!
 //! [`clean`] makes the canonical hub labelling, up to a position, of a global table and raw rows; [`survivors`] gives only
-//! the raw entries that are kept, and never copies the global table. An entry is needless, and deleted, where a hub that
+//! the raw entries that are kept, and never copies the global table; [`clean_in_place`] takes the raw rows and gives the whole
+//! labelling, with no global table and no copy of the rows. An entry is needless, and deleted, where a hub that
 //! ranks above its own is shared by the rows of its hub and of its node at no greater length. `laws` has the step of a
 //! builder who goes on with a global table. It stands on walk_laws (`Entry`, the laws of covers), rank_table (`Ranking`) and
 //! hub_index (`RowList`, `RootTable`). Its callers' clauses use `HoldsBelow` and `IsChlBelow` (specs/Below), `IsRawRow` and

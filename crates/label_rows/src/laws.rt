@@ -24,7 +24,7 @@ pub fn the_rule_is_kept()
 {}
 
 /// The rule is the one that the table of the rows is held to, between any two steps; and of the steps that a seat takes by
-/// itself neither a take nor a look adds a visit: only giving a turn back does.
+/// itself neither a take nor a look adds a visit.
 pub fn the_table_is_held_to_the_rule()
     ensures rule { (about : AboutRows) (rows : RowTable) → ⟦<Law as TableRule<Row, View, About>>⟧.holds about rows ↔ IsLawful about rows }
     ensures take { (step : Step (List AnEntry)) (me : Sitter) (found : ℕ) (after : Sitter) → ⟦<Takes as Play<Row, View>>⟧.then step me found after → after.0.visits ≡ me.0.visits }

@@ -21,10 +21,9 @@ use walk_laws::Graph;
 use walk_laws::laws::the_lightest_edges_keep_the_labelling;
 
 /// The index of the canonical hub labelling of a graph under a ranking of its nodes. It begins with the edges that matter: of
-/// those between two nodes the lightest. So many workers claim roots one by one,
-/// by rising position, and grow their pruned trees at the same time over rows that all of them write; then the rows are
-/// cleaned, on all cores. The gate sees each root begin, and end with the number of entries that its tree put. The only
-/// error is that memory ran out.
+/// those between two nodes the lightest. So many workers claim roots one by one, and grow their pruned trees at the same time
+/// over rows that all of them write; then the rows are cleaned, on all cores. The gate is told of each root when its tree
+/// begins and when it ends. The only error is that memory ran out.
 ///
 /// In the square 1-2-3-4-1 of weights 1, of which a smaller number ranks higher, the tree of node 2 ends at 3 where it comes
 /// after that of node 1, which is a hub of 2 and of 4 and covers the way from 2 to 4. Where it comes before, or meanwhile,

@@ -25,8 +25,8 @@ pub struct Share {
 }
 
 /// One worker of the build: it claims roots until none is left, and grows the tree of each over the rows that all workers
-/// write. The gate sees each root begin, and end with the number of entries that its tree put. Where memory runs out, the
-/// entries put by then stay, the worker claims no more, and others may go on. Its seats come back in any case.
+/// write. Its gate is told of each root when its tree begins, and when it ends with the number of entries put. Where memory
+/// runs out, the entries put by then stay, and others may go on. Its seats come back in any case.
 ///
 /// ```text
 /// let (claims, claim_seat) = Claims::new(alloc, 0, n, 1)?;

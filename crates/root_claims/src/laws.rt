@@ -16,8 +16,8 @@ pub fn the_rule_is_kept()
     ensures join { JoinsKeep }
 {}
 
-/// The rule is the one that the table of the counter is held to, between any two steps; and a look, the only other step that
-/// a seat takes by itself, adds no number: only a draw does.
+/// The rule is the one that the table of the counter is held to, between any two steps; and a look adds no number to those
+/// that a seat has drawn.
 pub fn the_table_is_held_to_the_rule()
     ensures rule { (about : BoundsOfClaims) (claims : Table) → ⟦<Law as TableRule<(), View, Bounds>>⟧.holds about claims ↔ Holds about claims }
     ensures look { (step : Step (Unit {0})) (me : Sitter) (found : ℕ) (after : Sitter) → ⟦<Looks as Play<(), View>>⟧.then step me found after → after.0.got ≡ me.0.got }

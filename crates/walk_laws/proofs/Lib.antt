@@ -1,9 +1,10 @@
 pub mod Filters
 pub mod Arcs
 pub mod JoinedEdges
-pub mod Halving
 pub mod Sorting
 pub mod StoredRows
+pub mod PlacedArcs
+pub mod SortedRows
 pub mod Storing
 pub mod Positions
 pub mod Walks

@@ -1,17 +1,9 @@
 -- Compressed rows: the arcs of all nodes in one list, and where those of each node begin.
 use Rattle.std.specs.Prelude.{ℕ, ◌-◌, ◌<◌, ◌≤◌, List, [], All, length, slice_index, slice_range}
-use Rattle.std.specs.List.{AllWithin}
 use Rattle.std.specs.List.Sorted.{IsNonDecreasing}
 use Rattle.walk_laws.specs.declared.graph.Edge.{Edge}
 use Rattle.walk_laws.specs.declared.graph.Arc.{Arc}
-use Rattle.walk_laws.specs.declared.halves.Half.{Half}
 use Rattle.walk_laws.specs.Graph.{IsGraph, IsRowOf, arcs_at}
-
--- the first place whose half leaves v or a later node
-pub record IsFirstFrom (halves : List Half) (v at : ℕ) : Type 0 where
-  pub within : at ≤ length halves
-  pub before : AllWithin (λ h. h.from < v) halves 0 at
-  pub after : AllWithin (λ h. v ≤ h.from) halves at (length halves)
 
 -- A graph; the starts rise within the arcs, between that of a node and the next lies the node's row, and the rows of later
 -- nodes are empty. The invariant of `Graph` writes this out.

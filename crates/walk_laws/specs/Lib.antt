@@ -1,7 +1,7 @@
 pub mod Graph
 pub mod Joined
 pub mod Ranking
-pub mod Halves
+pub mod Rows
 pub mod Walk
 pub mod Least
 pub mod On

@@ -1,7 +1,7 @@
 ghost use Rattle.std.specs.Prelude.{◌≡◌, ℕ, ◌≤◌, ◌==◌, filter, map, Contains, ◌↔◌, IfOk};
 ghost use Rattle.std.specs.List.Sorted.{IsNonDecreasing};
 
-use crate::halves::{arcs_of, halves_of, sort_halves, starts_of};
+use crate::rows::{place_arcs, sort_rows, starts_of};
 use std::alloc::{AllocError, Global};
 use std::marker::Model;
 
@@ -56,18 +56,17 @@ impl Graph {
     ghost use Rattle.walk_laws.specs.Graph.{IsGraph, arcs_at};
     ghost use Rattle.walk_laws.specs.Joined.{Joined};
 
-    /// The graph with nodes 1..n and these edges. It sorts their halves once, in O(m log m) for m edges; nodes after the
-    /// last one with an edge cost nothing.
+    /// The graph with nodes 1..n and these edges. It counts the arcs of each node, places them and sorts those of
+    /// each node, in O(m log d) for m edges and d of them at a node; nodes after the last one with an edge cost nothing.
     /// The only error is that memory ran out.
     pub fn new(alloc: Global, n: u32, edges: Vec<Edge>) -> Result<Graph, AllocError>
         requires { IsGraph n edges.items }
         ensures n { IfOk result (λ g. g.n ≡ n) }
         ensures edges { IfOk result (λ g. g.edges ≡ edges.items) }
     {
-        let mut halves = halves_of(alloc, &edges)?;
-        sort_halves(&mut halves)?;
-        let starts = starts_of(alloc, &halves)?;
-        let arcs = arcs_of(alloc, &halves)?;
+        let mut starts = starts_of(alloc, &edges)?;
+        let mut arcs = place_arcs(alloc, &edges, &mut starts)?;
+        sort_rows(alloc, &mut arcs, &starts)?;
         Ok(Graph {
             n,
             edges,

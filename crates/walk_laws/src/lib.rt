@@ -1,6 +1,6 @@
 //! Weighted undirected graphs, walks, hubs and label rows: what they are, and the laws that hold of them.
 //!
-//! `graph` has the type `Graph`, which keeps its edge list and each node's arcs in compressed rows, and `halves` builds
+//! `graph` has the type `Graph`, which keeps its edge list and each node's arcs in compressed rows, and `rows` places
 //! the rows; `lightest` keeps the edges that matter; `entry` has the entries of label rows. `laws` has a function for each law of walks and hubs, and `worked` has
 //! two small graphs, worked by hand. It stands on std alone. Its callers' clauses use `specs/Graph` (`WeightedGraph`,
 //! `IsGraph`, `IsEdge`, `greatest_weight`, `arcs_at`), `specs/Lightest`, `specs/Joined`, `specs/Ranking`, and of walks and hubs `specs/Walk`,
@@ -9,9 +9,9 @@
 
 mod entry;
 mod graph;
-mod halves;
 pub mod laws;
 mod lightest;
+mod rows;
 pub mod worked;
 
 pub use entry::Entry;
