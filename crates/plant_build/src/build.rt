@@ -1,4 +1,4 @@
-ghost use Rattle.std.specs.Prelude.{◌≡◌, ℕ, ◌^◌, ◌≤◌, List, All, length, IfOk, OnOk, IfSome};
+ghost use Rattle.std.specs.Prelude.{◌≡◌, ℕ, ◌*◌, ◌^◌, ◌≤◌, List, All, length, IfOk, OnOk, IfSome};
 ghost use Rattle.walk_laws.specs.declared.graph.Edge.{Edge as AnEdge};
 ghost use Rattle.walk_laws.specs.Joined.{Joined};
 ghost use Rattle.walk_laws.specs.Labelling.{IsChl};
@@ -65,12 +65,28 @@ fn planted_rows<R: Threads + Wait + Sync, G: Gate + Sync>(
 {
     let n = graph.n();
     let roots = ranking.n();
-    let batches = roots.div_ceil(cut).max(1).min(1 << 30);
+    let batches = batches_for(roots, workers, cut);
     let mut crew = crew_of(alloc, n, batches, workers)?;
     work(rt, alloc, graph, ranking, batches, gate, &mut crew, workers);
     let (come, mut sinks) = collect(alloc, batches, crew)?;
     sinks.push(plant_missing(alloc, graph, ranking, batches, gate, &come)?)?;
     gather(rt, alloc, n, &sinks)
+}
+
+/// The batches that each worker is dealt, where there are roots enough. With many the workers end at nearly the same time.
+const BATCHES_A_WORKER: u32 = 32;
+
+/// In how many batches the roots are dealt: so many that none has more than `cut`, and that there are some for each worker.
+fn batches_for(roots: u32, workers: u32, cut: u32) -> u32
+    requires workers { workers ≤ 64 }
+    requires cut { 1 ≤ cut }
+    ensures from { 1 ≤ result }
+    ensures to { result ≤ 2 ^ 30 }
+    ensures cut { roots ≤ 2 ^ 30 → roots ≤ result * cut }
+{
+    let enough = roots.div_ceil(cut);
+    let even = roots.min(workers * BATCHES_A_WORKER);
+    enough.max(even).max(1).min(1 << 30)
 }
 
 /// The workers plant, side by side.
