@@ -1,5 +1,5 @@
 ghost use Rattle.std.specs.Prelude.{◌≡◌, ◌≢◌, ℕ, ◌+◌, ◌<◌, ◌≤◌, length, replicate, IfOk, OnOk, OnErr, IfSome, IfNone};
-ghost use Rattle.frontier.specs.Reaches.{reach_at, heeds, with_offer, settled};
+ghost use Rattle.frontier.specs.Reaches.{reach_at, with_offer, settled};
 ghost use Rattle.frontier.specs.declared.reach.Found.{Found};
 ghost use Rattle.frontier.specs.declared.reach.Reach.TheVariants.{Unreached, Queued};
 
@@ -54,19 +54,6 @@ impl<C: Carry> Frontier<C> {
         self.reaches.get(node)
     }
 
-    /// Whether an offer to the node at this distance can change anything: not where the node is settled, or queued at a
-    /// shorter distance. What such an offer would carry need not be known.
-    pub fn heeds(&self, node: u32, dist: u64) -> bool
-        requires { node < length self.now }
-        ensures { result ≡ heeds (reach_at self.now node) dist }
-    {
-        match self.reaches.get(node) {
-            Reach::Unreached => true,
-            Reach::Queued(best) => dist <= best.dist,
-            Reach::Settled(_) => false,
-        }
-    }
-
     /// Offers a node a distance, and something to carry. A node that wasn't reached is queued with them; a queued node
     /// takes a shorter distance, and combines what is carried at an equal one; nothing else changes. The only error is
     /// that memory ran out, and then nothing has changed.
@@ -75,25 +62,48 @@ impl<C: Carry> Frontier<C> {
         ensures ok { OnOk result (self.new ≡ with_offer C.combined self.old node (record { dist = dist; carried = carried })) }
         ensures err { OnErr result (self.new ≡ self.old) }
     {
+        self.offer_from(node, self.reach(node), dist, carried)?;
+        Ok(())
+    }
+
+    /// The same [`offer`](Frontier::offer), by one who knows how far the search has come with the node. It answers how far
+    /// the search has come with it then.
+    pub fn offer_from(
+        &mut self,
+        node: u32,
+        reach: Reach<C>,
+        dist: u64,
+        carried: C,
+    ) -> Result<Reach<C>, AllocError>
+        requires node { node < length self.old }
+        requires reach { reach ≡ reach_at self.old node }
+        ensures ok { OnOk result (self.new ≡ with_offer C.combined self.old node (record { dist = dist; carried = carried })) }
+        ensures reach { IfOk result (λ after. after ≡ reach_at self.new node) }
+        ensures err { OnErr result (self.new ≡ self.old) }
+    {
         let offer = Found { dist, carried };
-        match self.reaches.get(node) {
+        match reach {
             Reach::Unreached => {
                 self.touched.push(node)?;
                 self.turns.push(Turn::of(node, dist))?;
-                self.reaches.set(node, Reach::Queued(offer));
+                let after = Reach::Queued(offer);
+                self.reaches.set(node, after);
+                Ok(after)
             }
             Reach::Queued(best) if dist < best.dist => {
                 self.turns.push(Turn::of(node, dist))?;
-                self.reaches.set(node, Reach::Queued(offer));
+                let after = Reach::Queued(offer);
+                self.reaches.set(node, after);
+                Ok(after)
             }
             Reach::Queued(best) if dist == best.dist => {
                 let carried = best.carried.combine(carried);
-                self.reaches
-                    .set(node, Reach::Queued(Found { dist, carried }));
+                let after = Reach::Queued(Found { dist, carried });
+                self.reaches.set(node, after);
+                Ok(after)
             }
-            _ => {}
+            _ => Ok(reach),
         }
-        Ok(())
     }
 
     /// Settles a queued node of least distance, and answers it with what was found of it; None where no node is queued.

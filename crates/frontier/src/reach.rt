@@ -1,3 +1,6 @@
+ghost use Rattle.std.specs.Prelude.{◌≡◌};
+ghost use Rattle.frontier.specs.Reaches.{heeds};
+
 /// What has been found of a node: the least distance that it was offered, and what the offers at that distance carry.
 #[derive(Clone, Copy, Debug, PartialEq, Eq)]
 pub struct Found<C> {
@@ -14,4 +17,18 @@ pub enum Reach<C> {
     Queued(Found<C>),
     /// It was taken, and later offers change nothing.
     Settled(Found<C>),
+}
+
+impl<C> Reach<C> {
+    /// Whether an offer to the node at this distance can change anything: not where the node is settled, or queued at a
+    /// shorter distance. What such an offer would carry need not be known.
+    pub fn heeds(&self, dist: u64) -> bool
+        ensures { result ≡ heeds self.now dist }
+    {
+        match self {
+            Reach::Unreached => true,
+            Reach::Queued(best) => dist <= best.dist,
+            Reach::Settled(_) => false,
+        }
+    }
 }

@@ -26,9 +26,9 @@ fn takes_the_nearest_first(rt: HostRuntime) -> Result<(), Fail> {
     frontier.offer(3, 8, Least(0))?;
     frontier.offer(1, 2, Least(8))?;
     assert_eq!(rt; frontier.reach(4), Reach::Unreached);
-    assert!(rt; frontier.heeds(4, 9));
-    assert!(rt; frontier.heeds(2, 5));
-    assert!(rt; !frontier.heeds(2, 6));
+    assert!(rt; frontier.reach(4).heeds(9));
+    assert!(rt; frontier.reach(2).heeds(5));
+    assert!(rt; !frontier.reach(2).heeds(6));
     let first = Found {
         dist: 2,
         carried: Least(8),
@@ -36,7 +36,7 @@ fn takes_the_nearest_first(rt: HostRuntime) -> Result<(), Fail> {
     assert_eq!(rt; frontier.take(), Some((1, first)));
     frontier.offer(1, 1, Least(0))?;
     assert_eq!(rt; frontier.reach(1), Reach::Settled(first));
-    assert!(rt; !frontier.heeds(1, 0));
+    assert!(rt; !frontier.reach(1).heeds(0));
     frontier.offer(2, 5, Least(1))?;
     let second = Found {
         dist: 5,

@@ -103,15 +103,16 @@ fn grow(
         label(&mut planted, v, found, p)?;
         for arc in graph.arcs(v) {
             let dist = found.dist + arc.w;
-            if !frontier.heeds(arc.to, dist) {
+            let before = frontier.reach(arc.to);
+            if !before.heeds(dist) {
                 continue;
             }
             let carried = Highest {
                 position: found.carried.position.min(ranking.pos(arc.to)),
             };
-            wanted -= wants(frontier.reach(arc.to), p);
-            frontier.offer(arc.to, dist, carried)?;
-            wanted += wants(frontier.reach(arc.to), p);
+            let after = frontier.offer_from(arc.to, before, dist, carried)?;
+            wanted -= wants(before, p);
+            wanted += wants(after, p);
         }
     }
     Ok((planted, settled))

@@ -109,11 +109,12 @@ fn relax(
 {
     for arc in arcs {
         let reached = dist + arc.w;
-        if !frontier.heeds(arc.to, reached) {
+        let before = frontier.reach(arc.to);
+        if !before.heeds(reached) {
             continue;
         }
         if ranking.pos(arc.to) >= p {
-            frontier.offer(arc.to, reached, Bare {})?;
+            frontier.offer_from(arc.to, before, reached, Bare {})?;
         }
     }
     Ok(())

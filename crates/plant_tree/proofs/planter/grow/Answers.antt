@@ -19,7 +19,7 @@ use Rattle.frontier.specs.Reaches as frontier
 use Rattle.plant_tree.proofs.TreeTypes.{Found, Reach}
 use Rattle.plant_tree.proofs.TreeWanted.{wants_one, wanted-le, wanted-relaxed, wanted-settled, wanted-start, none_wanted}
 use Rattle.plant_tree.proofs.planter.grow.Goals as goal
-use Rattle.plant_tree.proofs.planter.grow.Goals.{After-new-planted, At-loop-wanted, In-loop-arc, In_ok-offer-2, After-wants-wanted-in-loop-arc-2, After-loop-arc}
+use Rattle.plant_tree.proofs.planter.grow.Goals.{After-new-planted, At-loop-wanted, In-loop-arc, In_ok-after, After-wants-wanted-in-loop-arc-2, After-loop-arc}
 
 -- the frontier as it is at first: the root alone is queued
 record AtFirst (n root p : ℕ) (nodes : List Reach) : Type 0 where
@@ -98,8 +98,8 @@ pos-requires-clause-node c = (arc_of (goal.at.pos-requires-clause-node c).In-loo
 pub pos-requires-clause-within : goal.pos-requires-clause-within
 pos-requires-clause-within c = omega (arith, (arc_of (goal.at.pos-requires-clause-within c).In-loop-arc).up_to_n, c.requires.ranked)
 
-pub reach-requires : goal.reach-requires
-reach-requires c = arc_inside (goal.at.reach-requires c).In-loop-arc
+pub reach-before-requires : goal.reach-before-requires
+reach-before-requires c = arc_inside (goal.at.reach-before-requires c).In-loop-arc
 
 pub overflow_add-dist : goal.overflow_add-dist
 overflow_add-dist c =
@@ -109,13 +109,10 @@ overflow_add-dist c =
     let fits = fits_64 c.args.graph.now.n c.args.graph.now.edges c.in-Some.found.dist _ c.requires.graph (omega (arith, node)) room in
     omega (arith, fits, (arc_of (goal.at.overflow_add-dist c).In-loop-arc).light)
 
-pub heeds-requires : goal.heeds-requires
-heeds-requires c = arc_inside (goal.at.heeds-requires c).In-loop-arc
-
 pub loop-arc-preserved-then-not-heeds : goal.loop-arc-preserved-then-not-heeds
 loop-arc-preserved-then-not-heeds c =
     let a : Arc = get_or c.arcs-arc-items.result.now c.loop-arc.arc-index (record { to = 0; w = 0 }) in
-    let same : relaxed c.args.ranking.now c.in-Some.found a c.loop-arc.frontier ≡ c.loop-arc.frontier = relaxed_unheeded c.args.ranking.now c.in-Some.found a c.loop-arc.frontier (sym c.heeds.ensures ∙ c.if-not-heeds.true) in
+    let same : relaxed c.args.ranking.now c.in-Some.found a c.loop-arc.frontier ≡ c.loop-arc.frontier = relaxed_unheeded c.args.ranking.now c.in-Some.found a c.loop-arc.frontier (ap (λ r. frontier.heeds r (c.in-Some.found.dist + a.w)) (sym c.reach-before.ensures) ∙ sym c.heeds.ensures ∙ c.if-not-heeds.true) in
     record {
       size = c.loop-arc.invariant.size;
       rest = ap (relaxed_all c.args.ranking.now c.in-Some.found (drop (c.loop-arc.arc-index + 1) c.arcs-arc-items.result.now)) (sym same)
@@ -123,45 +120,42 @@ loop-arc-preserved-then-not-heeds c =
       count = c.loop-arc.invariant.count;
     }
 
-pub offer-requires-in-loop-arc : goal.offer-requires-in-loop-arc
-offer-requires-in-loop-arc c = arc_inside (goal.at.offer-requires-in-loop-arc c).In-loop-arc
+pub offer_from-requires-clause-node : goal.offer_from-requires-clause-node
+offer_from-requires-clause-node c = arc_inside (goal.at.offer_from-requires-clause-node c).In-loop-arc
 
 -- the frontier after the offer along the arc
-relaxed_now : (c : In_ok-offer-2) → c.offer-in-loop-arc.new.self ≡ relaxed c.args.ranking.now c.in-Some.found (get_or c.arcs-arc-items.result.now c.loop-arc.arc-index (record { to = 0; w = 0 })) c.loop-arc.frontier
+relaxed_now : (c : In_ok-after) → c.offer_from.new.self ≡ relaxed c.args.ranking.now c.in-Some.found (get_or c.arcs-arc-items.result.now c.loop-arc.arc-index (record { to = 0; w = 0 })) c.loop-arc.frontier
 relaxed_now c =
     let a : Arc = get_or c.arcs-arc-items.result.now c.loop-arc.arc-index (record { to = 0; w = 0 }) in
     let high : c.min.result ≡ min c.in-Some.found.carried.position (position_of c.args.ranking.now a.to) = c.min.ensures ∙ ap (min c.in-Some.found.carried.position) c.pos.ensures.value in
-    c.in_ok-offer-2.ensures.ok ∙ ap (λ m. frontier.with_offer higher c.loop-arc.frontier a.to (record { dist = c.in-Some.found.dist + a.w; carried = record { position = m } })) high
+    c.in_ok-after.ensures.ok ∙ ap (λ m. frontier.with_offer higher c.loop-arc.frontier a.to (record { dist = c.in-Some.found.dist + a.w; carried = record { position = m } })) high
 
-length_now : (c : In_ok-offer-2) → length c.offer-in-loop-arc.new.self ≡ length c.loop-arc.frontier
+length_now : (c : In_ok-after) → length c.offer_from.new.self ≡ length c.loop-arc.frontier
 length_now c = ap length (relaxed_now c) ∙ length-relaxed c.args.ranking.now c.in-Some.found (get_or c.arcs-arc-items.result.now c.loop-arc.arc-index (record { to = 0; w = 0 })) c.loop-arc.frontier
-
-pub reach-requires-in-loop-arc : goal.reach-requires-in-loop-arc
-reach-requires-in-loop-arc c = omega (arith, length_now (goal.at.reach-requires-in-loop-arc c).In_ok-offer-2, arc_inside (goal.at.reach-requires-in-loop-arc c).In-loop-arc)
 
 -- the count is right again after the arc
 count_now : (c : After-wants-wanted-in-loop-arc-2) → let a : Arc = get_or c.arcs-arc-items.result.now c.loop-arc.arc-index (record { to = 0; w = 0 }) in
-    a.to < length c.loop-arc.frontier → c.offer-in-loop-arc.new.self ≡ relaxed c.args.ranking.now c.in-Some.found a c.loop-arc.frontier →
-    c.loop-arc.wanted - c.wants-wanted-in-loop-arc.result + c.wants-wanted-in-loop-arc-2.result ≡ wanted c.args.p c.offer-in-loop-arc.new.self
+    a.to < length c.loop-arc.frontier → c.offer_from.new.self ≡ relaxed c.args.ranking.now c.in-Some.found a c.loop-arc.frontier →
+    c.loop-arc.wanted - c.wants-wanted-in-loop-arc.result + c.wants-wanted-in-loop-arc-2.result ≡ wanted c.args.p c.offer_from.new.self
 count_now c inside now =
     let a : Arc = get_or c.arcs-arc-items.result.now c.loop-arc.arc-index (record { to = 0; w = 0 }) in
     let change = wanted-relaxed c.args.p c.args.ranking.now c.in-Some.found a c.loop-arc.frontier inside in
-    let before : c.wants-wanted-in-loop-arc.result ≡ wants c.args.p (reach_of c.loop-arc.frontier a.to) = c.wants-wanted-in-loop-arc.ensures ∙ ap (wants c.args.p) c.reach.ensures in
+    let before : c.wants-wanted-in-loop-arc.result ≡ wants c.args.p (reach_of c.loop-arc.frontier a.to) = c.wants-wanted-in-loop-arc.ensures ∙ ap (wants c.args.p) c.reach-before.ensures in
     let after : c.wants-wanted-in-loop-arc-2.result ≡ wants c.args.p (reach_of (relaxed c.args.ranking.now c.in-Some.found a c.loop-arc.frontier) a.to) =
-    c.wants-wanted-in-loop-arc-2.ensures ∙ ap (wants c.args.p) (c.reach-in-loop-arc.ensures ∙ ap (λ ns. reach_of ns a.to) now) in
+    c.wants-wanted-in-loop-arc-2.ensures ∙ ap (wants c.args.p) (c.in_ok-after.ensures.reach ∙ ap (λ ns. reach_of ns a.to) now) in
     omega (arith, change, before, after, c.loop-arc.invariant.count, ap (wanted c.args.p) now, wants_one c.args.p c.loop-arc.frontier a.to inside)
 
 pub overflow_add-wanted : goal.overflow_add-wanted
 overflow_add-wanted c =
-    let few = wanted-le c.args.p c.offer-in-loop-arc.new.self in
-    let count = count_now c (arc_inside (goal.at.overflow_add-wanted c).In-loop-arc) (relaxed_now (goal.at.overflow_add-wanted c).In_ok-offer-2) in
-    omega (arith, few, count, length_now (goal.at.overflow_add-wanted c).In_ok-offer-2, c.loop-arc.invariant.size, c.requires.graph.small)
+    let few = wanted-le c.args.p c.offer_from.new.self in
+    let count = count_now c (arc_inside (goal.at.overflow_add-wanted c).In-loop-arc) (relaxed_now (goal.at.overflow_add-wanted c).In_ok-after) in
+    omega (arith, few, count, length_now (goal.at.overflow_add-wanted c).In_ok-after, c.loop-arc.invariant.size, c.requires.graph.small)
 
 pub loop-arc-preserved : goal.loop-arc-preserved
 loop-arc-preserved c =
-    let now = relaxed_now (goal.at.loop-arc-preserved c).In_ok-offer-2 in
+    let now = relaxed_now (goal.at.loop-arc-preserved c).In_ok-after in
     record {
-      size = length_now (goal.at.loop-arc-preserved c).In_ok-offer-2 ∙ c.loop-arc.invariant.size;
+      size = length_now (goal.at.loop-arc-preserved c).In_ok-after ∙ c.loop-arc.invariant.size;
       rest = ap (relaxed_all c.args.ranking.now c.in-Some.found (drop (c.loop-arc.arc-index + 1) c.arcs-arc-items.result.now)) now
           ∙ sym (relaxed_all-next c.args.ranking.now c.in-Some.found c.arcs-arc-items.result.now c.loop-arc.arc-index (record { to = 0; w = 0 }) c.loop-arc.frontier c.loop-arc-test.true) ∙ c.loop-arc.invariant.rest;
       count = count_now c (arc_inside (goal.at.loop-arc-preserved c).In-loop-arc) now;
