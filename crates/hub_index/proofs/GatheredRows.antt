@@ -10,16 +10,16 @@ use Rattle.walk_laws.specs.declared.entry.Entry.{Entry}
 use Rattle.walk_laws.specs.Labelling.{label_row}
 use Rattle.hub_index.specs.declared.entry_sink.NodeEntry.{NodeEntry}
 use Rattle.hub_index.specs.HubIndex.{with_entry}
-use Rattle.hub_index.specs.Sunk.{Sunk, range_at, entries_of_node, entry_if, range_of, all_in_range, IsGatheredRow}
+use Rattle.hub_index.specs.Sunk.{Sunk, range_at, entries_of_node, entry_if, entry_of, range_of, all_in_range, IsGatheredRow}
 use Rattle.hub_index.proofs.RowItems.{items_of}
 use Rattle.hub_index.proofs.RowsGathered.{row_gains, row_stays}
 
 pub entries_of_node-append : (xs ys : List NodeEntry) (v : ℕ) → entries_of_node (xs ++ ys) v ≡ entries_of_node xs v ++ entries_of_node ys v
 entries_of_node-append xs ys v =
-    ap (map (λ (e : NodeEntry). e.entry)) (filter-append (λ (e : NodeEntry). e.node == v) xs ys)
-    ∙ map-append (λ (e : NodeEntry). e.entry) (filter (λ (e : NodeEntry). e.node == v) xs) (filter (λ (e : NodeEntry). e.node == v) ys)
+    ap (map (λ (e : NodeEntry). entry_of e)) (filter-append (λ (e : NodeEntry). e.node == v) xs ys)
+    ∙ map-append (λ (e : NodeEntry). entry_of e) (filter (λ (e : NodeEntry). e.node == v) xs) (filter (λ (e : NodeEntry). e.node == v) ys)
 
-pub entries_of_node-one : (e : NodeEntry) (v : ℕ) → entries_of_node (e ∷ []) v ≡ entry_if e.node v e.entry
+pub entries_of_node-one : (e : NodeEntry) (v : ℕ) → entries_of_node (e ∷ []) v ≡ entry_if e.node v (entry_of e)
 entries_of_node-one e v = elim (eqb_tells e.node v) [ inl same ↦ rw same.0 refl | inr other ↦ rw other.0 refl ]
 
 pub entry_if-same : (v : ℕ) (e : Entry) → entry_if v v e ≡ e ∷ []
@@ -29,7 +29,7 @@ pub entry_if-other : (node v : ℕ) (e : Entry) → node ≢ v → entry_if node
 entry_if-other node v e other = rw (ne_eqb node v other) refl
 
 -- one more entry of a range
-pub entries_of_node-more : (entries : List NodeEntry) (i v : ℕ) (d : NodeEntry) → i < length entries → entries_of_node (take (i + 1) entries) v ≡ entries_of_node (take i entries) v ++ entry_if (get_or entries i d).node v (get_or entries i d).entry
+pub entries_of_node-more : (entries : List NodeEntry) (i v : ℕ) (d : NodeEntry) → i < length entries → entries_of_node (take (i + 1) entries) v ≡ entries_of_node (take i entries) v ++ entry_if (get_or entries i d).node v (entry_of (get_or entries i d))
 entries_of_node-more entries i v d lt =
     ap (λ es. entries_of_node es v) (take_more entries i d lt)
     ∙ entries_of_node-append (take i entries) (get_or entries i d ∷ []) v
@@ -100,18 +100,18 @@ abbrev pub ranges_of : List (Vec NodeEntry Global) → List (List NodeEntry)
 ranges_of ranges = map (λ (range : Vec NodeEntry Global). range.items) ranges
 
 -- one more entry, which lies in the range of its node
-pub sunk_after : (n : ℕ) (ranges : List (Vec NodeEntry Global)) (k node v : ℕ) (e : Entry) (old new : Vec NodeEntry Global) → k ≡ range_of n node → k < length ranges → old ≡ get_or ranges k old → new.items ≡ old.items ++ record { node = node; entry = e } ∷ [] → entries_of_node (get_or (ranges_of (set ranges k new)) (range_of n v) []) v ≡ entries_of_node (get_or (ranges_of ranges) (range_of n v) []) v ++ entry_if node v e
+pub sunk_after : (n : ℕ) (ranges : List (Vec NodeEntry Global)) (k node v : ℕ) (e : Entry) (old new : Vec NodeEntry Global) → k ≡ range_of n node → k < length ranges → old ≡ get_or ranges k old → new.items ≡ old.items ++ record { node = node; pos = e.pos; dist = e.dist } ∷ [] → entries_of_node (get_or (ranges_of (set ranges k new)) (range_of n v) []) v ≡ entries_of_node (get_or (ranges_of ranges) (range_of n v) []) v ++ entry_if node v e
 sunk_after n ranges k node v e old new in_range lt is grown =
     let moved : ranges_of (set ranges k new) ≡ set (ranges_of ranges) k new.items = map-set (λ (r : Vec NodeEntry Global). r.items) ranges k new in
     elim (cases_eq (range_of n v) k) [
       | inl here ↦
-          let now : get_or (ranges_of (set ranges k new)) (range_of n v) [] ≡ old.items ++ record { node = node; entry = e } ∷ [] =
+          let now : get_or (ranges_of (set ranges k new)) (range_of n v) [] ≡ old.items ++ record { node = node; pos = e.pos; dist = e.dist } ∷ [] =
           ap (λ i. get_or (ranges_of (set ranges k new)) i []) here ∙ ap (λ rs. get_or rs k []) moved ∙ get_or-set_same (ranges_of ranges) k new.items [] (omega (arith, length-map ranges (λ (r : Vec NodeEntry Global). r.items))) ∙ grown in
           let was : get_or (ranges_of ranges) (range_of n v) [] ≡ old.items =
           ap (λ i. get_or (ranges_of ranges) i []) here ∙ get_or-map (λ (r : Vec NodeEntry Global). r.items) ranges k old [] lt ∙ ap (λ (r : Vec NodeEntry Global). r.items) (sym is) in
           ap (λ es. entries_of_node es v) now
-          ∙ entries_of_node-append old.items (record { node = node; entry = e } ∷ []) v
-          ∙ ap (λ es. entries_of_node old.items v ++ es) (entries_of_node-one (record { node = node; entry = e }) v)
+          ∙ entries_of_node-append old.items (record { node = node; pos = e.pos; dist = e.dist } ∷ []) v
+          ∙ ap (λ es. entries_of_node old.items v ++ es) (entries_of_node-one (record { node = node; pos = e.pos; dist = e.dist }) v)
           ∙ ap (λ es. entries_of_node es v ++ entry_if node v e) (sym was)
       | inr other ↦
           ap (λ rs. entries_of_node (get_or rs (range_of n v) []) v) moved

@@ -22,9 +22,13 @@ range_width n = n / 64 + 64
 abbrev pub range_of : ℕ → ℕ → ℕ
 range_of n v = (v - 1) / range_width n
 
+-- the entry without its node
+abbrev pub entry_of : NodeEntry → Entry
+entry_of e = record { pos = e.pos; dist = e.dist }
+
 -- the entries of one node among those of several
 abbrev pub entries_of_node : List NodeEntry → ℕ → List Entry
-entries_of_node entries v = map (λ e. e.entry) (filter (λ e. e.node == v) entries)
+entries_of_node entries v = map (λ e. entry_of e) (filter (λ e. e.node == v) entries)
 
 -- the entries of a range
 abbrev pub range_at : Sunk → ℕ → List NodeEntry

@@ -1,15 +1,39 @@
 ghost use Rattle.std.specs.Prelude.{◌≡◌, ℕ, ◌≤◌, [], ◌++◌, slice_index_or, IfOk, OnOk};
-ghost use Rattle.hub_index.specs.Sunk.{sunk_at, entry_if, range_width as width_of};
+ghost use Rattle.hub_index.specs.Sunk.{sunk_at, entry_if, entry_of, range_width as width_of};
 
 use std::alloc::{AllocError, Global};
 use std::marker::Model;
 use walk_laws::Entry;
 
-/// An entry of the row of a node, which is a number from 1.
+/// An entry of the row of a node, which is a number from 1: the hub's position, from 0, and the distance. It takes no more
+/// room than the entry alone.
 #[derive(Clone, Copy, Debug, PartialEq, Eq)]
 pub struct NodeEntry {
     pub node: u32,
-    pub entry: Entry,
+    pub pos: u32,
+    pub dist: u64,
+}
+
+impl NodeEntry {
+    fn of(node: u32, entry: Entry) -> NodeEntry
+        ensures { result ≡ record { node = node; pos = entry.pos; dist = entry.dist } }
+    {
+        NodeEntry {
+            node,
+            pos: entry.pos,
+            dist: entry.dist,
+        }
+    }
+
+    /// The entry without its node.
+    pub fn entry(&self) -> Entry
+        ensures { result ≡ entry_of self.now }
+    {
+        Entry {
+            pos: self.pos,
+            dist: self.dist,
+        }
+    }
 }
 
 /// Entries of the rows of the nodes 1..n, as one worker puts them. They lie by ranges of nodes, so that many cores can
@@ -60,7 +84,7 @@ impl EntrySink {
         ensures put { OnOk result ((v : ℕ) → sunk_at self.new v ≡ sunk_at self.old v ++ entry_if node v entry) }
     {
         let range = (node - 1) / range_width(self.n);
-        self.ranges[range as usize].push(NodeEntry { node, entry })?;
+        self.ranges[range as usize].push(NodeEntry::of(node, entry))?;
         Ok(())
     }
 

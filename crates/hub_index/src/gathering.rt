@@ -97,7 +97,7 @@ fn place_entries(rows: &mut RowList, before: u32, entries: &[NodeEntry]) -> Resu
         if place > rows.n() {
             continue;
         }
-        rows.push(place, e.entry)?;
+        rows.push(place, e.entry())?;
     }
     Ok(())
 }
