@@ -188,10 +188,10 @@ Adds-none old new is = record {
   now = λ b. (λ h. inl (subst (λ marks. mark marks b ≡ true) is h), λ h. elim h [ inl old_is ↦ subst (λ marks. mark marks b ≡ true) (sym is) old_is | inr there ↦ absurd (Contains-empty b there) ]);
 }
 
-both_false : (b : Bool) → b ≡ true → b ≡ false → ⊥
+pub both_false : (b : Bool) → b ≡ true → b ≡ false → ⊥
 both_false b is_true is_false = true≢false (sym is_true ∙ is_false)
 
-unmarked : (b : Bool) → (b ≡ true → ⊥) → b ≡ false
+pub unmarked : (b : Bool) → (b ≡ true → ⊥) → b ≡ false
 unmarked true never = absurd (never refl)
 unmarked false never = refl
 

@@ -1,3 +1,8 @@
 pub mod PlantedRows
 pub mod TestOrders
 pub mod HeldParts
+pub mod Balances
+pub mod Askings
+pub mod HandLists
+pub mod Settlings
+pub mod Harvests

@@ -2,3 +2,9 @@ pub mod TreeEntries
 pub mod Gains
 pub mod Workers
 pub mod Marks
+pub mod Balance
+pub mod Hands
+pub mod Rounds
+pub mod Dealt
+pub mod Settled
+pub mod Harvest

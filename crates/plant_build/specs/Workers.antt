@@ -1,8 +1,11 @@
 -- What a worker is given, and what it has done.
-use Rattle.std.specs.Prelude.{◌≡◌, ℕ, true, List, []}
+use Rattle.std.specs.Prelude.{◌≡◌, ℕ, ◌<◌, ◌≤◌, true, List, [], All, map}
 use Rattle.walk_laws.specs.declared.graph.Edge.{Edge}
+use Rattle.plant_build.specs.declared.hand.Hand.{Hand}
 use Rattle.plant_build.specs.declared.worker.PlantWorker.{PlantWorker}
+use Rattle.plant_build.specs.Balance.{times}
 use Rattle.plant_build.specs.Gains.{HoldsBatches, IsEmptySink}
+use Rattle.plant_build.specs.Rounds.{Share, share_of, reaches, got_from}
 
 -- it is for n nodes, and has planted nothing
 pub record IsReady (n : ℕ) (w : PlantWorker) : Type 0 where
@@ -12,7 +15,20 @@ pub record IsReady (n : ℕ) (w : PlantWorker) : Type 0 where
   pub none : w.numbers.items ≡ []
   pub memory : w.memory ≡ true
 
--- where memory has sufficed it has put the trees of its batches
+-- its numbers are those of batches, and none stands more often than its hand took it
+pub record TookItsBatches (batches : ℕ) (w : PlantWorker) : Type 0 where
+  pub below : All (λ b. b < batches) w.numbers.items
+  pub took : (x : ℕ) → times x w.numbers.items ≤ got_from x (reaches w.hand)
+
+-- where memory has sufficed it has put the trees of its batches, which it took
 pub record HasWorked (edges : List Edge) (at : List ℕ) (batches n : ℕ) (w : PlantWorker) : Type 0 where
   pub sink : w.sink.n ≡ n
   pub holds : w.memory ≡ true → HoldsBatches edges at batches w.numbers.items w.sink
+  pub took : TookItsBatches batches w
+
+abbrev pub hands_of : List PlantWorker → List Hand
+hands_of crew = map (λ w. w.hand) crew
+
+-- what of the hands of a crew no taking changes
+abbrev pub shares_of : List PlantWorker → List Share
+shares_of crew = map share_of (hands_of crew)

@@ -1,14 +1,15 @@
-ghost use Rattle.std.specs.Prelude.{◌≡◌, ℕ, ◌*◌, ◌^◌, ◌≤◌, List, All, length, IfOk, OnOk, IfSome};
-ghost use Rattle.walk_laws.specs.declared.graph.Edge.{Edge as AnEdge};
+ghost use Rattle.std.specs.Prelude.{◌≡◌, ℕ, ◌*◌, ◌^◌, ◌≤◌, All, length, IfOk};
 ghost use Rattle.walk_laws.specs.Joined.{Joined};
 ghost use Rattle.walk_laws.specs.Labelling.{IsChl};
 ghost use Rattle.hub_index.specs.Sunk.{sunk_at, HoldsPart};
 ghost use Rattle.hub_index.specs.WellFormed.{IsWellFormed};
-ghost use Rattle.plant_build.specs.Marks.{Adds, HasCome, IsMissing};
-ghost use Rattle.plant_build.specs.Workers.{IsReady, HasWorked};
+ghost use Rattle.plant_build.specs.Marks.{IsMissing};
+ghost use Rattle.plant_build.specs.Rounds.{share_of, put_by, IsOneRound};
+ghost use Rattle.plant_build.specs.Workers.{IsReady, HasWorked, shares_of};
 
 use crate::batch::plant_batch;
-use crate::hand::deal;
+use crate::collecting::collect;
+use crate::dealing::deal;
 use crate::worker::PlantWorker;
 use desk_io::Gate;
 use hub_index::{EntrySink, Index, RowList, gather};
@@ -105,6 +106,7 @@ fn work<R: Threads + Wait + Sync, G: Gate + Sync>(
     requires few { batches ≤ 2 ^ 30 }
     requires workers { 1 ≤ workers }
     ensures worked { All (HasWorked graph.now.edges ranking.now batches graph.now.n) crew.new }
+    ensures shares { shares_of crew.new ≡ shares_of crew.old }
 {
     thread::for_each_mut(
         rt,
@@ -112,27 +114,9 @@ fn work<R: Threads + Wait + Sync, G: Gate + Sync>(
         workers as usize,
         &|_place: usize, worker: &mut PlantWorker|
             requires { IsReady graph.now.n worker.now × (length ranking.now ≡ graph.now.n) × (batches ≤ 2 ^ 30) }
-            ensures { HasWorked graph.entry.now.edges ranking.entry.now batches graph.entry.now.n worker.exit.now }
+            ensures { HasWorked graph.entry.now.edges ranking.entry.now batches graph.entry.now.n worker.exit.now × (share_of worker.exit.now.hand ≡ share_of worker.entry.now.hand) }
         { worker.plant(rt, alloc, graph, ranking, batches, gate) },
     );
-}
-
-/// What the workers have put, with a mark for each batch that has come. The only error is that memory ran out, for a
-/// worker or here.
-fn collect(
-    alloc: Global,
-    batches: u32,
-    crew: Vec<PlantWorker>,
-) -> Result<(Vec<bool>, Vec<EntrySink>), AllocError>
-    ensures size { IfOk result (λ got. length got.0.items ≡ batches) }
-    ensures come { IfOk result (λ got. (edges : List AnEdge) (at : List ℕ) (n : ℕ) → All (HasWorked edges at batches n) crew.items → HasCome edges at n got.0.items got.1.items) }
-{
-    let mut come = vec![in alloc; false; batches as usize]?;
-    let mut sinks = Vec::with_capacity(alloc, crew.len())?;
-    for worker in crew {
-        take_in(alloc, &mut come, &mut sinks, worker)?;
-    }
-    Ok((come, sinks))
 }
 
 /// A worker for each hand, among which the batches are dealt. A batch that its deque did not take counts as come from
@@ -146,6 +130,8 @@ fn crew_of(
     requires workers_from { 1 ≤ workers }
     requires workers_to { workers ≤ 64 }
     ensures ready { IfOk result (λ crew. All (IsReady n) crew.items) }
+    ensures round { IfOk result (λ crew. IsOneRound (shares_of crew.items)) }
+    ensures once { IfOk result (λ crew. (b : ℕ) → put_by b (shares_of crew.items) ≤ 1) }
 {
     let (hands, _left) = deal(alloc, batches, workers)?;
     let mut crew = Vec::with_capacity(alloc, workers as usize)?;
@@ -153,44 +139,6 @@ fn crew_of(
         crew.push(PlantWorker::new(alloc, n, hand)?)?;
     }
     Ok(crew)
-}
-
-/// Takes in what a worker has put, and marks its batches. Where one of them has come already, all of them count as come
-/// from nobody. The only error is that memory ran out, for the worker or here.
-fn take_in(
-    alloc: Global,
-    come: &mut Vec<bool>,
-    sinks: &mut Vec<EntrySink>,
-    worker: PlantWorker,
-) -> Result<(), AllocError>
-    ensures size { OnOk result (length come.new.items ≡ length come.old.items) }
-    ensures holds { OnOk result ((edges : List AnEdge) (at : List ℕ) (n : ℕ) → HasWorked edges at (length come.old.items) n worker
-        → HasCome edges at n come.old.items sinks.old.items → HasCome edges at n come.new.items sinks.new.items) }
-{
-    if !worker.memory {
-        return Err(AllocError);
-    }
-    if let Some(more) = marked(alloc, come, &worker.numbers)? {
-        *come = more;
-        sinks.push(worker.sink)?;
-    }
-    Ok(())
-}
-
-/// The marks with those of these numbers, or None where one of them is marked already, stands twice or has no mark. The
-/// only error is that memory ran out.
-fn marked(alloc: Global, come: &[bool], numbers: &[u32]) -> Result<Option<Vec<bool>>, AllocError>
-    ensures { IfOk result (λ r. IfSome r (λ more. Adds come.now numbers.now more.items)) }
-{
-    let mut more = Vec::from_slice(alloc, come)?;
-    for number in numbers {
-        let place = *number as usize;
-        if place >= more.len() || more[place] {
-            return Ok(None);
-        }
-        more[place] = true;
-    }
-    Ok(Some(more))
 }
 
 /// What the caller itself plants: the batches that came from nobody. The only error is that memory ran out.

@@ -9,10 +9,18 @@
 
 mod batch;
 mod build;
+mod collecting;
+mod dealing;
 mod hand;
+mod other;
+mod own;
+mod rule;
+mod settling;
 #[cfg(test)]
 mod tests;
 mod worker;
 
 pub use build::build_plant;
-pub use hand::{Hand, deal};
+pub use dealing::deal;
+pub use hand::Hand;
+pub use settling::settle;

@@ -1,7 +1,7 @@
 ghost use Rattle.std.specs.Prelude.{◌≡◌, ◌≤◌, length};
 ghost use Rattle.walk_laws.specs.Ranking.{IsRanking};
 
-use crate::{build_plant, deal};
+use crate::{build_plant, deal, settle};
 use desk_io::{FreeGate, Gate};
 use hub_index::Entry;
 use rank_table::Ranking;
@@ -107,6 +107,22 @@ fn a_hand_takes_all_batches(rt: HostRuntime) -> Result<(), Fail> {
     assert_eq!(rt; first.take(&rt), Some(1));
     assert_eq!(rt; first.take(&rt), Some(3));
     assert_eq!(rt; first.take(&rt), None);
+    Ok(())
+}
+
+/// The second hand takes its own batches and the first one of the other's, of which two are left then.
+#[test]
+fn what_no_hand_took_is_left(rt: HostRuntime) -> Result<(), Fail> {
+    let (mut hands, back) = deal(rt.alloc(), 5, 2)?;
+    assert!(rt; back.is_empty());
+    let second = &mut hands[1];
+    for batch in [1, 3, 0] {
+        assert_eq!(rt; second.take(&rt), Some(batch));
+    }
+    let left = settle(rt.alloc(), hands)?;
+    assert_eq!(rt; left.len(), 2);
+    assert_eq!(rt; left.iter().copied().max(), Some(2));
+    assert_eq!(rt; left.iter().copied().min(), Some(0));
     Ok(())
 }
 

@@ -1,4 +1,6 @@
-ghost use Rattle.std.specs.Prelude.{◌≡◌, ◌<◌, ◌≤◌, ◌^◌, true, length, IfOk, OnOk};
+ghost use Rattle.std.specs.Prelude.{◌≡◌, ℕ, ◌+◌, ◌<◌, ◌≤◌, ◌^◌, ◌==◌, true, length, IfOk, OnOk, OnErr, if◌then◌else◌};
+ghost use Rattle.plant_build.specs.Balance.{times};
+ghost use Rattle.plant_build.specs.Rounds.{share_of, reaches, got_from};
 ghost use Rattle.plant_build.specs.Workers.{IsReady, HasWorked};
 
 use crate::batch::plant_batch;
@@ -25,7 +27,8 @@ pub struct PlantWorker {
 impl PlantWorker {
     /// A worker that has planted nothing. The only error is that memory ran out.
     pub fn new(alloc: Global, n: u32, hand: Hand) -> Result<PlantWorker, AllocError>
-        ensures { IfOk result (IsReady n) }
+        ensures ready { IfOk result (IsReady n) }
+        ensures hand { IfOk result (λ worker. worker.hand ≡ hand) }
     {
         Ok(PlantWorker {
             hand,
@@ -49,7 +52,8 @@ impl PlantWorker {
         requires ready { IsReady graph.now.n self.old }
         requires ranked { length ranking.now ≡ graph.now.n }
         requires batches { batches ≤ 2 ^ 30 }
-        ensures { HasWorked graph.now.edges ranking.now batches graph.now.n self.new }
+        ensures worked { HasWorked graph.now.edges ranking.now batches graph.now.n self.new }
+        ensures share { share_of self.new.hand ≡ share_of self.old.hand }
     {
         for _ in rt.forever() {
             let Some(batch) = self.hand.take(rt) else {
@@ -84,10 +88,13 @@ impl PlantWorker {
         requires ranked { length ranking.now ≡ graph.now.n }
         requires batches { batches ≤ 2 ^ 30 }
         requires batch { batch < batches }
+        requires took { (x : ℕ) → times x self.old.numbers.items + (if batch == x then 1 else 0) ≤ got_from x (reaches self.old.hand) }
+        ensures hand { self.new.hand ≡ self.old.hand }
         ensures planter { self.new.planter ≡ self.old.planter }
         ensures memory { self.new.memory ≡ self.old.memory }
         ensures sink { self.new.sink.n ≡ self.old.sink.n }
         ensures worked { OnOk result (HasWorked graph.now.edges ranking.now batches graph.now.n self.new) }
+        ensures numbers { OnErr result (self.new.numbers.items ≡ self.old.numbers.items) }
     {
         plant_batch(
             alloc,

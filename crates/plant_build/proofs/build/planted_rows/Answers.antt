@@ -1,5 +1,6 @@
-use Rattle.std.proofs.Common.{◌≡◌, ℕ, ◌≤◌, ◌++◌, [], ◌∷◌, All, length, take, drop, ap, sym, subst, ◌∙◌, rules, arith}
-use Rattle.std.proofs.lemmas.List.Elements.{All-push}
+use Rattle.std.proofs.Common.{◌≡◌, ℕ, ◌≤◌, List, ◌++◌, [], ◌∷◌, All, length, ap, sym, subst, ◌∙◌, arith}
+use Rattle.std.proofs.lemmas.List.{with_items_is}
+use Rattle.std.proofs.lemmas.List.Elements.{All-push, All-weaker}
 use Rattle.std.proofs.lemmas.Result.{IfOk-weaker}
 use Rattle.walk_laws.specs.Joined.{Joined}
 use Rattle.walk_laws.specs.Labelling.{IsChl, label_row}
@@ -7,21 +8,36 @@ use Rattle.hub_index.specs.Sunk.{sunk_at, all_sunk, HoldsPart, IsGatheredRow}
 use Rattle.hub_index.specs.WellFormed.{IsWellFormed}
 use Rattle.hub_index.proofs.CanonicalRows.{IsWellFormed-canonical}
 use Rattle.plant_build.specs.Marks.{HasCome, IsMissing}
-use Rattle.plant_build.proofs.HeldParts.{IsChl-whole, both_ok, take_front}
-use Rattle.plant_build.specs.Workers.{HasWorked}
+use Rattle.plant_build.proofs.HeldParts.{IsChl-whole, both_ok}
+use Rattle.plant_build.specs.Rounds.{Share, put_by, IsOneRound}
+use Rattle.plant_build.specs.Workers.{TookItsBatches, HasWorked, shares_of}
 use Rattle.plant_build.proofs.build.planted_rows.Goals as goal
 use Rattle.plant_build.proofs.build.planted_rows.Goals.{In_ok-come}
 
--- the workers after they have planted, and what was taken in of them
+pub collect-requires-clause-round : goal.collect-requires-clause-round
+collect-requires-clause-round g c =
+    let kept = with_items_is c.in_ok-crew.crew c.work.new.crew (omega arith) in
+    subst IsOneRound (sym (ap shares_of kept ∙ c.work.ensures.shares ∙ ap shares_of c.deref_mut.ensures.value)) c.in_ok-crew.ensures.round
+
+pub collect-requires-clause-once : goal.collect-requires-clause-once
+collect-requires-clause-once g c b =
+    let kept = with_items_is c.in_ok-crew.crew c.work.new.crew (omega arith) in
+    subst (λ (shares : List Share). put_by b shares ≤ 1) (sym (ap shares_of kept ∙ c.work.ensures.shares ∙ ap shares_of c.deref_mut.ensures.value)) (c.in_ok-crew.ensures.once b)
+
+pub collect-requires-clause-took : goal.collect-requires-clause-took
+collect-requires-clause-took g c =
+    let batches = c.batches_for-batches.result in
+    let worked = HasWorked c.args.graph.now.edges c.args.ranking.now batches c.args.graph.now.n in
+    subst (All (TookItsBatches batches)) (sym (with_items_is c.in_ok-crew.crew c.work.new.crew (omega arith))) (All-weaker worked (TookItsBatches batches) (λ w h. h.took) c.work.new.crew c.work.ensures.worked)
+
+-- what was taken in of the workers
 come_of : (g : _) (c : In_ok-come g) → HasCome c.args.graph.now.edges c.args.ranking.now c.args.graph.now.n c.in_ok-come.come.items c.in_ok-come.sinks.items
 come_of g c =
     let edges = c.args.graph.now.edges in
     let at = c.args.ranking.now in
     let n = c.args.graph.now.n in
-    let long : c.in_ok-crew.crew.len ≡ length c.work.new.crew = search rules in
-    let same : take c.in_ok-crew.crew.len (c.work.new.crew ++ drop (length c.work.new.crew) c.in_ok-crew.crew.items) ≡ c.work.new.crew =
-    ap (λ k. take k (c.work.new.crew ++ drop (length c.work.new.crew) c.in_ok-crew.crew.items)) long ∙ take_front c.work.new.crew (drop (length c.work.new.crew) c.in_ok-crew.crew.items) in
-    c.in_ok-come.ensures.come edges at n (subst (λ crew. All (HasWorked edges at c.min-batches.result n) crew) (sym same) c.work.ensures.worked)
+    let kept = with_items_is c.in_ok-crew.crew c.work.new.crew (omega arith) in
+    c.in_ok-come.ensures.come edges at n (subst (λ crew. All (HasWorked edges at c.batches_for-batches.result n) crew) (sym kept) c.work.ensures.worked)
 
 pub gather-requires-after_bounds : goal.gather-requires-after_bounds
 gather-requires-after_bounds g c κs within =

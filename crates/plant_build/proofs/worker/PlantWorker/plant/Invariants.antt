@@ -1,4 +1,5 @@
 use Rattle.std.proofs.Common.{◌≡◌, true}
+use Rattle.plant_build.specs.Rounds.{share_of}
 use Rattle.plant_build.specs.Workers.{HasWorked}
 use Rattle.plant_build.proofs.worker.PlantWorker.plant.Given as goal
 
@@ -8,4 +9,5 @@ invariant-loop g l = record {
   worked : HasWorked l.graph.edges l.ranking l.batches l.graph.n l.self;
   memory : l.self.memory ≡ true;
   planter : l.self.planter ≡ l.graph.n;
+  share : share_of l.self.hand ≡ share_of l.fn.self.hand;
 }
