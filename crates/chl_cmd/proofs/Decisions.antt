@@ -10,6 +10,8 @@ use Rattle.hub_index.specs.HubIndex.{HubIndex}
 use Rattle.hub_index.specs.WellFormed.{IsWellFormed}
 use Rattle.hub_index.proofs.CanonicalRows.{IsWellFormed-canonical}
 use Rattle.hub_query.proofs.Meetings.{meet_exists, meet_unique}
+use Rattle.index_audit.proofs.Decided.{audit_exists}
+use Rattle.index_audit.proofs.Faults.{audit_unique}
 use Rattle.index_file.specs.Judging.{index_of}
 use Rattle.index_file.proofs.SoundIndexes.{IsWellFormed-index_of}
 use Rattle.index_file.specs.Layout.{index_bytes}
@@ -36,10 +38,10 @@ use Rattle.chl_inputs.proofs.StageLaws.{Answerable, Determined, decided_always, 
 use Rattle.chl_inputs.proofs.StagesInTurn.{same_value}
 use Rattle.chl_lines.specs.PrintedAnswers.{answer_lines}
 use Rattle.chl_lines.specs.PrintedRows.{lines_from}
-use Rattle.chl_cmd.specs.Commands.{Decides, stage_of, labelling_stage, list_stage, build_stage, solve_stage, query_stage, degree_stage, answers_stage, AreAnswers}
+use Rattle.chl_cmd.specs.Commands.{Decides, stage_of, labelling_stage, list_stage, build_stage, solve_stage, query_stage, audit_stage, degree_stage, answers_stage, AreAnswers}
 use Rattle.chl_words.specs.declared.asked.By.{By}
 use Rattle.chl_words.specs.declared.asked.Asked.{Asked}
-use Rattle.chl_words.specs.declared.asked.Asked.TheVariants.{List as ListRows, Build, Solve, Query, Degree}
+use Rattle.chl_words.specs.declared.asked.Asked.TheVariants.{List as ListRows, Build, Solve, Query, Audit, Degree}
 use Rattle.rank_table.proofs.DegreeRankings.{ranked_by_degree, IsByDegree-unique}
 use Rattle.chl_cmd.proofs.PairAnswers.{answers_exist, answers_unique, answers_told}
 
@@ -144,6 +146,16 @@ module _ (index pairs : List ℕ) (files : Files) where
       lines_once (length i.order) (IsMeet i.order i.rows) asked (pairs_of_stage (length i.order) pairs files asked pairs_is) files
       (λ u v a b first first_within second second_within one other. meet_unique i.order i.rows u v a b one other)
 
+module _ (graph order index : List ℕ) (files : Files) where
+  audit_always : Answerable (audit_stage graph order index) files
+  audit_always = λ g graph_is at order_is i index_is.
+      let size = (ranking_of_stage g.n order files at order_is).1 in
+      let found = audit_exists g at i (graph_of_stage graph files g graph_is) size (index_of_stage index files i index_is) in
+      (found.0, found.1, tt)
+
+  audit_once : Determined (audit_stage graph order index) files
+  audit_once = λ g graph_is at order_is i index_is. (audit_unique g at i (ranking_of_stage g.n order files at order_is).1, λ found told. tt)
+
 module _ (graph : List ℕ) (files : Files) where
   degree_always : Answerable (degree_stage graph) files
   degree_always = λ g graph_is. let ranked = ranked_by_degree g in (ranked.0, ranked.1, tt)
@@ -157,6 +169,7 @@ has_answer (ListRows graph order) files = labelling_always (λ at rows. lines_fr
 has_answer (Build graph order out by workers cut) files = labelling_always index_bytes graph order files
 has_answer (Solve graph order pairs by workers cut) files = solve_always graph order pairs files
 has_answer (Query index pairs) files = query_always index pairs files
+has_answer (Audit graph order index) files = audit_always graph order index files
 has_answer (Degree graph) files = degree_always graph files
 
 has_one_answer : (asked : Asked) (files : Files) → Determined (stage_of asked) files
@@ -164,6 +177,7 @@ has_one_answer (ListRows graph order) files = labelling_once (λ at rows. lines_
 has_one_answer (Build graph order out by workers cut) files = labelling_once index_bytes graph order files
 has_one_answer (Solve graph order pairs by workers cut) files = solve_once graph order pairs files
 has_one_answer (Query index pairs) files = query_once index pairs files
+has_one_answer (Audit graph order index) files = audit_once graph order index files
 has_one_answer (Degree graph) files = degree_once graph files
 
 pub decides_always : (asked : Asked) (files : Files) → (answer : Result (List ℕ) Stop) × Decides asked files answer

@@ -3,4 +3,5 @@ pub mod OneCommand
 pub mod PairAnswers
 pub mod Decisions
 pub mod Endings
+pub mod AuditAnswers
 pub mod WaysToEnd

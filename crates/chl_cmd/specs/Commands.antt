@@ -1,8 +1,11 @@
 -- The commands: what each reads and works out in turn, and where its bytes go. A new command is a stage and a case of
 -- `command_of`.
-use Rattle.std.specs.Prelude.{◌≡◌, ℕ, List, length, Option, Some, None, Result, Ok, Err, Vec}
+use Rattle.std.specs.Prelude.{◌≡◌, ℕ, List, [], ◌∷◌, ◌++◌, length, codes, Option, Some, None, Result, Ok, Err, Vec}
 use Rattle.std.specs.List.{AllZip}
 use Rattle.desk_io.specs.Contents.{Files}
+use Rattle.index_audit.specs.Audited.{IsAuditOf}
+use Rattle.index_audit.specs.declared.answer.Audit.{Audit as AnyAudit}
+use Rattle.index_audit.specs.declared.answer.Audit.TheVariants.{Same}
 use Rattle.index_file.specs.Layout.{index_bytes}
 use Rattle.walk_laws.specs.declared.entry.Entry.{Entry}
 use Rattle.walk_laws.specs.Answer.{IsAnswer}
@@ -12,12 +15,13 @@ use Rattle.walk_laws.specs.Meet.{IsMeet}
 use Rattle.chl_inputs.specs.Inputs.{graph_input, order_input, pairs_input, index_input}
 use Rattle.chl_inputs.specs.Stages.{Stage, Comes, Works, Reads, Decided}
 use Rattle.chl_inputs.specs.declared.stop.Stop.{Stop}
+use Rattle.chl_inputs.specs.declared.stop.Stop.TheVariants.{Differs}
 use Rattle.chl_lines.specs.PrintedAnswers.{answer_lines}
 use Rattle.chl_lines.specs.PrintedOrders.{order_lines}
 use Rattle.chl_lines.specs.PrintedRows.{lines_from}
 use Rattle.rank_table.specs.ByDegree.{IsByDegree}
 use Rattle.chl_words.specs.declared.asked.Asked.{Asked}
-use Rattle.chl_words.specs.declared.asked.Asked.TheVariants.{List as ListRows, Build, Solve, Query, Degree}
+use Rattle.chl_words.specs.declared.asked.Asked.TheVariants.{List as ListRows, Build, Solve, Query, Audit, Degree}
 
 -- a graph, a ranking of its nodes, and the bytes of the rows of its canonical hub labelling
 abbrev pub labelling_stage : (List ℕ → List (List Entry) → List ℕ) → List ℕ → List ℕ → Stage (List ℕ)
@@ -59,6 +63,20 @@ query_stage index pairs =
     Reads (pairs_input (length i.order) pairs) (λ asked.
     answers_stage (IsMeet i.order i.rows) asked))
 
+-- the line `same`, ended by one LF, or what is wrong with an index
+abbrev pub audit_text : AnyAudit → Result (List ℕ) Stop
+audit_text Same = Ok (codes "same" ++ 10 ∷ [])
+audit_text fault = Err (Differs fault)
+
+-- `audit`: a graph, a ranking of its nodes, and an index, which is theirs, or else differs
+abbrev pub audit_stage : List ℕ → List ℕ → List ℕ → Stage (List ℕ)
+audit_stage graph order index =
+    Reads (graph_input graph) (λ g.
+    Reads (order_input g.n order) (λ at.
+    Reads (index_input index) (λ i.
+    Works (λ found. IsAuditOf g at i found) (λ found.
+    Comes (audit_text found)))))
+
 -- `degree`: a graph, and the order text of its nodes by falling degree
 abbrev pub degree_stage : List ℕ → Stage (List ℕ)
 degree_stage graph = Reads (graph_input graph) (λ g. Works (λ at. IsByDegree g at) (λ at. Comes (Ok (order_lines at))))
@@ -73,6 +91,7 @@ command_of (ListRows graph order) = record { stage = list_stage graph order; pla
 command_of (Build graph order out by workers cut) = record { stage = build_stage graph order; place = Some out }
 command_of (Solve graph order pairs by workers cut) = record { stage = solve_stage graph order pairs; place = None }
 command_of (Query index pairs) = record { stage = query_stage index pairs; place = None }
+command_of (Audit graph order index) = record { stage = audit_stage graph order index; place = None }
 command_of (Degree graph) = record { stage = degree_stage graph; place = None }
 
 abbrev pub stage_of : Asked → Stage (List ℕ)

@@ -4,6 +4,7 @@ ghost use Rattle.chl_inputs.specs.Stages.{Goes};
 ghost use Rattle.chl_cmd.specs.Commands.{bytes_of, place_of, stage_of};
 ghost use Rattle.chl_words.specs.Asking.{IsWithinLimits};
 
+mod audit;
 mod build;
 mod degree;
 mod list;
@@ -11,6 +12,7 @@ mod query;
 mod solve;
 
 use crate::construction::Construction;
+use audit::audit_output;
 use build::build_output;
 use chl_inputs::Stop;
 use chl_words::{Asked, Name};
@@ -84,6 +86,11 @@ pub fn output<R: Threads + Wait + Sync, D: Desk, G: Gate + Sync>(
             )
         }
         Asked::Query { index, pairs } => query_output(rt, alloc, index.text(), pairs.text(), desk),
+        Asked::Audit {
+            graph,
+            order,
+            index,
+        } => audit_output(alloc, graph.text(), order.text(), index.text(), desk),
         Asked::Degree { graph } => degree_output(alloc, graph.text(), desk),
     }
 }
@@ -93,8 +100,11 @@ pub fn out_file(asked: &Asked) -> Option<&Name>
     ensures { option_copied result ≡ place_of asked.now }
 {
     match asked {
-        Asked::List { .. } | Asked::Solve { .. } | Asked::Query { .. } | Asked::Degree { .. } =>
-            None,
+        Asked::List { .. }
+        | Asked::Solve { .. }
+        | Asked::Query { .. }
+        | Asked::Audit { .. }
+        | Asked::Degree { .. } => None,
         Asked::Build { out, .. } => Some(out),
     }
 }

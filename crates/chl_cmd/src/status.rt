@@ -5,6 +5,7 @@ ghost use Rattle.chl_inputs.specs.declared.stop.Stop.{Stop as AnyStop};
 
 use chl_inputs::Stop;
 use dimacs_text::TextFault;
+use index_audit::Audit;
 use index_file::IndexFault;
 use rank_table::OrderFault;
 use thiserror::Error;
@@ -15,6 +16,9 @@ pub enum Status {
     /// The output was written.
     #[error("chl: done")]
     Done,
+    /// The index is not that of the graph under the order, and this is the first thing that is wrong with it.
+    #[error("chl: index differs: {0}")]
+    Differs(Audit),
     /// The words are no command.
     #[error("chl: usage")]
     Usage,
@@ -54,6 +58,7 @@ impl Status {
     {
         match self {
             Status::Done => 0,
+            Status::Differs(_) => 1,
             Status::Usage => 2,
             Status::GraphText(_) => 3,
             Status::OrderText(_) => 4,
@@ -80,6 +85,7 @@ pub fn stopped(stop: Stop) -> Status
         Stop::Order(fault) => Status::OrderText(fault),
         Stop::Pairs(fault) => Status::PairsText(fault),
         Stop::Index(fault) => Status::IndexBytes(fault),
+        Stop::Differs(audit) => Status::Differs(audit),
         Stop::TooLong => Status::TooLong,
         Stop::ReadFailed => Status::ReadFault,
         Stop::NoMemory => Status::NoMemory,

@@ -1,5 +1,6 @@
 ghost use Rattle.std.specs.Prelude.{◌<◌};
 
+mod audits;
 mod desks;
 mod files;
 mod gates;
@@ -9,6 +10,7 @@ mod texts;
 use super::*;
 use desk_io::{Call, FreeGate, MemDesk};
 use dimacs_text::{TextFault, TextKind};
+use index_audit::Audit;
 use index_file::IndexFault;
 use rank_table::OrderFault;
 use std::alloc::{AllocError, Global};
@@ -108,9 +110,18 @@ fn expect_all<R: Abort + AllocGlobal + Threads + Wait + Sync>(
 }
 
 /// The line of each status on standard error, and its number.
-fn statuses() -> [(Status, &'static str, u8); 11] {
+fn statuses() -> [(Status, &'static str, u8); 12] {
     [
         (Status::Done, "chl: done", 0),
+        (
+            Status::Differs(Audit::NotCovered {
+                v: 2,
+                to: 3,
+                hub: 1,
+            }),
+            "chl: index differs: hub 1 at 2 not covered at 3",
+            1,
+        ),
         (Status::Usage, "chl: usage", 2),
         (
             Status::GraphText(TextFault {

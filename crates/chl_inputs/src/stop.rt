@@ -2,6 +2,7 @@ ghost use Rattle.std.specs.Prelude.{◌≡◌};
 ghost use Rattle.chl_inputs.specs.declared.stop.Stop.TheVariants.{NoMemory};
 
 use dimacs_text::TextFault;
+use index_audit::Audit;
 use index_file::IndexFault;
 use rank_table::OrderFault;
 use std::alloc::AllocError;
@@ -19,6 +20,8 @@ pub enum Stop {
     Pairs(TextFault),
     /// The index file has this first fault.
     Index(IndexFault),
+    /// The index is not that of the graph under the order, and this is the first thing that is wrong with it.
+    Differs(Audit),
     /// An input has more bytes than the limit, and none of its lines or fields within the limit was refused.
     TooLong,
     /// An input could not be opened or read.
