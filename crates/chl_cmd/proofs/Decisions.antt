@@ -1,6 +1,6 @@
 -- What the files decide: always something, and one thing.
 use Rattle.std.proofs.Common.{◌≡◌, ◌≤◌, ℕ, Bool, true, false, cond, List, [], ◌∷◌, length, take, nat_lt, refl, sym, ap, subst, ◌∙◌, arith}
-use Rattle.std.specs.Prelude.{Option, Some, None, Result, Ok, Err}
+use Rattle.std.specs.Prelude.{◌==◌, Option, Some, None, Result, Ok, Err}
 use Rattle.std.specs.FinMap as finite_map
 use Rattle.std.proofs.lemmas.Bool.{le-ltb}
 use Rattle.desk_io.specs.Contents.{Files}
@@ -10,6 +10,8 @@ use Rattle.hub_index.specs.HubIndex.{HubIndex}
 use Rattle.hub_index.specs.WellFormed.{IsWellFormed}
 use Rattle.hub_index.proofs.CanonicalRows.{IsWellFormed-canonical}
 use Rattle.hub_query.proofs.Meetings.{meet_exists, meet_unique}
+use Rattle.hub_query.proofs.PathsDecided.{path_exists, path_unique}
+use Rattle.hub_query.specs.Paths.{IsPathOf}
 use Rattle.index_audit.proofs.Decided.{audit_exists}
 use Rattle.index_audit.proofs.Faults.{audit_unique}
 use Rattle.index_file.specs.Judging.{index_of}
@@ -31,17 +33,19 @@ use Rattle.walk_laws.proofs.JoinedEdges.{weights_of_edges}
 use Rattle.walk_laws.proofs.LabellingExists.{IsChl-exists}
 use Rattle.walk_laws.proofs.LabelRows.{IsChl-unique}
 use Rattle.chl_inputs.specs.Inputs.{Input, value_at, value_of, judged, past_limit, graph_input, order_input, pairs_input, index_input, ArePairsWithin}
-use Rattle.chl_inputs.specs.Stages.{Stage, After, Decided}
+use Rattle.chl_inputs.specs.Stages.{Stage, Comes, After, Decided}
 use Rattle.chl_inputs.specs.Stops.{graph_stop, order_stop, pairs_stop, index_stop}
 use Rattle.chl_inputs.specs.declared.stop.Stop.{Stop}
+use Rattle.chl_inputs.specs.declared.stop.Stop.TheVariants.{NotOfGraph}
+use Rattle.chl_inputs.specs.declared.stop.NotOf.TheVariants.{Sizes}
 use Rattle.chl_inputs.proofs.StageLaws.{Answerable, Determined, decided_always, decided_once, after_ok, after_told, after_value}
 use Rattle.chl_inputs.proofs.StagesInTurn.{same_value}
 use Rattle.chl_lines.specs.PrintedAnswers.{answer_lines}
 use Rattle.chl_lines.specs.PrintedRows.{lines_from}
-use Rattle.chl_cmd.specs.Commands.{Decides, stage_of, labelling_stage, list_stage, build_stage, solve_stage, query_stage, audit_stage, degree_stage, answers_stage, AreAnswers}
+use Rattle.chl_cmd.specs.Commands.{Decides, stage_of, labelling_stage, list_stage, build_stage, solve_stage, query_stage, path_stage, audit_stage, degree_stage, answers_stage, AreAnswers}
 use Rattle.chl_words.specs.declared.asked.By.{By}
 use Rattle.chl_words.specs.declared.asked.Asked.{Asked}
-use Rattle.chl_words.specs.declared.asked.Asked.TheVariants.{List as ListRows, Build, Solve, Query, Audit, Degree}
+use Rattle.chl_words.specs.declared.asked.Asked.TheVariants.{List as ListRows, Build, Solve, Query, Path, Audit, Degree}
 use Rattle.rank_table.proofs.DegreeRankings.{ranked_by_degree, IsByDegree-unique}
 use Rattle.chl_cmd.proofs.PairAnswers.{answers_exist, answers_unique, answers_told}
 
@@ -146,6 +150,31 @@ module _ (index pairs : List ℕ) (files : Files) where
       lines_once (length i.order) (IsMeet i.order i.rows) asked (pairs_of_stage (length i.order) pairs files asked pairs_is) files
       (λ u v a b first first_within second second_within one other. meet_unique i.order i.rows u v a b one other)
 
+-- a stage, or another that comes to a stop
+module _ {V : Type 0} (stage : Stage V) (stop : Stop) (files : Files) where
+  either_always : (b : Bool) → Answerable stage files → Answerable (cond b stage (Comes (Err stop))) files
+  either_always true has = has
+  either_always false has = tt
+
+  either_once : (b : Bool) → Determined stage files → Determined (cond b stage (Comes (Err stop))) files
+  either_once true one = one
+  either_once false one = tt
+
+module _ (graph index pairs : List ℕ) (files : Files) where
+  path_always : Answerable (path_stage graph index pairs) files
+  path_always = λ g graph_is i index_is. either_always _ (NotOfGraph (Sizes g.n (length i.order))) files (g.n == length i.order) (λ asked pairs_is.
+      let walks = answers_exist (length i.order) (IsPathOf g i)
+      (λ u v. path_exists g i u v (graph_of_stage graph files g graph_is) (index_of_stage index files i index_is))
+      asked (pairs_of_stage (length i.order) pairs files asked pairs_is) in
+      (walks.0, walks.1, tt))
+
+  path_once : Determined (path_stage graph index pairs) files
+  path_once = λ g graph_is i index_is. either_once _ (NotOfGraph (Sizes g.n (length i.order))) files (g.n == length i.order) (λ asked pairs_is. (
+    answers_unique (length i.order) (IsPathOf g i) (λ u v a b first first_within second second_within one other. path_unique g i u v a b one other)
+        asked (pairs_of_stage (length i.order) pairs files asked pairs_is),
+    λ walks own. tt,
+  ))
+
 module _ (graph order index : List ℕ) (files : Files) where
   audit_always : Answerable (audit_stage graph order index) files
   audit_always = λ g graph_is at order_is i index_is.
@@ -169,6 +198,7 @@ has_answer (ListRows graph order) files = labelling_always (λ at rows. lines_fr
 has_answer (Build graph order out by workers cut) files = labelling_always index_bytes graph order files
 has_answer (Solve graph order pairs by workers cut) files = solve_always graph order pairs files
 has_answer (Query index pairs) files = query_always index pairs files
+has_answer (Path graph index pairs) files = path_always graph index pairs files
 has_answer (Audit graph order index) files = audit_always graph order index files
 has_answer (Degree graph) files = degree_always graph files
 
@@ -177,6 +207,7 @@ has_one_answer (ListRows graph order) files = labelling_once (λ at rows. lines_
 has_one_answer (Build graph order out by workers cut) files = labelling_once index_bytes graph order files
 has_one_answer (Solve graph order pairs by workers cut) files = solve_once graph order pairs files
 has_one_answer (Query index pairs) files = query_once index pairs files
+has_one_answer (Path graph index pairs) files = path_once graph index pairs files
 has_one_answer (Audit graph order index) files = audit_once graph order index files
 has_one_answer (Degree graph) files = degree_once graph files
 

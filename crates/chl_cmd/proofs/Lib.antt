@@ -4,4 +4,5 @@ pub mod PairAnswers
 pub mod Decisions
 pub mod Endings
 pub mod AuditAnswers
+pub mod WalkAnswers
 pub mod WaysToEnd

@@ -8,6 +8,7 @@ mod audit;
 mod build;
 mod degree;
 mod list;
+mod path;
 mod query;
 mod solve;
 
@@ -19,6 +20,7 @@ use chl_words::{Asked, Name};
 use degree::degree_output;
 use desk_io::{Desk, Gate};
 use list::list_output;
+use path::path_output;
 use query::query_output;
 use solve::solve_output;
 use std::alloc::Global;
@@ -86,6 +88,11 @@ pub fn output<R: Threads + Wait + Sync, D: Desk, G: Gate + Sync>(
             )
         }
         Asked::Query { index, pairs } => query_output(rt, alloc, index.text(), pairs.text(), desk),
+        Asked::Path {
+            graph,
+            index,
+            pairs,
+        } => path_output(alloc, graph.text(), index.text(), pairs.text(), desk),
         Asked::Audit {
             graph,
             order,
@@ -103,6 +110,7 @@ pub fn out_file(asked: &Asked) -> Option<&Name>
         Asked::List { .. }
         | Asked::Solve { .. }
         | Asked::Query { .. }
+        | Asked::Path { .. }
         | Asked::Audit { .. }
         | Asked::Degree { .. } => None,
         Asked::Build { out, .. } => Some(out),

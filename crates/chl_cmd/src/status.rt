@@ -3,7 +3,7 @@ ghost use Rattle.chl_inputs.specs.Stops.{HasMemoryOnce};
 ghost use Rattle.chl_cmd.specs.Statuses.{number_of, status_of, CarriesFaultsAlone};
 ghost use Rattle.chl_inputs.specs.declared.stop.Stop.{Stop as AnyStop};
 
-use chl_inputs::Stop;
+use chl_inputs::{NotOf, Stop};
 use dimacs_text::TextFault;
 use index_audit::Audit;
 use index_file::IndexFault;
@@ -46,6 +46,9 @@ pub enum Status {
     /// There was no memory for it.
     #[error("chl: out of memory")]
     NoMemory,
+    /// The index, by which walks of the graph are asked for, is of another graph.
+    #[error("chl: index not of graph: {0}")]
+    NotOfGraph(NotOf),
     /// An input has more than 2^48 bytes, and none of its lines or fields within these was refused.
     #[error("chl: input too long")]
     TooLong,
@@ -68,6 +71,7 @@ impl Status {
             Status::ReadFault => 8,
             Status::WriteFault => 9,
             Status::NoMemory => 10,
+            Status::NotOfGraph(_) => 11,
             Status::TooLong => 12,
         }
     }
@@ -86,6 +90,7 @@ pub fn stopped(stop: Stop) -> Status
         Stop::Pairs(fault) => Status::PairsText(fault),
         Stop::Index(fault) => Status::IndexBytes(fault),
         Stop::Differs(audit) => Status::Differs(audit),
+        Stop::NotOfGraph(not_of) => Status::NotOfGraph(not_of),
         Stop::TooLong => Status::TooLong,
         Stop::ReadFailed => Status::ReadFault,
         Stop::NoMemory => Status::NoMemory,

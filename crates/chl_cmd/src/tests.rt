@@ -6,6 +6,7 @@ mod files;
 mod gates;
 mod pairs;
 mod texts;
+mod walks;
 
 use super::*;
 use desk_io::{Call, FreeGate, MemDesk};
@@ -110,7 +111,7 @@ fn expect_all<R: Abort + AllocGlobal + Threads + Wait + Sync>(
 }
 
 /// The line of each status on standard error, and its number.
-fn statuses() -> [(Status, &'static str, u8); 12] {
+fn statuses() -> [(Status, &'static str, u8); 13] {
     [
         (Status::Done, "chl: done", 0),
         (
@@ -157,6 +158,11 @@ fn statuses() -> [(Status, &'static str, u8); 12] {
         (Status::ReadFault, "chl: read failed", 8),
         (Status::WriteFault, "chl: write failed", 9),
         (Status::NoMemory, "chl: out of memory", 10),
+        (
+            Status::NotOfGraph(NotOf::Stuck { at: 1, to: 4 }),
+            "chl: index not of graph: stuck at 1 to 4",
+            11,
+        ),
         (Status::TooLong, "chl: input too long", 12),
     ]
 }

@@ -30,6 +30,7 @@ pub fn program<'a>(alloc: Global) -> Result<Command<'a>, AllocError>
         .subcommand(build(alloc)?)?
         .subcommand(solve(alloc)?)?
         .subcommand(query(alloc)?)?
+        .subcommand(path(alloc)?)?
         .subcommand(audit(alloc)?)?
         .subcommand(degree(alloc)?)
 }
@@ -70,6 +71,15 @@ fn query<'a>(alloc: Global) -> Result<Command<'a>, AllocError>
     ensures { IfOk result (IsProgram (command_alone literal.query)) }
 {
     Command::new(alloc, "query")
+        .arg(file(alloc, "index"))?
+        .arg(file(alloc, "pairs"))
+}
+
+fn path<'a>(alloc: Global) -> Result<Command<'a>, AllocError>
+    ensures { IfOk result (IsProgram (command_alone literal.path)) }
+{
+    Command::new(alloc, "path")
+        .arg(file(alloc, "graph"))?
         .arg(file(alloc, "index"))?
         .arg(file(alloc, "pairs"))
 }

@@ -50,6 +50,13 @@ fn told(alloc: Global, words: &[String]) -> Result<String, AllocError> {
             pairs.text()
         ),
         Ok(
+            Asked::Path {
+                graph,
+                index,
+                pairs,
+            },
+        ) => format!(in alloc; "path {} {} {}", graph.text(), index.text(), pairs.text()),
+        Ok(
             Asked::Audit {
                 graph,
                 order,
@@ -80,7 +87,7 @@ struct Row(
     &'static str,
 );
 
-const ROWS: [Row; 6] = [
+const ROWS: [Row; 7] = [
     Row("list", &[("graph", "g"), ("order", "o")], 2, "list g o"),
     Row(
         "build",
@@ -109,6 +116,12 @@ const ROWS: [Row; 6] = [
         "solve g o p Plant 2 1",
     ),
     Row("query", &[("index", "x"), ("pairs", "p")], 2, "query x p"),
+    Row(
+        "path",
+        &[("graph", "g"), ("index", "x"), ("pairs", "p")],
+        3,
+        "path g x p",
+    ),
     Row(
         "audit",
         &[("graph", "g"), ("order", "o"), ("index", "x")],
