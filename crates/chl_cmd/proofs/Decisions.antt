@@ -33,7 +33,7 @@ use Rattle.walk_laws.proofs.JoinedEdges.{weights_of_edges}
 use Rattle.walk_laws.proofs.LabellingExists.{IsChl-exists}
 use Rattle.walk_laws.proofs.LabelRows.{IsChl-unique}
 use Rattle.chl_inputs.specs.Inputs.{Input, value_at, value_of, judged, past_limit, graph_input, order_input, pairs_input, index_input, ArePairsWithin}
-use Rattle.chl_inputs.specs.Stages.{Stage, Comes, After, Decided}
+use Rattle.chl_inputs.specs.Stages.{Stage, After, Decided}
 use Rattle.chl_inputs.specs.Stops.{graph_stop, order_stop, pairs_stop, index_stop}
 use Rattle.chl_inputs.specs.declared.stop.Stop.{Stop}
 use Rattle.chl_inputs.specs.declared.stop.Stop.TheVariants.{NotOfGraph}
@@ -42,7 +42,7 @@ use Rattle.chl_inputs.proofs.StageLaws.{Answerable, Determined, decided_always, 
 use Rattle.chl_inputs.proofs.StagesInTurn.{same_value}
 use Rattle.chl_lines.specs.PrintedAnswers.{answer_lines}
 use Rattle.chl_lines.specs.PrintedRows.{lines_from}
-use Rattle.chl_cmd.specs.Commands.{Decides, stage_of, labelling_stage, list_stage, build_stage, solve_stage, query_stage, path_stage, audit_stage, degree_stage, answers_stage, AreAnswers}
+use Rattle.chl_cmd.specs.Commands.{Decides, stage_of, labelling_stage, list_stage, build_stage, solve_stage, query_stage, path_stage, audit_stage, degree_stage, answers_stage, AreAnswers, stage_if}
 use Rattle.chl_words.specs.declared.asked.By.{By}
 use Rattle.chl_words.specs.declared.asked.Asked.{Asked}
 use Rattle.chl_words.specs.declared.asked.Asked.TheVariants.{List as ListRows, Build, Solve, Query, Path, Audit, Degree}
@@ -152,11 +152,11 @@ module _ (index pairs : List ℕ) (files : Files) where
 
 -- a stage, or another that comes to a stop
 module _ {V : Type 0} (stage : Stage V) (stop : Stop) (files : Files) where
-  either_always : (b : Bool) → Answerable stage files → Answerable (cond b stage (Comes (Err stop))) files
+  either_always : (b : Bool) → Answerable stage files → Answerable (stage_if b stop stage) files
   either_always true has = has
   either_always false has = tt
 
-  either_once : (b : Bool) → Determined stage files → Determined (cond b stage (Comes (Err stop))) files
+  either_once : (b : Bool) → Determined stage files → Determined (stage_if b stop stage) files
   either_once true one = one
   either_once false one = tt
 

@@ -1,5 +1,5 @@
 -- Walks of pairs by the rows of an index, and how the stage of a command ends with them.
-use Rattle.std.proofs.Common.{◌≡◌, ◌≢◌, ◌⊎◌, inl, inr, ℕ, ◌+◌, ◌<◌, ◌≤◌, Bool, true, false, cond, List, [], ◌∷◌, ◌++◌, length, drop, get_or, refl, sym, ap, subst, ◌∙◌, append_assoc, append-nil, eq-eqb, eqb-true}
+use Rattle.std.proofs.Common.{◌≡◌, ◌≢◌, ◌⊎◌, inl, inr, ℕ, ◌+◌, ◌<◌, ◌≤◌, Bool, true, false, List, [], ◌∷◌, ◌++◌, length, drop, get_or, refl, sym, ap, subst, ◌∙◌, append_assoc, append-nil, eq-eqb, eqb-true}
 use Rattle.std.specs.Prelude.{◌==◌, Option, Some, None, Result, Ok, Err}
 use Rattle.std.specs.Option.{option_or}
 use Rattle.std.proofs.lemmas.List.{drop_all, drop_more}
@@ -22,7 +22,7 @@ use Rattle.chl_inputs.specs.declared.stop.Stop.{Stop}
 use Rattle.chl_inputs.specs.declared.stop.Stop.TheVariants.{NoMemory, NotOfGraph}
 use Rattle.chl_inputs.proofs.StagesInTurn.{goes_comes, goes_lost, goes_works}
 use Rattle.chl_lines.specs.PrintedWalks.{walk_lines}
-use Rattle.chl_cmd.specs.Commands.{AreAnswers, first_stop, for_sizes, stop_at, unless_stopped, walks_text}
+use Rattle.chl_cmd.specs.Commands.{AreAnswers, first_stop, for_sizes, stage_if, stop_at, unless_stopped, walks_text}
 use Rattle.chl_cmd.proofs.PairAnswers.{answers_exist}
 
 -- ---- one walk more
@@ -68,7 +68,7 @@ module _ (g : WeightedGraph) (i : HubIndex) (pairs : List (ℕ × ℕ)) where
   pub HasWalked-stop : IsGraph g.n g.edges → IsWellFormed i.order i.rows → ArePairsWithin (length i.order) pairs → (k : ℕ) (walks : List Path) (d : ℕ × ℕ) (walk : Path) (stop : Stop) → HasWalked k walks → k < length pairs
       → IsPathOf g i (get_or pairs k d).0 (get_or pairs k d).1 walk → stop_at walk ≡ Some stop → (all : List Path) × AreAnswers (IsPathOf g i) pairs all × (first_stop all ≡ Some stop)
   HasWalked-stop graph well within k walks d walk stop was lt own stops =
-      let others = answers_exist (length i.order) (IsPathOf g i) (λ u v. path_exists g i u v graph well) (drop (k + 1) pairs) (All-drop _ (k + 1) pairs within) in (
+      let others = answers_exist (length i.order) (IsPathOf g i) (λ u v. path_exists g i u v graph well) (drop (k + 1) pairs) (All-drop (λ (p : ℕ × ℕ). (1 ≤ p.0) × (p.0 ≤ length i.order) × (1 ≤ p.1) × (p.1 ≤ length i.order)) (k + 1) pairs within) in (
         walks ++ walk ∷ others.0,
         with_walk k walks d walk was lt own others.0 others.1,
         stop_behind walks walk others.0 was.none ∙ ap (λ o. option_or o (first_stop others.0)) stops,
@@ -87,17 +87,17 @@ stop_is (Unreachable ∷ walks) stop is = stop_is walks stop is
 stop_is (Walk long nodes ∷ walks) stop is = stop_is walks stop is
 stop_is (StuckAt at to ∷ walks) stop is = some_fault (Stuck at to) stop is
 
-module _ {D : Type 0} {desk : Ghosts D} (g : WeightedGraph) (i : HubIndex) (pairs : List (ℕ × ℕ)) {place : D} where
-  abbrev walks_stage : Stage (List ℕ)
-  walks_stage = Works (λ walks. AreAnswers (IsPathOf g i) pairs walks) (λ walks. Comes (walks_text pairs walks))
+abbrev walks_stage : WeightedGraph → HubIndex → List (ℕ × ℕ) → Stage (List ℕ)
+walks_stage g i pairs = Works (λ walks. AreAnswers (IsPathOf g i) pairs walks) (λ walks. Comes (walks_text pairs walks))
 
-  pub goes_walked : (walks : List Path) (text : List ℕ) → AreAnswers (IsPathOf g i) pairs walks → first_stop walks ≡ None → text ≡ walk_lines pairs walks → Goes desk walks_stage (Ok text) place place
+module _ {D : Type 0} {desk : Ghosts D} (g : WeightedGraph) (i : HubIndex) (pairs : List (ℕ × ℕ)) where
+  pub goes_walked : {place : D} (walks : List Path) (text : List ℕ) → AreAnswers (IsPathOf g i) pairs walks → first_stop walks ≡ None → text ≡ walk_lines pairs walks → Goes desk (walks_stage g i pairs) (Ok text) place place
   goes_walked walks text own none is =
       goes_works walks own (goes_comes (ap Ok is ∙ sym (ap (λ o. unless_stopped o (walk_lines pairs walks)) none)) tt refl)
 
-  pub goes_stuck : (stop : Stop) → (stop ≡ NoMemory) ⊎ ((walks : List Path) × AreAnswers (IsPathOf g i) pairs walks × (first_stop walks ≡ Some stop)) → Goes desk walks_stage (Err stop) place place
-  goes_stuck stop (inl lost) = subst (λ s. Goes desk walks_stage (Err s) place place) (sym lost) (goes_lost walks_stage)
-  goes_stuck stop (inr stuck) =
+  pub goes_stuck : {place : D} (stop : Stop) → (stop ≡ NoMemory) ⊎ ((walks : List Path) × AreAnswers (IsPathOf g i) pairs walks × (first_stop walks ≡ Some stop)) → Goes desk (walks_stage g i pairs) (Err stop) place place
+  goes_stuck {place} stop (inl lost) = subst (λ s. Goes desk (walks_stage g i pairs) (Err s) place place) (sym lost) (goes_lost (walks_stage g i pairs))
+  goes_stuck {place} stop (inr stuck) =
       let fault = stop_is stuck.0 stop stuck.2 in
       goes_works stuck.0 stuck.1 (goes_comes (sym (ap (λ o. unless_stopped o (walk_lines pairs stuck.0)) stuck.2))
       (subst HasMemoryOnce (sym fault.1) tt)
@@ -109,13 +109,11 @@ apart : (a b : ℕ) (equal : Bool) → (a == b) ≡ equal → a ≢ b → (a == 
 apart a b true is other = absurd (other (eqb-true a b is))
 apart a b false is other = is
 
-module _ {D V : Type 0} {desk : Ghosts D} (graph index : ℕ) {stage : Stage V} where
-  abbrev by_test : Bool → Stage V
-  by_test equal = cond equal stage (Comes (Err (NotOfGraph (Sizes graph index))))
-
+module _ {D V : Type 0} {desk : Ghosts D} (graph index : ℕ) (stage : Stage V) where
   pub goes_sized : {answer : Result V Stop} {old new : D} → graph ≡ index → Goes desk stage answer old new → Goes desk (for_sizes graph index stage) answer old new
-  goes_sized {answer} {old} {new} same goes = subst (λ b. Goes desk (by_test b) answer old new) (sym (eq-eqb graph index same)) goes
+  goes_sized {answer} {old} {new} same goes =
+      subst (λ b. Goes desk (stage_if b (NotOfGraph (Sizes graph index)) stage) answer old new) (sym (eq-eqb graph index same)) goes
 
   pub goes_unsized : {place : D} → graph ≢ index → Goes desk (for_sizes graph index stage) (Err (NotOfGraph (Sizes graph index))) place place
   goes_unsized {place} other =
-      subst (λ b. Goes desk (by_test b) (Err (NotOfGraph (Sizes graph index))) place place) (sym (apart graph index (graph == index) refl other)) (goes_comes refl tt refl)
+      subst (λ b. Goes desk (stage_if b (NotOfGraph (Sizes graph index)) stage) (Err (NotOfGraph (Sizes graph index))) place place) (sym (apart graph index (graph == index) refl other)) (goes_comes refl tt refl)

@@ -1,6 +1,6 @@
 -- The commands: what each reads and works out in turn, and where its bytes go. A new command is a stage and a case of
 -- `command_of`.
-use Rattle.std.specs.Prelude.{◌≡◌, ℕ, List, [], ◌∷◌, ◌++◌, ◌==◌, length, codes, if◌then◌else◌, Option, Some, None, Result, Ok, Err, Vec}
+use Rattle.std.specs.Prelude.{◌≡◌, ℕ, List, [], ◌∷◌, ◌++◌, ◌==◌, Bool, true, false, length, codes, Option, Some, None, Result, Ok, Err, Vec}
 use Rattle.std.specs.List.{AllZip}
 use Rattle.std.specs.Option.{option_or}
 use Rattle.desk_io.specs.Contents.{Files}
@@ -90,9 +90,14 @@ unless_stopped (Some stop) text = Err stop
 abbrev pub walks_text : List (ℕ × ℕ) → List AnyPath → Result (List ℕ) Stop
 walks_text pairs walks = unless_stopped (first_stop walks) (walk_lines pairs walks)
 
+-- a stage where a test holds, and else a stop
+abbrev pub stage_if : {V : Type 0} → Bool → Stop → Stage V → Stage V
+stage_if true stop stage = stage
+stage_if false stop stage = Comes (Err stop)
+
 -- a stage for a graph and an index of as many nodes; else the index is of another graph
 abbrev pub for_sizes : {V : Type 0} → ℕ → ℕ → Stage V → Stage V
-for_sizes graph index stage = if graph == index then stage else Comes (Err (NotOfGraph (Sizes graph index)))
+for_sizes graph index stage = stage_if (graph == index) (NotOfGraph (Sizes graph index)) stage
 
 -- `path`: a graph, an index of as many nodes, and pairs of them, each with the walk of the graph by the rows of the index
 abbrev pub path_stage : List ℕ → List ℕ → List ℕ → Stage (List ℕ)
