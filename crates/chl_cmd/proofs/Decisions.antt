@@ -69,12 +69,12 @@ module _ {V : Type 0} where
   value_bytes input (Some bytes) v is = (bytes, chosen_value (nat_lt input_limit (length bytes)) (input.plain (take input_limit bytes)) (input.comes_to bytes) v is)
 
 -- the graph of a text is one, the ranking of a text is one of so many nodes, and so are pairs; an index is well formed
-graph_of_stage : (name : List ℕ) (files : Files) (g : WeightedGraph) → value_at (graph_input name) files ≡ Ok g → IsGraph g.n g.edges
+pub graph_of_stage : (name : List ℕ) (files : Files) (g : WeightedGraph) → value_at (graph_input name) files ≡ Ok g → IsGraph g.n g.edges
 graph_of_stage name files g is =
     let bytes = value_bytes (graph_input name) (finite_map.get files name) g is in
     graph_accepted bytes.0 g (judged_value graph_stop _ g bytes.1)
 
-ranking_of_stage : (n : ℕ) (name : List ℕ) (files : Files) (at : List ℕ) → value_at (order_input n name) files ≡ Ok at → IsRanking at × (length at ≡ n)
+pub ranking_of_stage : (n : ℕ) (name : List ℕ) (files : Files) (at : List ℕ) → value_at (order_input n name) files ≡ Ok at → IsRanking at × (length at ≡ n)
 ranking_of_stage n name files at is =
     let bytes = value_bytes (order_input n name) (finite_map.get files name) at is in
     orders_rank n bytes.0 at (judged_value order_stop _ at bytes.1)
@@ -218,7 +218,7 @@ pub decides_once : (asked : Asked) (files : Files) (x y : Result (List ℕ) Stop
 decides_once asked files = decided_once (stage_of asked) files (has_one_answer asked files)
 
 -- a file that has the layout of a well formed index is read as that
-index_of_layout : (index : List ℕ) (files : Files) (bytes at : List ℕ) (rows : List (List Entry)) → finite_map.get files index ≡ Some bytes → length bytes ≤ input_limit → IsWellFormed at rows → bytes ≡ index_bytes at rows → value_at (index_input index) files ≡ Ok (record { order = at; rows = rows })
+pub index_of_layout : (index : List ℕ) (files : Files) (bytes at : List ℕ) (rows : List (List Entry)) → finite_map.get files index ≡ Some bytes → length bytes ≤ input_limit → IsWellFormed at rows → bytes ≡ index_bytes at rows → value_at (index_input index) files ≡ Ok (record { order = at; rows = rows })
 index_of_layout index files bytes at rows held short well same =
     ap (value_of (index_input index)) held
     ∙ ap (λ b. cond b (past_limit ((index_input index).plain (take input_limit bytes))) (judged index_stop (index_of bytes))) (le-ltb _ _ short)

@@ -4,5 +4,6 @@ pub mod PairAnswers
 pub mod Decisions
 pub mod Endings
 pub mod AuditAnswers
+pub mod BuiltAudits
 pub mod WalkAnswers
 pub mod WaysToEnd
