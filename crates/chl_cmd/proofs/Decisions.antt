@@ -1,6 +1,6 @@
 -- What the files decide: always something, and one thing.
 use Rattle.std.proofs.Common.{◌≡◌, ◌≤◌, ℕ, Bool, true, false, cond, List, [], ◌∷◌, length, take, nat_lt, refl, sym, ap, subst, ◌∙◌, arith}
-use Rattle.std.specs.Prelude.{Option, Some, None, Result, Ok, Err}
+use Rattle.std.specs.Prelude.{◌==◌, Option, Some, None, Result, Ok, Err}
 use Rattle.std.specs.FinMap as finite_map
 use Rattle.std.proofs.lemmas.Bool.{le-ltb}
 use Rattle.desk_io.specs.Contents.{Files}
@@ -10,6 +10,10 @@ use Rattle.hub_index.specs.HubIndex.{HubIndex}
 use Rattle.hub_index.specs.WellFormed.{IsWellFormed}
 use Rattle.hub_index.proofs.CanonicalRows.{IsWellFormed-canonical}
 use Rattle.hub_query.proofs.Meetings.{meet_exists, meet_unique}
+use Rattle.hub_query.proofs.PathsDecided.{path_exists, path_unique}
+use Rattle.hub_query.specs.Paths.{IsPathOf}
+use Rattle.index_audit.proofs.Decided.{audit_exists}
+use Rattle.index_audit.proofs.Faults.{audit_unique}
 use Rattle.index_file.specs.Judging.{index_of}
 use Rattle.index_file.proofs.SoundIndexes.{IsWellFormed-index_of}
 use Rattle.index_file.specs.Layout.{index_bytes}
@@ -32,14 +36,16 @@ use Rattle.chl_inputs.specs.Inputs.{Input, value_at, value_of, judged, past_limi
 use Rattle.chl_inputs.specs.Stages.{Stage, After, Decided}
 use Rattle.chl_inputs.specs.Stops.{graph_stop, order_stop, pairs_stop, index_stop}
 use Rattle.chl_inputs.specs.declared.stop.Stop.{Stop}
+use Rattle.chl_inputs.specs.declared.stop.Stop.TheVariants.{NotOfGraph}
+use Rattle.chl_inputs.specs.declared.stop.NotOf.TheVariants.{Sizes}
 use Rattle.chl_inputs.proofs.StageLaws.{Answerable, Determined, decided_always, decided_once, after_ok, after_told, after_value}
 use Rattle.chl_inputs.proofs.StagesInTurn.{same_value}
 use Rattle.chl_lines.specs.PrintedAnswers.{answer_lines}
 use Rattle.chl_lines.specs.PrintedRows.{lines_from}
-use Rattle.chl_cmd.specs.Commands.{Decides, stage_of, labelling_stage, list_stage, build_stage, solve_stage, query_stage, degree_stage, answers_stage, AreAnswers}
+use Rattle.chl_cmd.specs.Commands.{Decides, stage_of, labelling_stage, list_stage, build_stage, solve_stage, query_stage, path_stage, audit_stage, degree_stage, answers_stage, AreAnswers, stage_if}
 use Rattle.chl_words.specs.declared.asked.By.{By}
 use Rattle.chl_words.specs.declared.asked.Asked.{Asked}
-use Rattle.chl_words.specs.declared.asked.Asked.TheVariants.{List as ListRows, Build, Solve, Query, Degree}
+use Rattle.chl_words.specs.declared.asked.Asked.TheVariants.{List as ListRows, Build, Solve, Query, Path, Audit, Degree}
 use Rattle.rank_table.proofs.DegreeRankings.{ranked_by_degree, IsByDegree-unique}
 use Rattle.chl_cmd.proofs.PairAnswers.{answers_exist, answers_unique, answers_told}
 
@@ -63,12 +69,12 @@ module _ {V : Type 0} where
   value_bytes input (Some bytes) v is = (bytes, chosen_value (nat_lt input_limit (length bytes)) (input.plain (take input_limit bytes)) (input.comes_to bytes) v is)
 
 -- the graph of a text is one, the ranking of a text is one of so many nodes, and so are pairs; an index is well formed
-graph_of_stage : (name : List ℕ) (files : Files) (g : WeightedGraph) → value_at (graph_input name) files ≡ Ok g → IsGraph g.n g.edges
+pub graph_of_stage : (name : List ℕ) (files : Files) (g : WeightedGraph) → value_at (graph_input name) files ≡ Ok g → IsGraph g.n g.edges
 graph_of_stage name files g is =
     let bytes = value_bytes (graph_input name) (finite_map.get files name) g is in
     graph_accepted bytes.0 g (judged_value graph_stop _ g bytes.1)
 
-ranking_of_stage : (n : ℕ) (name : List ℕ) (files : Files) (at : List ℕ) → value_at (order_input n name) files ≡ Ok at → IsRanking at × (length at ≡ n)
+pub ranking_of_stage : (n : ℕ) (name : List ℕ) (files : Files) (at : List ℕ) → value_at (order_input n name) files ≡ Ok at → IsRanking at × (length at ≡ n)
 ranking_of_stage n name files at is =
     let bytes = value_bytes (order_input n name) (finite_map.get files name) at is in
     orders_rank n bytes.0 at (judged_value order_stop _ at bytes.1)
@@ -144,6 +150,41 @@ module _ (index pairs : List ℕ) (files : Files) where
       lines_once (length i.order) (IsMeet i.order i.rows) asked (pairs_of_stage (length i.order) pairs files asked pairs_is) files
       (λ u v a b first first_within second second_within one other. meet_unique i.order i.rows u v a b one other)
 
+-- a stage, or another that comes to a stop
+module _ {V : Type 0} (stage : Stage V) (stop : Stop) (files : Files) where
+  either_always : (b : Bool) → Answerable stage files → Answerable (stage_if b stop stage) files
+  either_always true has = has
+  either_always false has = tt
+
+  either_once : (b : Bool) → Determined stage files → Determined (stage_if b stop stage) files
+  either_once true one = one
+  either_once false one = tt
+
+module _ (graph index pairs : List ℕ) (files : Files) where
+  path_always : Answerable (path_stage graph index pairs) files
+  path_always = λ g graph_is i index_is. either_always _ (NotOfGraph (Sizes g.n (length i.order))) files (g.n == length i.order) (λ asked pairs_is.
+      let walks = answers_exist (length i.order) (IsPathOf g i)
+      (λ u v. path_exists g i u v (graph_of_stage graph files g graph_is) (index_of_stage index files i index_is))
+      asked (pairs_of_stage (length i.order) pairs files asked pairs_is) in
+      (walks.0, walks.1, tt))
+
+  path_once : Determined (path_stage graph index pairs) files
+  path_once = λ g graph_is i index_is. either_once _ (NotOfGraph (Sizes g.n (length i.order))) files (g.n == length i.order) (λ asked pairs_is. (
+    answers_unique (length i.order) (IsPathOf g i) (λ u v a b first first_within second second_within one other. path_unique g i u v a b one other)
+        asked (pairs_of_stage (length i.order) pairs files asked pairs_is),
+    λ walks own. tt,
+  ))
+
+module _ (graph order index : List ℕ) (files : Files) where
+  audit_always : Answerable (audit_stage graph order index) files
+  audit_always = λ g graph_is at order_is i index_is.
+      let size = (ranking_of_stage g.n order files at order_is).1 in
+      let found = audit_exists g at i (graph_of_stage graph files g graph_is) size (index_of_stage index files i index_is) in
+      (found.0, found.1, tt)
+
+  audit_once : Determined (audit_stage graph order index) files
+  audit_once = λ g graph_is at order_is i index_is. (audit_unique g at i (ranking_of_stage g.n order files at order_is).1, λ found told. tt)
+
 module _ (graph : List ℕ) (files : Files) where
   degree_always : Answerable (degree_stage graph) files
   degree_always = λ g graph_is. let ranked = ranked_by_degree g in (ranked.0, ranked.1, tt)
@@ -157,6 +198,8 @@ has_answer (ListRows graph order) files = labelling_always (λ at rows. lines_fr
 has_answer (Build graph order out by workers cut) files = labelling_always index_bytes graph order files
 has_answer (Solve graph order pairs by workers cut) files = solve_always graph order pairs files
 has_answer (Query index pairs) files = query_always index pairs files
+has_answer (Path graph index pairs) files = path_always graph index pairs files
+has_answer (Audit graph order index) files = audit_always graph order index files
 has_answer (Degree graph) files = degree_always graph files
 
 has_one_answer : (asked : Asked) (files : Files) → Determined (stage_of asked) files
@@ -164,6 +207,8 @@ has_one_answer (ListRows graph order) files = labelling_once (λ at rows. lines_
 has_one_answer (Build graph order out by workers cut) files = labelling_once index_bytes graph order files
 has_one_answer (Solve graph order pairs by workers cut) files = solve_once graph order pairs files
 has_one_answer (Query index pairs) files = query_once index pairs files
+has_one_answer (Path graph index pairs) files = path_once graph index pairs files
+has_one_answer (Audit graph order index) files = audit_once graph order index files
 has_one_answer (Degree graph) files = degree_once graph files
 
 pub decides_always : (asked : Asked) (files : Files) → (answer : Result (List ℕ) Stop) × Decides asked files answer
@@ -173,7 +218,7 @@ pub decides_once : (asked : Asked) (files : Files) (x y : Result (List ℕ) Stop
 decides_once asked files = decided_once (stage_of asked) files (has_one_answer asked files)
 
 -- a file that has the layout of a well formed index is read as that
-index_of_layout : (index : List ℕ) (files : Files) (bytes at : List ℕ) (rows : List (List Entry)) → finite_map.get files index ≡ Some bytes → length bytes ≤ input_limit → IsWellFormed at rows → bytes ≡ index_bytes at rows → value_at (index_input index) files ≡ Ok (record { order = at; rows = rows })
+pub index_of_layout : (index : List ℕ) (files : Files) (bytes at : List ℕ) (rows : List (List Entry)) → finite_map.get files index ≡ Some bytes → length bytes ≤ input_limit → IsWellFormed at rows → bytes ≡ index_bytes at rows → value_at (index_input index) files ≡ Ok (record { order = at; rows = rows })
 index_of_layout index files bytes at rows held short well same =
     ap (value_of (index_input index)) held
     ∙ ap (λ b. cond b (past_limit ((index_input index).plain (take input_limit bytes))) (judged index_stop (index_of bytes))) (le-ltb _ _ short)

@@ -17,7 +17,7 @@ use Rattle.chl_cmd.specs.Commands.{Decides, stage_of, place_of}
 use Rattle.chl_cmd.specs.Outcome.{Ends, Gives, GivesFront, GivesPart, Stops, given, HasInputsOf, OpensNoOther, ChangesNoOther}
 use Rattle.chl_cmd.specs.Statuses.{status_of, status_after}
 use Rattle.chl_cmd.specs.declared.status.Status.{Status}
-use Rattle.chl_cmd.specs.declared.status.Status.TheVariants.{Done, Usage, GraphText, OrderText, PairsText, IndexBytes, Overflow, ReadFault, WriteFault, NoMemory, TooLong}
+use Rattle.chl_cmd.specs.declared.status.Status.TheVariants.{Done, Differs, Usage, GraphText, OrderText, PairsText, IndexBytes, Overflow, ReadFault, WriteFault, NoMemory, NotOfGraph, TooLong}
 use Rattle.chl_words.specs.declared.asked.Asked.{Asked}
 use Rattle.chl_cmd.specs.Words.{IsCommand}
 use Rattle.chl_cmd.proofs.Decisions.{decides_once}
@@ -26,6 +26,7 @@ use Rattle.chl_cmd.proofs.OneCommand.{one_command}
 -- the stop of which a status tells, if it tells of one
 abbrev stop_in : Status → Option Stop
 stop_in Done = None
+stop_in (Differs audit) = Some (stops.Differs audit)
 stop_in Usage = None
 stop_in (GraphText fault) = Some (stops.Graph fault)
 stop_in (OrderText fault) = Some (stops.Order fault)
@@ -35,6 +36,7 @@ stop_in (Overflow n weight) = Some (stops.Overflow n weight)
 stop_in ReadFault = Some stops.ReadFailed
 stop_in WriteFault = None
 stop_in NoMemory = Some stops.NoMemory
+stop_in (NotOfGraph fault) = Some (stops.NotOfGraph fault)
 stop_in TooLong = Some stops.TooLong
 
 stop_told : (stop : Stop) → stop_in (status_of stop) ≡ Some stop
@@ -43,6 +45,8 @@ stop_told (stops.Overflow n weight) = refl
 stop_told (stops.Order fault) = refl
 stop_told (stops.Pairs fault) = refl
 stop_told (stops.Index fault) = refl
+stop_told (stops.Differs audit) = refl
+stop_told (stops.NotOfGraph fault) = refl
 stop_told stops.TooLong = refl
 stop_told stops.ReadFailed = refl
 stop_told stops.NoMemory = refl

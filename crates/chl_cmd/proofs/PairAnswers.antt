@@ -12,8 +12,8 @@ module _ (n : ℕ) where
   behind : (p : ℕ × ℕ) (pairs : List (ℕ × ℕ)) → ArePairsWithin n (p ∷ pairs) → ArePairsWithin n pairs
   behind p pairs within = λ k d short. within (suc k) d (omega arith)
 
-  module _ (IsOwn : ℕ → ℕ → Option (ℕ × ℕ) → Type 0) where
-    pub answers_exist : ((u v : ℕ) → 1 ≤ u → u ≤ n → 1 ≤ v → v ≤ n → (a : Option (ℕ × ℕ)) × IsOwn u v a) → (pairs : List (ℕ × ℕ)) → ArePairsWithin n pairs → (answers : List (Option (ℕ × ℕ))) × AreAnswers IsOwn pairs answers
+  module _ {A : Type 0} (IsOwn : ℕ → ℕ → A → Type 0) where
+    pub answers_exist : ((u v : ℕ) → 1 ≤ u → u ≤ n → 1 ≤ v → v ≤ n → (a : A) × IsOwn u v a) → (pairs : List (ℕ × ℕ)) → ArePairsWithin n pairs → (answers : List A) × AreAnswers IsOwn pairs answers
     answers_exist some [] within = ([], tt)
     answers_exist some (p ∷ pairs) within =
         let here = within 0 p (omega arith) in
@@ -21,7 +21,7 @@ module _ (n : ℕ) where
         let rest = answers_exist some pairs (behind p pairs within) in
         (first.0 ∷ rest.0, (first.1, rest.1))
 
-    pub answers_unique : ((u v : ℕ) (a b : Option (ℕ × ℕ)) → 1 ≤ u → u ≤ n → 1 ≤ v → v ≤ n → IsOwn u v a → IsOwn u v b → a ≡ b) → (pairs : List (ℕ × ℕ)) → ArePairsWithin n pairs → (xs ys : List (Option (ℕ × ℕ))) → AreAnswers IsOwn pairs xs → AreAnswers IsOwn pairs ys → xs ≡ ys
+    pub answers_unique : ((u v : ℕ) (a b : A) → 1 ≤ u → u ≤ n → 1 ≤ v → v ≤ n → IsOwn u v a → IsOwn u v b → a ≡ b) → (pairs : List (ℕ × ℕ)) → ArePairsWithin n pairs → (xs ys : List A) → AreAnswers IsOwn pairs xs → AreAnswers IsOwn pairs ys → xs ≡ ys
     answers_unique one [] within [] [] first second = refl
     answers_unique one [] within [] (y ∷ ys) first second = absurd second
     answers_unique one [] within (x ∷ xs) ys first second = absurd first
@@ -34,7 +34,7 @@ module _ (n : ℕ) where
         ap (λ z. z ∷ xs) same ∙ ap (λ zs. y ∷ zs) rest
 
   -- what each answer is, told in other words
-  pub answers_told : (P Q : ℕ → ℕ → Option (ℕ × ℕ) → Type 0) → ((u v : ℕ) (a : Option (ℕ × ℕ)) → 1 ≤ u → u ≤ n → 1 ≤ v → v ≤ n → P u v a → Q u v a) → (pairs : List (ℕ × ℕ)) → ArePairsWithin n pairs → (answers : List (Option (ℕ × ℕ))) → AreAnswers P pairs answers → AreAnswers Q pairs answers
+  pub answers_told : {A : Type 0} (P Q : ℕ → ℕ → A → Type 0) → ((u v : ℕ) (a : A) → 1 ≤ u → u ≤ n → 1 ≤ v → v ≤ n → P u v a → Q u v a) → (pairs : List (ℕ × ℕ)) → ArePairsWithin n pairs → (answers : List A) → AreAnswers P pairs answers → AreAnswers Q pairs answers
   answers_told P Q tells [] within [] told = tt
   answers_told P Q tells [] within (a ∷ answers) told = told
   answers_told P Q tells (p ∷ pairs) within [] told = told

@@ -1,8 +1,15 @@
 -- The commands: what each reads and works out in turn, and where its bytes go. A new command is a stage and a case of
 -- `command_of`.
-use Rattle.std.specs.Prelude.{◌≡◌, ℕ, List, length, Option, Some, None, Result, Ok, Err, Vec}
+use Rattle.std.specs.Prelude.{◌≡◌, ℕ, List, [], ◌∷◌, ◌++◌, ◌==◌, Bool, true, false, length, codes, Option, Some, None, Result, Ok, Err, Vec}
 use Rattle.std.specs.List.{AllZip}
+use Rattle.std.specs.Option.{option_or}
 use Rattle.desk_io.specs.Contents.{Files}
+use Rattle.hub_query.specs.Paths.{IsPathOf}
+use Rattle.hub_query.specs.declared.path_answer.Path.{Path as AnyPath}
+use Rattle.hub_query.specs.declared.path_answer.Path.TheVariants.{Sizes as OtherSizes, Unreachable, Walk, Stuck as StuckAt}
+use Rattle.index_audit.specs.Audited.{IsAuditOf}
+use Rattle.index_audit.specs.declared.answer.Audit.{Audit as AnyAudit}
+use Rattle.index_audit.specs.declared.answer.Audit.TheVariants.{Same}
 use Rattle.index_file.specs.Layout.{index_bytes}
 use Rattle.walk_laws.specs.declared.entry.Entry.{Entry}
 use Rattle.walk_laws.specs.Answer.{IsAnswer}
@@ -12,12 +19,15 @@ use Rattle.walk_laws.specs.Meet.{IsMeet}
 use Rattle.chl_inputs.specs.Inputs.{graph_input, order_input, pairs_input, index_input}
 use Rattle.chl_inputs.specs.Stages.{Stage, Comes, Works, Reads, Decided}
 use Rattle.chl_inputs.specs.declared.stop.Stop.{Stop}
+use Rattle.chl_inputs.specs.declared.stop.Stop.TheVariants.{Differs, NotOfGraph}
+use Rattle.chl_inputs.specs.declared.stop.NotOf.TheVariants.{Sizes, Stuck}
 use Rattle.chl_lines.specs.PrintedAnswers.{answer_lines}
 use Rattle.chl_lines.specs.PrintedOrders.{order_lines}
 use Rattle.chl_lines.specs.PrintedRows.{lines_from}
+use Rattle.chl_lines.specs.PrintedWalks.{walk_lines}
 use Rattle.rank_table.specs.ByDegree.{IsByDegree}
 use Rattle.chl_words.specs.declared.asked.Asked.{Asked}
-use Rattle.chl_words.specs.declared.asked.Asked.TheVariants.{List as ListRows, Build, Solve, Query, Degree}
+use Rattle.chl_words.specs.declared.asked.Asked.TheVariants.{List as ListRows, Build, Solve, Query, Path, Audit, Degree}
 
 -- a graph, a ranking of its nodes, and the bytes of the rows of its canonical hub labelling
 abbrev pub labelling_stage : (List ℕ → List (List Entry) → List ℕ) → List ℕ → List ℕ → Stage (List ℕ)
@@ -36,7 +46,7 @@ abbrev pub build_stage : List ℕ → List ℕ → Stage (List ℕ)
 build_stage graph order = labelling_stage index_bytes graph order
 
 -- each pair has an answer that is its own
-abbrev pub AreAnswers : (ℕ → ℕ → Option (ℕ × ℕ) → Type 0) → List (ℕ × ℕ) → List (Option (ℕ × ℕ)) → Type 0
+abbrev pub AreAnswers : {A : Type 0} → (ℕ → ℕ → A → Type 0) → List (ℕ × ℕ) → List A → Type 0
 AreAnswers IsOwn pairs answers = AllZip (λ pair a. IsOwn pair.0 pair.1 a) pairs answers
 
 -- the lines of pairs with their answers
@@ -59,6 +69,60 @@ query_stage index pairs =
     Reads (pairs_input (length i.order) pairs) (λ asked.
     answers_stage (IsMeet i.order i.rows) asked))
 
+-- where a walk shows that the index is of another graph, the stop there
+abbrev pub stop_at : AnyPath → Option Stop
+stop_at (OtherSizes graph index) = Some (NotOfGraph (Sizes graph index))
+stop_at Unreachable = None
+stop_at (Walk long nodes) = None
+stop_at (StuckAt at to) = Some (NotOfGraph (Stuck at to))
+
+-- the first such stop
+abbrev pub first_stop : List AnyPath → Option Stop
+first_stop [] = None
+first_stop (walk ∷ walks) = option_or (stop_at walk) (first_stop walks)
+
+-- a text, where there is no stop
+abbrev pub unless_stopped : Option Stop → List ℕ → Result (List ℕ) Stop
+unless_stopped None text = Ok text
+unless_stopped (Some stop) text = Err stop
+
+-- the lines of pairs with their walks, or the first stop
+abbrev pub walks_text : List (ℕ × ℕ) → List AnyPath → Result (List ℕ) Stop
+walks_text pairs walks = unless_stopped (first_stop walks) (walk_lines pairs walks)
+
+-- a stage where a test holds, and else a stop
+abbrev pub stage_if : {V : Type 0} → Bool → Stop → Stage V → Stage V
+stage_if true stop stage = stage
+stage_if false stop stage = Comes (Err stop)
+
+-- a stage for a graph and an index of as many nodes; else the index is of another graph
+abbrev pub for_sizes : {V : Type 0} → ℕ → ℕ → Stage V → Stage V
+for_sizes graph index stage = stage_if (graph == index) (NotOfGraph (Sizes graph index)) stage
+
+-- `path`: a graph, an index of as many nodes, and pairs of them, each with the walk of the graph by the rows of the index
+abbrev pub path_stage : List ℕ → List ℕ → List ℕ → Stage (List ℕ)
+path_stage graph index pairs =
+    Reads (graph_input graph) (λ g.
+    Reads (index_input index) (λ i.
+    for_sizes g.n (length i.order) (
+    Reads (pairs_input (length i.order) pairs) (λ asked.
+    Works (λ walks. AreAnswers (IsPathOf g i) asked walks) (λ walks.
+    Comes (walks_text asked walks))))))
+
+-- the line `same`, ended by one LF, or what is wrong with an index
+abbrev pub audit_text : AnyAudit → Result (List ℕ) Stop
+audit_text Same = Ok (codes "same" ++ 10 ∷ [])
+audit_text fault = Err (Differs fault)
+
+-- `audit`: a graph, a ranking of its nodes, and an index, which is theirs, or else differs
+abbrev pub audit_stage : List ℕ → List ℕ → List ℕ → Stage (List ℕ)
+audit_stage graph order index =
+    Reads (graph_input graph) (λ g.
+    Reads (order_input g.n order) (λ at.
+    Reads (index_input index) (λ i.
+    Works (λ found. IsAuditOf g at i found) (λ found.
+    Comes (audit_text found)))))
+
 -- `degree`: a graph, and the order text of its nodes by falling degree
 abbrev pub degree_stage : List ℕ → Stage (List ℕ)
 degree_stage graph = Reads (graph_input graph) (λ g. Works (λ at. IsByDegree g at) (λ at. Comes (Ok (order_lines at))))
@@ -73,6 +137,8 @@ command_of (ListRows graph order) = record { stage = list_stage graph order; pla
 command_of (Build graph order out by workers cut) = record { stage = build_stage graph order; place = Some out }
 command_of (Solve graph order pairs by workers cut) = record { stage = solve_stage graph order pairs; place = None }
 command_of (Query index pairs) = record { stage = query_stage index pairs; place = None }
+command_of (Path graph index pairs) = record { stage = path_stage graph index pairs; place = None }
+command_of (Audit graph order index) = record { stage = audit_stage graph order index; place = None }
 command_of (Degree graph) = record { stage = degree_stage graph; place = None }
 
 abbrev pub stage_of : Asked → Stage (List ℕ)

@@ -4,13 +4,14 @@ use Rattle.desk_io.specs.Counts.{Rises}
 use Rattle.index_file.specs.declared.fault.IndexFault.TheVariants as index_faults
 use Rattle.rank_table.specs.declared.order_fault.OrderFault.TheVariants as order_faults
 use Rattle.chl_cmd.specs.declared.status.Status.{Status}
-use Rattle.chl_cmd.specs.declared.status.Status.TheVariants.{Done, Usage, GraphText, OrderText, PairsText, IndexBytes, Overflow, ReadFault, WriteFault, NoMemory, TooLong}
+use Rattle.chl_cmd.specs.declared.status.Status.TheVariants.{Done, Differs, Usage, GraphText, OrderText, PairsText, IndexBytes, Overflow, ReadFault, WriteFault, NoMemory, NotOfGraph, TooLong}
 use Rattle.chl_inputs.specs.declared.stop.Stop.{Stop}
 use Rattle.chl_inputs.specs.declared.stop.Stop.TheVariants as stops
 
 -- the number with which the program ends
 abbrev pub number_of : Status → ℕ
 number_of Done = 0
+number_of (Differs audit) = 1
 number_of Usage = 2
 number_of (GraphText fault) = 3
 number_of (OrderText fault) = 4
@@ -20,6 +21,7 @@ number_of (Overflow n weight) = 7
 number_of ReadFault = 8
 number_of WriteFault = 9
 number_of NoMemory = 10
+number_of (NotOfGraph fault) = 11
 number_of TooLong = 12
 
 -- the status of a command without output
@@ -29,6 +31,8 @@ status_of (stops.Overflow n weight) = Overflow n weight
 status_of (stops.Order fault) = OrderText fault
 status_of (stops.Pairs fault) = PairsText fault
 status_of (stops.Index fault) = IndexBytes fault
+status_of (stops.Differs audit) = Differs audit
+status_of (stops.NotOfGraph fault) = NotOfGraph fault
 status_of stops.TooLong = TooLong
 status_of stops.ReadFailed = ReadFault
 status_of stops.NoMemory = NoMemory

@@ -4,19 +4,23 @@ ghost use Rattle.chl_inputs.specs.Stages.{Goes};
 ghost use Rattle.chl_cmd.specs.Commands.{bytes_of, place_of, stage_of};
 ghost use Rattle.chl_words.specs.Asking.{IsWithinLimits};
 
+mod audit;
 mod build;
 mod degree;
 mod list;
+mod path;
 mod query;
 mod solve;
 
 use crate::construction::Construction;
+use audit::audit_output;
 use build::build_output;
 use chl_inputs::Stop;
 use chl_words::{Asked, Name};
 use degree::degree_output;
 use desk_io::{Desk, Gate};
 use list::list_output;
+use path::path_output;
 use query::query_output;
 use solve::solve_output;
 use std::alloc::Global;
@@ -84,6 +88,16 @@ pub fn output<R: Threads + Wait + Sync, D: Desk, G: Gate + Sync>(
             )
         }
         Asked::Query { index, pairs } => query_output(rt, alloc, index.text(), pairs.text(), desk),
+        Asked::Path {
+            graph,
+            index,
+            pairs,
+        } => path_output(alloc, graph.text(), index.text(), pairs.text(), desk),
+        Asked::Audit {
+            graph,
+            order,
+            index,
+        } => audit_output(alloc, graph.text(), order.text(), index.text(), desk),
         Asked::Degree { graph } => degree_output(alloc, graph.text(), desk),
     }
 }
@@ -93,8 +107,12 @@ pub fn out_file(asked: &Asked) -> Option<&Name>
     ensures { option_copied result ≡ place_of asked.now }
 {
     match asked {
-        Asked::List { .. } | Asked::Solve { .. } | Asked::Query { .. } | Asked::Degree { .. } =>
-            None,
+        Asked::List { .. }
+        | Asked::Solve { .. }
+        | Asked::Query { .. }
+        | Asked::Path { .. }
+        | Asked::Audit { .. }
+        | Asked::Degree { .. } => None,
         Asked::Build { out, .. } => Some(out),
     }
 }

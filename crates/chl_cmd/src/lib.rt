@@ -16,7 +16,7 @@ mod status;
 #[cfg(test)]
 mod tests;
 
-pub use chl_inputs::Stop;
+pub use chl_inputs::{NotOf, Stop};
 pub use chl_words::{AskFault, Asked, By, Name, read_words};
 pub use running::run;
 pub use status::Status;

@@ -3,8 +3,9 @@ ghost use Rattle.chl_inputs.specs.Stops.{HasMemoryOnce};
 ghost use Rattle.chl_cmd.specs.Statuses.{number_of, status_of, CarriesFaultsAlone};
 ghost use Rattle.chl_inputs.specs.declared.stop.Stop.{Stop as AnyStop};
 
-use chl_inputs::Stop;
+use chl_inputs::{NotOf, Stop};
 use dimacs_text::TextFault;
+use index_audit::Audit;
 use index_file::IndexFault;
 use rank_table::OrderFault;
 use thiserror::Error;
@@ -15,6 +16,9 @@ pub enum Status {
     /// The output was written.
     #[error("chl: done")]
     Done,
+    /// The index is not that of the graph under the order, and this is the first thing that is wrong with it.
+    #[error("chl: index differs: {0}")]
+    Differs(Audit),
     /// The words are no command.
     #[error("chl: usage")]
     Usage,
@@ -42,6 +46,9 @@ pub enum Status {
     /// There was no memory for it.
     #[error("chl: out of memory")]
     NoMemory,
+    /// The index, by which walks of the graph are asked for, is of another graph.
+    #[error("chl: index not of graph: {0}")]
+    NotOfGraph(NotOf),
     /// An input has more than 2^48 bytes, and none of its lines or fields within these was refused.
     #[error("chl: input too long")]
     TooLong,
@@ -54,6 +61,7 @@ impl Status {
     {
         match self {
             Status::Done => 0,
+            Status::Differs(_) => 1,
             Status::Usage => 2,
             Status::GraphText(_) => 3,
             Status::OrderText(_) => 4,
@@ -63,6 +71,7 @@ impl Status {
             Status::ReadFault => 8,
             Status::WriteFault => 9,
             Status::NoMemory => 10,
+            Status::NotOfGraph(_) => 11,
             Status::TooLong => 12,
         }
     }
@@ -80,6 +89,8 @@ pub fn stopped(stop: Stop) -> Status
         Stop::Order(fault) => Status::OrderText(fault),
         Stop::Pairs(fault) => Status::PairsText(fault),
         Stop::Index(fault) => Status::IndexBytes(fault),
+        Stop::Differs(audit) => Status::Differs(audit),
+        Stop::NotOfGraph(not_of) => Status::NotOfGraph(not_of),
         Stop::TooLong => Status::TooLong,
         Stop::ReadFailed => Status::ReadFault,
         Stop::NoMemory => Status::NoMemory,

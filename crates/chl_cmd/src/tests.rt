@@ -1,14 +1,17 @@
 ghost use Rattle.std.specs.Prelude.{◌<◌};
 
+mod audits;
 mod desks;
 mod files;
 mod gates;
 mod pairs;
 mod texts;
+mod walks;
 
 use super::*;
 use desk_io::{Call, FreeGate, MemDesk};
 use dimacs_text::{TextFault, TextKind};
+use index_audit::Audit;
 use index_file::IndexFault;
 use rank_table::OrderFault;
 use std::alloc::{AllocError, Global};
@@ -108,9 +111,18 @@ fn expect_all<R: Abort + AllocGlobal + Threads + Wait + Sync>(
 }
 
 /// The line of each status on standard error, and its number.
-fn statuses() -> [(Status, &'static str, u8); 11] {
+fn statuses() -> [(Status, &'static str, u8); 13] {
     [
         (Status::Done, "chl: done", 0),
+        (
+            Status::Differs(Audit::NotCovered {
+                v: 2,
+                to: 3,
+                hub: 1,
+            }),
+            "chl: index differs: hub 1 at 2 not covered at 3",
+            1,
+        ),
         (Status::Usage, "chl: usage", 2),
         (
             Status::GraphText(TextFault {
@@ -146,6 +158,11 @@ fn statuses() -> [(Status, &'static str, u8); 11] {
         (Status::ReadFault, "chl: read failed", 8),
         (Status::WriteFault, "chl: write failed", 9),
         (Status::NoMemory, "chl: out of memory", 10),
+        (
+            Status::NotOfGraph(NotOf::Stuck { at: 1, to: 4 }),
+            "chl: index not of graph: stuck at 1 to 4",
+            11,
+        ),
         (Status::TooLong, "chl: input too long", 12),
     ]
 }

@@ -11,4 +11,4 @@ mod stop;
 mod stops_at;
 
 pub use inputs::{read_graph, read_index, read_order, read_pairs};
-pub use stop::Stop;
+pub use stop::{NotOf, Stop};

@@ -2,9 +2,22 @@ ghost use Rattle.std.specs.Prelude.{◌≡◌};
 ghost use Rattle.chl_inputs.specs.declared.stop.Stop.TheVariants.{NoMemory};
 
 use dimacs_text::TextFault;
+use index_audit::Audit;
 use index_file::IndexFault;
 use rank_table::OrderFault;
-use std::alloc::AllocError;
+use std::alloc::{AllocError, AllocFailed};
+use thiserror::Error;
+
+/// How it shows that an index is of another graph, where walks are asked for. Its text is what the program says of it.
+#[derive(Clone, Copy, Debug, PartialEq, Eq, Error)]
+pub enum NotOf {
+    /// The graph has `graph` nodes, and the index has `index`.
+    #[error("graph has {graph} nodes, index has {index}")]
+    Sizes { graph: u32, index: u32 },
+    /// From `at` no neighbour leads on to `to` as the rows of the index have it.
+    #[error("stuck at {at} to {to}")]
+    Stuck { at: u32, to: u32 },
+}
 
 /// Why a command has no output.
 #[derive(Clone, Copy, Debug, PartialEq, Eq)]
@@ -19,6 +32,10 @@ pub enum Stop {
     Pairs(TextFault),
     /// The index file has this first fault.
     Index(IndexFault),
+    /// The index is not that of the graph under the order, and this is the first thing that is wrong with it.
+    Differs(Audit),
+    /// The index, by which walks of the graph are asked for, is of another graph.
+    NotOfGraph(NotOf),
     /// An input has more bytes than the limit, and none of its lines or fields within the limit was refused.
     TooLong,
     /// An input could not be opened or read.
@@ -31,6 +48,14 @@ impl From<AllocError> for Stop {
     ghost from_gives = { λ _ stop. stop ≡ NoMemory };
 
     fn from(_error: AllocError) -> Stop {
+        Stop::NoMemory
+    }
+}
+
+impl<T: Drop> From<AllocFailed<T>> for Stop {
+    ghost from_gives = { λ _ stop. stop ≡ NoMemory };
+
+    fn from(_error: AllocFailed<T>) -> Stop {
         Stop::NoMemory
     }
 }

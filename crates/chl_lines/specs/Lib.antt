@@ -1,3 +1,4 @@
 pub mod PrintedRows
 pub mod PrintedAnswers
 pub mod PrintedOrders
+pub mod PrintedWalks

@@ -1,12 +1,13 @@
-ghost use Rattle.std.specs.Prelude.{◌≡◌, ℕ, ◌<◌, ◌∷◌, ◌++◌, map, slice_index, IfOk, OnOk, length};
+ghost use Rattle.std.specs.Prelude.{◌≡◌, ℕ, ◌<◌, [], ◌∷◌, ◌++◌, codes, flat_map, map, slice_index, IfOk, OnOk, length};
 ghost use Rattle.std.specs.Fmt.{decimal};
 ghost use Rattle.hub_query.specs.Meant.{meant};
 ghost use Rattle.chl_lines.specs.PrintedAnswers.{answer_line, answer_lines as lines_of_answers};
 ghost use Rattle.chl_lines.specs.PrintedOrders.{node_line, order_lines as lines_of_nodes};
+ghost use Rattle.chl_lines.specs.PrintedWalks.{node_word, walk_line, walk_lines as lines_of_walks};
 ghost use Rattle.chl_lines.specs.PrintedRows.{entry_words, row_line, lines_from, HasPositions};
 
 use hub_index::Index;
-use hub_query::Answer;
+use hub_query::{Answer, Path};
 use itoa::Buffer;
 use rank_table::Ranking;
 use std::alloc::{AllocError, Global};
@@ -86,11 +87,66 @@ fn print_answer(text: &mut Vec<u8>, pair: (u32, u32), answer: Answer) -> Result<
             print_pair(text, pair)?;
             print_number(text, dist)?;
             print_number(text, u64::from(hub))?;
+            text.push(b'\n')?;
+            Ok(())
         }
-        Answer::Far => {
-            text.extend_from_slice(b"u ")?;
-            print_pair(text, pair)?;
-        }
+        Answer::Far => print_apart(text, pair),
+    }
+}
+
+/// Puts the line of a pair between which no walk leads at the end of a text.
+fn print_apart(text: &mut Vec<u8>, pair: (u32, u32)) -> Result<(), AllocError>
+    ensures { OnOk result (text.new.items ≡ text.old.items ++ (codes "u " ++ (decimal pair.0 ++ (32 ∷ decimal pair.1) ++ 10 ∷ []))) }
+{
+    text.extend_from_slice(b"u ")?;
+    print_pair(text, pair)?;
+    text.push(b'\n')?;
+    Ok(())
+}
+
+/// The lines of pairs with their walks: `w S T D V ..` for a walk of length D from S to T that passes the nodes V, or
+/// `u S T` where none leads there. An index of another graph has no line.
+pub fn walk_lines(
+    alloc: Global,
+    pairs: &[(u32, u32)],
+    walks: &[Path],
+) -> Result<Vec<u8>, AllocError>
+    requires { length walks.now ≡ length pairs.now }
+    ensures { IfOk result (λ text. text.items ≡ lines_of_walks pairs.now walks.now) }
+{
+    let mut text = Vec::new(alloc);
+    for i in 0..pairs.len() {
+        print_path(&mut text, pairs[i], &walks[i])?;
+    }
+    Ok(text)
+}
+
+/// Puts the line of a pair with its walk at the end of a text.
+fn print_path(text: &mut Vec<u8>, pair: (u32, u32), walk: &Path) -> Result<(), AllocError>
+    ensures { OnOk result (text.new.items ≡ text.old.items ++ walk_line pair walk.now) }
+{
+    match walk {
+        Path::Walk { length, nodes } => print_walk(text, pair, *length, nodes.list()),
+        Path::Unreachable => print_apart(text, pair),
+        Path::Sizes { .. } | Path::Stuck { .. } => Ok(()),
+    }
+}
+
+/// Puts the line of a pair with a walk of this length, which passes these nodes, at the end of a text.
+fn print_walk(
+    text: &mut Vec<u8>,
+    pair: (u32, u32),
+    length: u64,
+    nodes: &[u32],
+) -> Result<(), AllocError>
+    ensures { OnOk result (text.new.items ≡ text.old.items
+        ++ (codes "w " ++ (decimal pair.0 ++ (32 ∷ decimal pair.1) ++ (32 ∷ decimal length) ++ flat_map node_word nodes.now ++ 10 ∷ []))) }
+{
+    text.extend_from_slice(b"w ")?;
+    print_pair(text, pair)?;
+    print_number(text, length)?;
+    for node in nodes {
+        print_number(text, u64::from(*node))?;
     }
     text.push(b'\n')?;
     Ok(())

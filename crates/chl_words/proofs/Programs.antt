@@ -111,6 +111,14 @@ query_is : IsJudged literal.query
 unfolding clap_on_literals
 query_is = record { enters = record { walks = refl; turns = refl; found = refl }; distinct = (refl, (refl, tt)); pass = (refl, (refl, tt)) }
 
+path_is : IsJudged literal.path
+unfolding clap_on_literals
+path_is = record { enters = record { walks = refl; turns = refl; found = refl }; distinct = (refl, (refl, (refl, tt))); pass = (refl, (refl, (refl, tt))) }
+
+audit_is : IsJudged literal.audit
+unfolding clap_on_literals
+audit_is = record { enters = record { walks = refl; turns = refl; found = refl }; distinct = (refl, (refl, (refl, tt))); pass = (refl, (refl, (refl, tt))) }
+
 degree_is : IsJudged literal.degree
 unfolding clap_on_literals
 degree_is = record { enters = record { walks = refl; turns = refl; found = refl }; distinct = (refl, tt); pass = (refl, tt) }
@@ -120,5 +128,7 @@ is_judged s (zero, lt, is) = subst IsJudged is list_is
 is_judged s (suc zero, lt, is) = subst IsJudged is build_is
 is_judged s (suc (suc zero), lt, is) = subst IsJudged is solve_is
 is_judged s (suc (suc (suc zero)), lt, is) = subst IsJudged is query_is
-is_judged s (suc (suc (suc (suc zero))), lt, is) = subst IsJudged is degree_is
-is_judged s (suc (suc (suc (suc (suc k)))), lt, is) = absurd (omega arith)
+is_judged s (suc (suc (suc (suc zero))), lt, is) = subst IsJudged is path_is
+is_judged s (suc (suc (suc (suc (suc zero)))), lt, is) = subst IsJudged is audit_is
+is_judged s (suc (suc (suc (suc (suc (suc zero))))), lt, is) = subst IsJudged is degree_is
+is_judged s (suc (suc (suc (suc (suc (suc (suc k)))))), lt, is) = absurd (omega arith)

@@ -9,7 +9,7 @@ use Rattle.chl_words.specs.declared.reading.Building.{Building}
 use Rattle.chl_words.specs.declared.asked.By.{By}
 use Rattle.chl_words.specs.declared.asked.By.TheVariants.{Plant, Lcc}
 use Rattle.chl_words.specs.declared.asked.Asked.{Asked}
-use Rattle.chl_words.specs.declared.asked.Asked.TheVariants.{List as ListRows, Build, Solve, Query, Degree}
+use Rattle.chl_words.specs.declared.asked.Asked.TheVariants.{List as ListRows, Build, Solve, Query, Path, Audit, Degree}
 
 -- what each option has as its value, if any
 abbrev pub Values : Type 0
@@ -66,6 +66,12 @@ solve_of value = value (codes "graph") >>= λ graph. value (codes "order") >>= �
 abbrev pub query_of : Values → Option Asked
 query_of value = value (codes "index") >>= λ index. value (codes "pairs") >>= λ pairs. Some (Query index pairs)
 
+abbrev pub path_of : Values → Option Asked
+path_of value = value (codes "graph") >>= λ graph. value (codes "index") >>= λ index. value (codes "pairs") >>= λ pairs. Some (Path graph index pairs)
+
+abbrev pub audit_of : Values → Option Asked
+audit_of value = value (codes "graph") >>= λ graph. value (codes "order") >>= λ order. value (codes "index") >>= λ index. Some (Audit graph order index)
+
 abbrev pub degree_of : Values → Option Asked
 degree_of value = value (codes "graph") >>= λ graph. Some (Degree graph)
 
@@ -76,8 +82,10 @@ asked_of name value =
     else (if bytes_eq name (codes "build") then build_of value
     else (if bytes_eq name (codes "solve") then solve_of value
     else (if bytes_eq name (codes "query") then query_of value
+    else (if bytes_eq name (codes "path") then path_of value
+    else (if bytes_eq name (codes "audit") then audit_of value
     else (if bytes_eq name (codes "degree") then degree_of value
-    else None))))
+    else None))))))
 
 -- the values of the options in what was found
 abbrev pub values_in : List Row → Values

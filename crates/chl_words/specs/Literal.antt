@@ -46,11 +46,17 @@ solve = command (codes "solve") (file (codes "graph") ∷ file (codes "order") �
 abbrev pub query : Shape
 query = command (codes "query") (file (codes "index") ∷ file (codes "pairs") ∷ [])
 
+abbrev pub path : Shape
+path = command (codes "path") (file (codes "graph") ∷ file (codes "index") ∷ file (codes "pairs") ∷ [])
+
+abbrev pub audit : Shape
+audit = command (codes "audit") (file (codes "graph") ∷ file (codes "order") ∷ file (codes "index") ∷ [])
+
 abbrev pub degree : Shape
 degree = command (codes "degree") (file (codes "graph") ∷ [])
 
 abbrev pub commands : List Shape
-commands = list ∷ build ∷ solve ∷ query ∷ degree ∷ []
+commands = list ∷ build ∷ solve ∷ query ∷ path ∷ audit ∷ degree ∷ []
 
 -- the program: it takes one of its commands, and has no help
 abbrev pub program : App

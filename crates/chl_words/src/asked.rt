@@ -80,6 +80,18 @@ pub enum Asked {
         index: Name,
         pairs: Name,
     },
+    /// Say the walk of each pair of nodes of a graph, by the rows of an index.
+    Path {
+        graph: Name,
+        index: Name,
+        pairs: Name,
+    },
+    /// Say whether an index is that of a graph under an order, or the first thing that is wrong with it.
+    Audit {
+        graph: Name,
+        order: Name,
+        index: Name,
+    },
     /// Print the order of a graph's nodes by falling degree.
     Degree {
         graph: Name,

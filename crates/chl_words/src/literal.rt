@@ -30,6 +30,8 @@ pub fn program<'a>(alloc: Global) -> Result<Command<'a>, AllocError>
         .subcommand(build(alloc)?)?
         .subcommand(solve(alloc)?)?
         .subcommand(query(alloc)?)?
+        .subcommand(path(alloc)?)?
+        .subcommand(audit(alloc)?)?
         .subcommand(degree(alloc)?)
 }
 
@@ -71,6 +73,24 @@ fn query<'a>(alloc: Global) -> Result<Command<'a>, AllocError>
     Command::new(alloc, "query")
         .arg(file(alloc, "index"))?
         .arg(file(alloc, "pairs"))
+}
+
+fn path<'a>(alloc: Global) -> Result<Command<'a>, AllocError>
+    ensures { IfOk result (IsProgram (command_alone literal.path)) }
+{
+    Command::new(alloc, "path")
+        .arg(file(alloc, "graph"))?
+        .arg(file(alloc, "index"))?
+        .arg(file(alloc, "pairs"))
+}
+
+fn audit<'a>(alloc: Global) -> Result<Command<'a>, AllocError>
+    ensures { IfOk result (IsProgram (command_alone literal.audit)) }
+{
+    Command::new(alloc, "audit")
+        .arg(file(alloc, "graph"))?
+        .arg(file(alloc, "order"))?
+        .arg(file(alloc, "index"))
 }
 
 fn degree<'a>(alloc: Global) -> Result<Command<'a>, AllocError>

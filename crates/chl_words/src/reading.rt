@@ -1,7 +1,7 @@
 ghost use Rattle.std.specs.Prelude.{◌≡◌, ◌≢◌, ◌≤◌, ℕ, List, Option, Some, None, codes, map, string_bytes, option_and_then, IfOk, IfErr, IfSome, IfNone};
 ghost use Rattle.clap.specs.Words.{found_of, kind_of, rows_of, subcommand_rows_of};
 ghost use Rattle.clap.specs.declared.error.kind.ErrorKind.TheVariants.{OutOfMemory};
-ghost use Rattle.chl_words.specs.Asking.{AreWithinLimits, IsWithinLimits, any_number_of, asked_in, asked_of, build_of, building_of, asked_by, construction_of, degree_of, list_of, number_of, query_of, solve_of, values_in, within};
+ghost use Rattle.chl_words.specs.Asking.{AreWithinLimits, IsWithinLimits, any_number_of, asked_in, asked_of, audit_of, build_of, building_of, asked_by, construction_of, degree_of, list_of, number_of, path_of, query_of, solve_of, values_in, within};
 ghost use Rattle.chl_words.specs.Reading.{IsRead};
 ghost use Rattle.chl_words.specs.declared.asked.AskFault.TheVariants.{Usage};
 
@@ -64,6 +64,8 @@ fn read_command(alloc: Global, name: &str, found: &ArgMatches<'_>) -> Result<Ask
         "build" => read_build(alloc, found),
         "solve" => read_solve(alloc, found),
         "query" => read_query(alloc, found),
+        "path" => read_path(alloc, found),
+        "audit" => read_audit(alloc, found),
         "degree" => read_degree(alloc, found),
         _ => Err(AskFault::Usage),
     }
@@ -121,6 +123,34 @@ fn read_query(alloc: Global, found: &ArgMatches<'_>) -> Result<Asked, AskFault>
     let index = file(alloc, found, "index")?;
     let pairs = file(alloc, found, "pairs")?;
     Ok(Asked::Query { index, pairs })
+}
+
+fn read_path(alloc: Global, found: &ArgMatches<'_>) -> Result<Asked, AskFault>
+    ensures read { IsRead (path_of (values_in (rows_of (found_of found.now)))) result }
+    ensures limits { IfOk result IsWithinLimits }
+{
+    let graph = file(alloc, found, "graph")?;
+    let index = file(alloc, found, "index")?;
+    let pairs = file(alloc, found, "pairs")?;
+    Ok(Asked::Path {
+        graph,
+        index,
+        pairs,
+    })
+}
+
+fn read_audit(alloc: Global, found: &ArgMatches<'_>) -> Result<Asked, AskFault>
+    ensures read { IsRead (audit_of (values_in (rows_of (found_of found.now)))) result }
+    ensures limits { IfOk result IsWithinLimits }
+{
+    let graph = file(alloc, found, "graph")?;
+    let order = file(alloc, found, "order")?;
+    let index = file(alloc, found, "index")?;
+    Ok(Asked::Audit {
+        graph,
+        order,
+        index,
+    })
 }
 
 fn read_degree(alloc: Global, found: &ArgMatches<'_>) -> Result<Asked, AskFault>

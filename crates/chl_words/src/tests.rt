@@ -49,6 +49,20 @@ fn told(alloc: Global, words: &[String]) -> Result<String, AllocError> {
             index.text(),
             pairs.text()
         ),
+        Ok(
+            Asked::Path {
+                graph,
+                index,
+                pairs,
+            },
+        ) => format!(in alloc; "path {} {} {}", graph.text(), index.text(), pairs.text()),
+        Ok(
+            Asked::Audit {
+                graph,
+                order,
+                index,
+            },
+        ) => format!(in alloc; "audit {} {} {}", graph.text(), order.text(), index.text()),
         Ok(Asked::Degree { graph }) => format!(in alloc; "degree {}", graph.text()),
         Err(AskFault::Usage) => String::from_str(alloc, "usage"),
         Err(AskFault::NoMemory) => String::from_str(alloc, "no memory"),
@@ -73,7 +87,7 @@ struct Row(
     &'static str,
 );
 
-const ROWS: [Row; 5] = [
+const ROWS: [Row; 7] = [
     Row("list", &[("graph", "g"), ("order", "o")], 2, "list g o"),
     Row(
         "build",
@@ -102,6 +116,18 @@ const ROWS: [Row; 5] = [
         "solve g o p Plant 2 1",
     ),
     Row("query", &[("index", "x"), ("pairs", "p")], 2, "query x p"),
+    Row(
+        "path",
+        &[("graph", "g"), ("index", "x"), ("pairs", "p")],
+        3,
+        "path g x p",
+    ),
+    Row(
+        "audit",
+        &[("graph", "g"), ("order", "o"), ("index", "x")],
+        3,
+        "audit g o x",
+    ),
     Row("degree", &[("graph", "g")], 1, "degree g"),
 ];
 

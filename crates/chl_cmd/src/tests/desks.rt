@@ -64,6 +64,16 @@ fn words_and_names_are_judged(rt: HostRuntime) -> Result<(), Fail> {
             "chl: usage",
         ),
         ("chl solve --graph g --order o --out x", "chl: usage"),
+        ("chl path --graph g --index x", "chl: usage"),
+        (
+            "chl path --graph missing --index x --pairs p",
+            "chl: read failed",
+        ),
+        ("chl audit --graph g --order o", "chl: usage"),
+        (
+            "chl audit --graph g --order o --index missing",
+            "chl: read failed",
+        ),
         ("chl degree", "chl: usage"),
         ("chl degree --graph missing", "chl: read failed"),
         ("chl query --index x --pairs p --workers 1", "chl: usage"),

@@ -16,6 +16,14 @@ pub returns-in-Query : goal.returns-in-Query
 returns-in-Query g c =
     rw c.in-Query.is (rw (c.text-in-Query.ensures, c.text-in-Query-2.ensures) at c.query_output.ensures)
 
+pub returns-in-Path : goal.returns-in-Path
+returns-in-Path g c =
+    rw c.in-Path.is (rw (c.text-in-Path.ensures, c.text-in-Path-2.ensures, c.text-in-Path-3.ensures) at c.path_output.ensures)
+
+pub returns-in-Audit : goal.returns-in-Audit
+returns-in-Audit g c =
+    rw c.in-Audit.is (rw (c.text-in-Audit.ensures, c.text-in-Audit-2.ensures, c.text-in-Audit-3.ensures) at c.audit_output.ensures)
+
 pub returns-in-Degree : goal.returns-in-Degree
 returns-in-Degree g c =
     rw c.in-Degree.is (rw c.text-in-Degree.ensures at c.degree_output.ensures)

@@ -28,4 +28,6 @@ returns c =
     let two = with_command _ _ _ _ _ one c.in_ok-build.ensures c.in_ok-subcommand-2.ensures in
     let three = with_command _ _ _ _ _ two c.in_ok-solve.ensures c.in_ok-subcommand-3.ensures in
     let four = with_command _ _ _ _ _ three c.in_ok-query.ensures c.in_ok-subcommand-4.ensures in
-    IfOk-weaker c.subcommand-5.result _ (IsProgram literal.program) (λ r adds. with_command _ _ _ _ _ four c.in_ok-degree.ensures adds) c.subcommand-5.ensures
+    let five = with_command _ _ _ _ _ four c.in_ok-path.ensures c.in_ok-subcommand-5.ensures in
+    let six = with_command _ _ _ _ _ five c.in_ok-audit.ensures c.in_ok-subcommand-6.ensures in
+    IfOk-weaker c.subcommand-7.result _ (IsProgram literal.program) (λ r adds. with_command _ _ _ _ _ six c.in_ok-degree.ensures adds) c.subcommand-7.ensures

@@ -1,0 +1,19 @@
+use Rattle.std.proofs.Common.{◌≡◌, sym, inr, Some, arith}
+use Rattle.chl_cmd.proofs.WalkAnswers.{HasWalked-step, HasWalked-end, HasWalked-stop}
+use Rattle.chl_cmd.proofs.commands.path.walks_of.Goals as goal
+
+pub returns-in-Some-clause-err : goal.returns-in-Some-clause-err
+returns-in-Some-clause-err c =
+    inr (HasWalked-stop c.args.graph.now c.args.index.now c.args.pairs.now c.requires.graph c.requires.index c.requires.within c.loop-pair.pair-index c.loop-pair.walks.items (0, 0) c.in_ok-walk.walk c.in-Some.stop c.loop-pair.invariant
+    (rw c.list-pair-items.ensures at c.loop-pair-test.true) (rw c.list-pair-items.ensures at c.in_ok-walk.ensures.path) (sym c.in-Some.ensures))
+
+pub loop-pair-preserved : goal.loop-pair-preserved
+loop-pair-preserved c =
+    rw c.in_ok-push.ensures.items (HasWalked-step c.args.graph.now c.args.index.now c.args.pairs.now c.loop-pair.pair-index c.loop-pair.walks.items (0, 0) c.in_ok-walk.walk c.loop-pair.invariant
+    (rw c.list-pair-items.ensures at c.loop-pair-test.true) (rw c.list-pair-items.ensures at c.in_ok-walk.ensures.path) (sym c.in_default.ensures))
+
+pub returns-clause-ok : goal.returns-clause-ok
+returns-clause-ok c = (
+  HasWalked-end c.args.graph.now c.args.index.now c.args.pairs.now c.loop-pair.pair-index c.loop-pair.walks.items c.loop-pair.invariant (omega (arith, rw c.list-pair-items.ensures at c.loop-pair-test.false)),
+  c.loop-pair.invariant.none,
+)

@@ -1,0 +1,43 @@
+ghost use Rattle.std.specs.Prelude.{◌≡◌, ◌⊎◌, length, Err};
+ghost use Rattle.index_audit.specs.declared.answer.Audit.{Audit as AnyAudit};
+ghost use Rattle.index_audit.specs.Audited.{IsAuditOf};
+ghost use Rattle.chl_inputs.specs.Stages.{Goes};
+ghost use Rattle.chl_inputs.specs.declared.stop.Stop.TheVariants.{NoMemory};
+ghost use Rattle.chl_cmd.specs.Commands.{audit_stage, audit_text, bytes_of};
+
+use chl_inputs::{Stop, read_graph, read_index, read_order};
+use desk_io::Desk;
+use hub_index::Index;
+use index_audit::{Audit, audit};
+use rank_table::Ranking;
+use std::alloc::Global;
+use walk_laws::Graph;
+
+/// The line `same`, where the index of a file is that of the canonical hub labelling of a graph under an order; else the
+/// first thing that is wrong with it.
+pub fn audit_output<D: Desk>(
+    alloc: Global,
+    graph: &str,
+    order: &str,
+    index: &str,
+    desk: &mut D,
+) -> Result<Vec<u8>, Stop>
+    ensures { Goes D.Desk (audit_stage graph.now order.now index.now) (bytes_of result) desk.old desk.new }
+{
+    let graph = read_graph(alloc, graph, desk)?;
+    let ranking = read_order(alloc, order, graph.n(), desk)?;
+    let index = read_index(alloc, index, desk)?;
+    told(alloc, &graph, &ranking, &index)
+}
+
+/// The line `same`, or what is wrong with the index.
+fn told(alloc: Global, graph: &Graph, ranking: &Ranking, index: &Index) -> Result<Vec<u8>, Stop>
+    requires { length ranking.now ≡ graph.now.n }
+    ensures { (found : AnyAudit) × IsAuditOf graph.now ranking.now index.now found
+        × ((bytes_of result ≡ audit_text found) ⊎ (bytes_of result ≡ Err NoMemory)) }
+{
+    match audit(graph, ranking, index) {
+        Audit::Same => Ok(Vec::from_slice(alloc, b"same\n")?),
+        fault => Err(Stop::Differs(fault)),
+    }
+}
