@@ -12,30 +12,29 @@ use Rattle.walk_laws.specs.Joined.{Joined}
 use Rattle.walk_laws.specs.Labelling.{EntryFits}
 use Rattle.hub_index.specs.Views.{IsNode}
 use Rattle.label_rows.specs.declared.rule.About.{About}
+use Rattle.table_seats.specs.declared.seat_view.SeatView.{SeatView}
 use Rattle.label_rows.specs.declared.rule.View.{View}
 use Rattle.label_rows.specs.Visits.{put_list}
-use Rattle.label_rows.specs.Lawful.{Table, Sitter, IsFree, IsTaken, IsRowOf, IsLawful, IsSeated, Took, Gave, Looked, MayGive, took, gave, kept_of, given_of, joined, spent}
+use Rattle.label_rows.specs.Lawful.{Table, Sitter, IsFree, IsTaken, IsRowOf, IsLawful, IsSeated, Took, Gave, SeesNothing, MayGive, took, gave, fresh, both, nothing}
+use Rattle.table_seats.specs.Seats.{kept_of, given_of, joined, spent, looked}
+use Rattle.table_seats.proofs.Seating.{is_one}
 use Rattle.label_rows.proofs.Steps.{seated_here}
 use Rattle.label_rows.proofs.Takes.{seen_still}
 use Rattle.label_rows.proofs.Takes as taking
 use Rattle.label_rows.proofs.Gives as giving
 use Rattle.label_rows.proofs.Splits as splitting
 use Rattle.label_rows.proofs.Joins as joining
-use Rattle.label_rows.proofs.EachSeat.{one_within}
 
 module _ (about : About) (slots id : ℕ) where
   module _ (me : Sitter) (live : 1 ≤ me.0.seats) where
     -- a look changes nothing
-    pub looks : Allows (IsLawful about) slots id me 0 (λ n. n) (Looked (step slots 0 0 0 none) me)
+    pub looks : Allows (IsLawful about) slots id me 0 (λ n. n) (looked SeesNothing (step slots 0 0 0 none) me)
     looks s lawful _ at _ =
         let same_words = set-get_or s.words 0 0 in
         let same_views = set_again s.views id me.0 at in
-        (me.0, keeps, tt, subst (λ (t : List ℕ × List View). IsLawful about (record { words = t.0; homes = s.homes; views = t.1 })) (λ k. (sym same_words k, sym same_views k)) lawful, (refl, few s lawful at))
-      where
-        few : (s : Table) → IsLawful about s → get_elem? s.views id ≡ some me.0 → me.0.seats ≤ 64
-        few s lawful at = let one = one_within (λ (seat : View). seat.seats) s.views id me.0 at in omega (arith, lawful.counted, lawful.few)
+        (me.0, keeps, tt, subst (λ (t : List ℕ × List (SeatView View)). IsLawful about (record { words = t.0; homes = s.homes; views = t.1 })) (λ k. (sym same_words k, sym same_views k)) lawful, (refl, is_one about.seats (IsSeated about) nothing s.views id me.0 lawful.seating at, tt))
 
-    module _ (v : ℕ) (empty : me.0.hold ≡ None) (node : IsNode (length me.0.order) v) where
+    module _ (v : ℕ) (empty : me.0.knows.hold ≡ None) (node : IsNode (length me.0.knows.order) v) where
       -- a turn is taken where it is free
       pub takes_one : Allows (IsLawful about) slots id me v (λ _. 1) (Took (step slots v 1 0 none) me)
       takes_one s lawful _ at _ =
@@ -44,8 +43,8 @@ module _ (about : About) (slots id : ℕ) where
           let row = lawful.rows v here in
           ⊎_elim (λ (free : IsFree s v row.0). free_one s lawful at here row.0 row.1 free seated) (λ (taken : IsTaken s v row.0). taken_one s lawful at row.0 taken) row.1.place
         where
-          free_one : (s : Table) → IsLawful about s → (at : get_elem? s.views id ≡ some me.0) → IsNode (length about.ranking.value) v → (row : List Entry) → IsRowOf about s v row → IsFree s v row → IsSeated about me.0
-              → (w : View) × (a : Act (List Entry)) × Valid s.homes me.1 a × IsLawful about (stepped s v 1 id me.1 w a) × Took (step slots v 1 0 none) me (slice_index s.words v) (w, carried_after me.1 a)
+          free_one : (s : Table) → IsLawful about s → (at : get_elem? s.views id ≡ some me.0) → IsNode (length about.ranking.value) v → (row : List Entry) → IsRowOf about s v row → IsFree s v row → IsSeated about me.0.knows
+              → (w : SeatView View) × (a : Act (List Entry)) × Valid s.homes me.1 a × IsLawful about (stepped s v 1 id me.1 w a) × Took (step slots v 1 0 none) me (slice_index s.words v) (w, carried_after me.1 a)
           free_one s lawful at here row old free seated = (
             took me.0 v row,
             takes (v - 1) row,
@@ -64,14 +63,14 @@ module _ (about : About) (slots id : ℕ) where
           )
 
           taken_one : (s : Table) → IsLawful about s → (at : get_elem? s.views id ≡ some me.0) → (row : List Entry) → IsTaken s v row
-              → (w : View) × (a : Act (List Entry)) × Valid s.homes me.1 a × IsLawful about (stepped s v 1 id me.1 w a) × Took (step slots v 1 0 none) me (slice_index s.words v) (w, carried_after me.1 a)
+              → (w : SeatView View) × (a : Act (List Entry)) × Valid s.homes me.1 a × IsLawful about (stepped s v 1 id me.1 w a) × Took (step slots v 1 0 none) me (slice_index s.words v) (w, carried_after me.1 a)
           taken_one s lawful at row taken =
               let same_words : set s.words v 1 ≡ s.words = ap (set s.words v) (sym taken.word) ∙ set-get_or s.words v 0 in
               let same_views = set_again s.views id me.0 at in
-              (me.0, keeps, tt, subst (λ (t : List ℕ × List View). IsLawful about (record { words = t.0; homes = s.homes; views = t.1 })) (λ k. (sym same_words k, sym same_views k)) lawful, (λ zero. absurd (omega (arith, zero, taken.word)), λ _. refl))
+              (me.0, keeps, tt, subst (λ (t : List ℕ × List (SeatView View)). IsLawful about (record { words = t.0; homes = s.homes; views = t.1 })) (λ k. (sym same_words k, sym same_views k)) lawful, (λ zero. absurd (omega (arith, zero, taken.word)), λ _. refl))
 
   -- a turn is given back
-  pub gives_one : (view : View) (v : ℕ) (row : List Entry) → 1 ≤ view.seats → IsNode (length view.order) v → MayGive view v row
+  pub gives_one : (view : SeatView View) (v : ℕ) (row : List Entry) → 1 ≤ view.seats → IsNode (length view.knows.order) v → MayGive view v row
       → Allows (IsLawful about) slots id (view, (v - 1, row) ∷ []) v (λ _. 0) (λ _. Gave (step slots v 0 0 none) (view, (v - 1, row) ∷ []) 0)
   gives_one view v row live node may s lawful _ at _ =
       let seated = seated_here about s id view at lawful live in
@@ -80,11 +79,11 @@ module _ (about : About) (slots id : ℕ) where
       let next = giving.gives about s id view at lawful live v here may.found may.put may.holds fits in
       (gave view row, gives, tt, subst (λ r. IsLawful about (record { words = set s.words v 0; homes = set s.homes (v - 1) (some r); views = set s.views id (gave view r) })) (sym may.grown) next, (refl, refl))
 
-module _ (about : About) (id : ℕ) (v : View) where
-  pub splits_off : (give : ℕ) → give + 1 < v.seats → Splits (IsLawful about) id v (kept_of give v) (given_of give v)
+module _ (about : About) (id : ℕ) (v : SeatView View) where
+  pub splits_off : (give : ℕ) → give + 1 < v.seats → Splits (IsLawful about) id v (kept_of give v) (given_of fresh give v)
   splits_off give enough s lawful at = splitting.splits about s id v at lawful give enough
 
-  pub joins_in : (other : ℕ) (u : View) → 1 ≤ v.seats → v.hold ≡ None → u.hold ≡ None → Joins (IsLawful about) id v other u (joined v u) spent
+  pub joins_in : (other : ℕ) (u : SeatView View) → 1 ≤ v.seats → v.knows.hold ≡ None → u.knows.hold ≡ None → Joins (IsLawful about) id v other u (joined both v u) (spent nothing)
   joins_in other u live empty empty_too s lawful at apart there =
-      let before : get_elem? s.views other ≡ some u = ⊎_elim (λ (t : (other ≡ id) × (joined v u ≡ u)). absurd (apart t.0)) (λ (t : (other ≢ id) × (get_elem? s.views other ≡ some u)). t.1) (at_set s.views id other (joined v u) u there) in
+      let before : get_elem? s.views other ≡ some u = ⊎_elim (λ (t : (other ≡ id) × (joined both v u ≡ u)). absurd (apart t.0)) (λ (t : (other ≢ id) × (get_elem? s.views other ≡ some u)). t.1) (at_set s.views id other (joined both v u) u there) in
       joining.joins about s id v at other u apart before empty empty_too lawful live

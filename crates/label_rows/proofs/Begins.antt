@@ -1,10 +1,10 @@
 -- New rows keep the rule.
-use Rattle.std.proofs.Common.{◌≡◌, ℕ, zero, suc, ◌+◌, ◌-◌, ◌<◌, ◌≤◌, inl, List, [], ◌∷◌, length, replicate, refl, sym, ap, ◌∙◌, subst, arith}
+use Rattle.std.proofs.Common.{◌≡◌, ℕ, ◌+◌, ◌-◌, ◌<◌, ◌≤◌, inl, List, [], length, replicate, refl, sym, ap, ◌∙◌, arith}
 use Rattle.std.specs.Prelude.{map, slice_index}
 use Rattle.std.proofs.lemmas.List.{get_or-replicate, length-replicate, length-map}
 use Rattle.std.proofs.lemmas.List.Elements.{All-nil}
 use Rattle.std.proofs.lemmas.List.Sorted.{IsPermutation-refl}
-use mathlib.Core.Option.{some, some-injective, some-ne-none}
+use mathlib.Core.Option.{some}
 use lib.ListN.{get_elem?}
 use Rattle.atomic_table.specs.Table.{opening}
 use Rattle.atomic_table.proofs.Lists.{at_index, at_map}
@@ -13,14 +13,11 @@ use Rattle.walk_laws.specs.Joined.{Joined}
 use Rattle.walk_laws.specs.Labelling.{EntryFits}
 use Rattle.hub_index.specs.Views.{GoesOnFrom}
 use Rattle.label_rows.specs.declared.rule.About.{About}
-use Rattle.label_rows.specs.declared.rule.View.{View}
 use Rattle.label_rows.specs.Visits.{left_by}
-use Rattle.label_rows.specs.Lawful.{Table, Each, Holds, IsRowOf, IsSeated, IsSpent, IsLawful, first_view}
+use Rattle.label_rows.specs.Lawful.{Table, Holds, IsRowOf, IsSeated, IsLawful, first_view, first_known, nothing}
+use Rattle.table_seats.proofs.Seating as seating
+use Rattle.table_seats.proofs.EachSeat.{Each-one}
 use Rattle.label_rows.proofs.Turn.{no_turn}
-
-Each-one : (P : View → Type 0) (seat : View) → P seat → Each P (seat ∷ [])
-Each-one P seat here zero x at = subst P (some-injective seat x at) here
-Each-one P seat here (suc j) x at = absurd (some-ne-none x (sym at))
 
 no_entries : List Entry
 no_entries = []
@@ -53,10 +50,7 @@ module _ (about : About) (n : ℕ) (size : length about.ranking.value ≡ n) (so
   pub begins : IsLawful about (opening (replicate (n + 1) 0) (replicate n []) (first_view about))
   unfolding no_entries
   begins = record {
-    counted = let none : 0 + about.seats ≡ about.seats = omega arith in none;
-    few = few;
-    seated = Each-one (λ seat. 1 ≤ seat.seats → IsSeated about seat) (first_view about) (λ _. record { edges = refl; order = refl; all = refl });
-    spent = Each-one (λ seat. seat.seats ≡ 0 → IsSpent seat) (first_view about) (λ none. absurd (omega (arith, none, some_seat)));
+    seating = seating.begins about.seats (IsSeated about) nothing (first_known about) some_seat few (record { edges = refl; order = refl; all = refl });
     words = length-replicate (n + 1) 0 ∙ ap (λ k. k + 1) (sym size);
     zero = word_of 0 (omega arith);
     slots = length-map (replicate n no_entries) some ∙ length-replicate n no_entries ∙ sym size;

@@ -11,6 +11,7 @@ use Rattle.hub_index.specs.declared.row_view.Offer.{Offer}
 use Rattle.hub_index.specs.declared.row_view.Offer.TheVariants.{Put, Covered, NoMemory}
 use Rattle.hub_index.specs.Views.{IsFound, GoesOnFrom}
 use Rattle.label_rows.specs.declared.rule.Visit.{Visit}
+use Rattle.table_seats.specs.declared.seat_view.SeatView.{SeatView}
 use Rattle.label_rows.specs.declared.rule.View.{View}
 use Rattle.label_rows.specs.Seats.{Seated, rows_id, with_visit}
 use Rattle.label_rows.specs.Visits.{put_list, put_by, visit_of, seen_of}
@@ -18,15 +19,15 @@ use Rattle.label_rows.specs.Lawful.{Holds, gave}
 use Rattle.label_rows.proofs.Gives.{gave-is}
 
 -- a seat as contracts see it
-abbrev pub seated : TableId → ℕ → View → Seated
-seated id left view = record { rows = rows_id id view; left = left; visits = view.visits }
+abbrev pub seated : TableId → ℕ → SeatView View → Seated
+seated id left view = record { rows = rows_id id view.knows; left = left; visits = view.knows.visits }
 
 -- the seat that has a turn gives it back
-pub one_visit : (id id' : TableId) (left : ℕ) (taken given : View) (v : ℕ) (found row : List Entry) (put : Option Entry) (before : Seated)
+pub one_visit : (id id' : TableId) (left : ℕ) (taken given : SeatView View) (v : ℕ) (found row : List Entry) (put : Option Entry) (before : Seated)
     → seated id left taken ≡ before → Holds taken v found → id' ≡ id → given ≡ gave taken row → row ≡ found ++ put_list put → seated id' left given ≡ with_visit before (visit_of v found put)
 one_visit id id' left taken given v found row put before is holds same after grown =
     let now = after ∙ ap (gave taken) grown ∙ gave-is taken v found put holds in
-    ap (λ (t : TableId × View). seated t.0 left t.1) (λ k. (same k, now k)) ∙ ap (λ seat. with_visit seat (visit_of v found put)) is
+    ap (λ (t : TableId × SeatView View). seated t.0 left t.1) (λ k. (same k, now k)) ∙ ap (λ seat. with_visit seat (visit_of v found put)) is
 
 -- the row that a take found is a row of its node
 pub row_found : (edges : List Edge) (order : List ℕ) (visits : List Visit) (v : ℕ) (found : List Entry) (before : Seated) → edges ≡ before.rows.edges → order ≡ before.rows.order → visits ≡ before.visits

@@ -1,7 +1,6 @@
 mod Allowed
 mod Begins
 mod Closes
-mod EachSeat
 mod FreeRows
 mod Gives
 mod HandVisits

@@ -9,8 +9,8 @@ use native.Mathlib.Decide.{dec_lt}
 use mathlib.Core.Logic.{dite}
 use Rattle.walk_laws.specs.declared.entry.Entry.{Entry}
 use Rattle.hub_index.specs.Views.{GoesOnFrom}
-use Rattle.root_claims.specs.Seats.{numbers}
-use Rattle.root_claims.proofs.Counting.{times, once, times-push, times-permutation, numbers-push}
+use Rattle.table_seats.specs.Numbers.{numbers}
+use Rattle.table_seats.proofs.Counting.{times, once, times-push, times-permutation, numbers-push}
 use Rattle.label_rows.specs.declared.rule.Visit.{Visit}
 use Rattle.label_rows.specs.Visits.{put_list, left_by, longest, place_of}
 use Rattle.label_rows.proofs.SeenRows.{longest-still, longest-places}

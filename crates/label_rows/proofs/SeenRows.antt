@@ -8,7 +8,7 @@ use Rattle.std.proofs.lemmas.Bool.{le-ltb, lt-ltb}
 use Rattle.std.proofs.lemmas.List.{length-append, append_assoc, append-nil, map-append}
 use Rattle.std.proofs.lemmas.List.Elements.{All-head, All-tail, filter-append}
 use native.Mathlib.Decide.{ℕ_discrete}
-use Rattle.root_claims.proofs.Counting.{times, once, times-append, times-cons}
+use Rattle.table_seats.proofs.Counting.{times, once, times-append, times-cons}
 use Rattle.walk_laws.specs.declared.entry.Entry.{Entry}
 use Rattle.hub_index.specs.Views.{GoesOnFrom, with_put}
 use Rattle.hub_index.specs.declared.row_view.Offer.{Offer}

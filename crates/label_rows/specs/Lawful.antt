@@ -1,5 +1,5 @@
 -- The rule of the rows, which holds between any two steps, and what each step changes. Word 0 is of no node; the node v has its turn word at v, and its row in the slot v - 1.
-use Rattle.std.specs.Prelude.{◌≡◌, ◌⊎◌, ℕ, ◌+◌, ◌-◌, ◌≤◌, Option, Some, None, List, [], ◌∷◌, ◌++◌, All, IsPermutation, flat_map, sum_by, length, slice_get, slice_index}
+use Rattle.std.specs.Prelude.{◌≡◌, ◌⊎◌, ℕ, ◌+◌, ◌-◌, Option, Some, None, List, [], ◌∷◌, ◌++◌, All, IsPermutation, flat_map, length, slice_get, slice_index}
 use mathlib.Core.Option.{some}
 use lib.ListN.{get_elem?}
 use Rattle.atomic_table.specs.Table.{State, Me, Step, rest}
@@ -7,7 +7,9 @@ use Rattle.walk_laws.specs.declared.entry.Entry.{Entry}
 use Rattle.walk_laws.specs.Joined.{Joined}
 use Rattle.walk_laws.specs.Labelling.{EntryFits}
 use Rattle.hub_index.specs.Views.{IsNode, GoesOnFrom}
-use Rattle.root_claims.specs.Seats.{numbers}
+use Rattle.table_seats.specs.declared.seat_view.SeatView.{SeatView}
+use Rattle.table_seats.specs.Numbers.{numbers}
+use Rattle.table_seats.specs.Seats.{Each, IsSeating, first_of, knowing}
 use Rattle.label_rows.specs.declared.rule.About.{About}
 use Rattle.label_rows.specs.declared.rule.Held.{Held}
 use Rattle.label_rows.specs.declared.rule.Visit.{Visit}
@@ -16,18 +18,14 @@ use Rattle.label_rows.specs.Visits.{put_list, left_by, visits_of, seen_of, place
 
 -- the words, the rows at home, and what each seat knows
 abbrev pub Table : Type 0
-Table = State (List Entry) View
+Table = State (List Entry) (SeatView View)
 
 abbrev pub Sitter : Type 0
-Sitter = Me (List Entry) View
-
--- a fact of each seat
-abbrev pub Each : (View → Type 0) → List View → Type 0
-Each P seats = (id : ℕ) (seat : View) → get_elem? seats id ≡ some seat → P seat
+Sitter = Me (List Entry) (SeatView View)
 
 -- the seat has the turn of the node v, and found this row
-abbrev pub Holds : View → ℕ → List Entry → Type 0
-Holds seat v row = seat.hold ≡ Some (record { node = v; row = row })
+abbrev pub Holds : SeatView View → ℕ → List Entry → Type 0
+Holds seat v row = seat.knows.hold ≡ Some (record { node = v; row = row })
 
 -- the node v is free: its turn word is 0, its row is at home, and no seat has the turn
 pub record IsFree (s : Table) (v : ℕ) (row : List Entry) : Type 0 where
@@ -39,17 +37,17 @@ pub record IsFree (s : Table) (v : ℕ) (row : List Entry) : Type 0 where
 pub record IsTaken (s : Table) (v : ℕ) (row : List Entry) : Type 0 where
   pub word : slice_index s.words v ≡ 1
   pub by : ℕ
-  pub holder : View
+  pub holder : SeatView View
   pub there : get_elem? s.views by ≡ some holder
   pub holds : Holds holder v row
-  pub by_one : (id : ℕ) (seat : View) (found : List Entry) → get_elem? s.views id ≡ some seat → Holds seat v found → id ≡ by
+  pub by_one : (id : ℕ) (seat : SeatView View) (found : List Entry) → get_elem? s.views id ≡ some seat → Holds seat v found → id ≡ by
 
 -- The row of the node v: at home where v is free, and else the row that was found by the seat which has the turn. Its entries may stand there, what each visit left still stands in it, and at each of its places exactly one visit, of all seats, put an entry
 pub record IsRowOf (about : About) (s : Table) (v : ℕ) (row : List Entry) : Type 0 where
   pub place : IsFree s v row ⊎ IsTaken s v row
   pub fit : All (EntryFits (Joined about.graph.value.edges) about.ranking.value v) row
-  pub visited : Each (λ seat. All (λ x. GoesOnFrom (left_by x) row) (visits_of seat.visits v)) s.views
-  pub each_once : IsPermutation (flat_map (λ seat. places_of seat.visits v) s.views) (numbers 0 (length row))
+  pub visited : Each (λ seat. All (λ x. GoesOnFrom (left_by x) row) (visits_of seat.knows.visits v)) s.views
+  pub each_once : IsPermutation (flat_map (λ seat. places_of seat.knows.visits v) s.views) (numbers 0 (length row))
 
 -- a seat of rows of this graph and this ranking
 pub record IsSeated (about : About) (seat : View) : Type 0 where
@@ -57,19 +55,22 @@ pub record IsSeated (about : About) (seat : View) : Type 0 where
   pub order : seat.order ≡ about.ranking.value
   pub all : seat.all ≡ about.seats
 
--- what is left of a seat that was joined into another: it counts nowhere
-pub record IsSpent (seat : View) : Type 0 where
-  pub holds : seat.hold ≡ None
-  pub visits : seat.visits ≡ []
+-- what a seat knows that has no turn and made no visit
+abbrev pub fresh : View → View
+fresh seat = record { edges = seat.edges; order = seat.order; all = seat.all; hold = None; visits = [] }
+
+-- what a seat knows into which another was joined
+abbrev pub both : View → View → View
+both seat other = record seat { visits = seat.visits ++ other.visits }
+
+-- what a seat knows that was joined into another
+abbrev pub nothing : View
+nothing = record { edges = []; order = []; all = 0; hold = None; visits = [] }
 
 -- What holds of the words, the rows and the seats
 pub record IsLawful (about : About) (s : Table) : Type 0 where
-  -- the seats, with those that may still be split from them, are as many as the rows have
-  pub counted : sum_by (λ seat. seat.seats) s.views ≡ about.seats
-  pub few : about.seats ≤ 64
-  -- all seats are of one graph and one ranking
-  pub seated : Each (λ seat. 1 ≤ seat.seats → IsSeated about seat) s.views
-  pub spent : Each (λ seat. seat.seats ≡ 0 → IsSpent seat) s.views
+  -- the seats, with those that may still be split from them, are as many as the rows have, and all are of one graph and one ranking
+  pub seating : IsSeating about.seats (IsSeated about) nothing s.views
   -- a word for each node, behind one that is always 0, and a slot for each node
   pub words : length s.words ≡ length about.ranking.value + 1
   pub zero : slice_index s.words 0 ≡ 0
@@ -77,21 +78,25 @@ pub record IsLawful (about : About) (s : Table) : Type 0 where
   -- each node has a row
   pub rows : (v : ℕ) → IsNode (length about.ranking.value) v → (row : List Entry) × IsRowOf about s v row
 
+-- what the first seat knows
+abbrev pub first_known : About → View
+first_known about = record { edges = about.graph.value.edges; order = about.ranking.value; all = about.seats; hold = None; visits = [] }
+
 -- the first seat
-abbrev pub first_view : About → View
-first_view about = record { edges = about.graph.value.edges; order = about.ranking.value; all = about.seats; seats = about.seats; hold = None; visits = [] }
+abbrev pub first_view : About → SeatView View
+first_view about = first_of about.seats (first_known about)
 
 -- the seat that took the turn of the node v and found the row
-abbrev pub took : View → ℕ → List Entry → View
-took seat v row = record seat { hold = Some (record { node = v; row = row }) }
+abbrev pub took : SeatView View → ℕ → List Entry → SeatView View
+took seat v row = knowing seat (record seat.knows { hold = Some (record { node = v; row = row }) })
 
 -- What a take tells. Where the turn was free, the seat has it, with the node's row, which goes on from what the seat saw of it. Else nothing has changed
 pub record IsTake (me : Sitter) (v : ℕ) (after : Sitter) : Type 0 where
   pub row : List Entry
   pub view : after.0 ≡ took me.0 v row
   pub slot : after.1 ≡ (v - 1, row) ∷ me.1
-  pub fit : All (EntryFits (Joined me.0.edges) me.0.order v) row
-  pub goes_on : GoesOnFrom (seen_of me.0.visits v) row
+  pub fit : All (EntryFits (Joined me.0.knows.edges) me.0.knows.order v) row
+  pub goes_on : GoesOnFrom (seen_of me.0.knows.visits v) row
 
 abbrev pub Took : Step (List Entry) → Sitter → ℕ → Sitter → Type 0
 Took step me found after = (found ≡ 0 → IsTake me step.word after) × (¬ (found ≡ 0) → after ≡ me)
@@ -102,8 +107,8 @@ visits_by None row = []
 visits_by (Some held) row = record { node = held.node; found = held.row; put = slice_get row (length held.row) } ∷ []
 
 -- the seat that gave its turn back
-abbrev pub gave : View → List Entry → View
-gave seat row = record seat { hold = None; visits = seat.visits ++ visits_by seat.hold row }
+abbrev pub gave : SeatView View → List Entry → SeatView View
+gave seat row = knowing seat (record seat.knows { hold = None; visits = seat.knows.visits ++ visits_by seat.knows.hold row })
 
 -- the row in the slot that the seat has
 abbrev pub slot_row : List (ℕ × List Entry) → List Entry
@@ -115,29 +120,13 @@ abbrev pub Gave : Step (List Entry) → Sitter → ℕ → Sitter → Type 0
 Gave step me found after = (after.0 ≡ gave me.0 (slot_row me.1)) × (after.1 ≡ rest me.1)
 
 -- a seat which has the turn of v may give back the row that it found, or that with one entry behind it which may stand there
-pub record MayGive (seat : View) (v : ℕ) (row : List Entry) : Type 0 where
+pub record MayGive (seat : SeatView View) (v : ℕ) (row : List Entry) : Type 0 where
   pub found : List Entry
   pub put : Option Entry
   pub holds : Holds seat v found
   pub grown : row ≡ found ++ put_list put
-  pub fits : All (EntryFits (Joined seat.edges) seat.order v) (put_list put)
+  pub fits : All (EntryFits (Joined seat.knows.edges) seat.knows.order v) (put_list put)
 
--- a look changes nothing, and shows that the seat is one of at most 64
-abbrev pub Looked : Step (List Entry) → Sitter → ℕ → Sitter → Type 0
-Looked step me number after = (after ≡ me) × (me.0.seats ≤ 64)
-
--- a seat from which another was split, and to which it gave so many of those that may still be split
-abbrev pub kept_of : ℕ → View → View
-kept_of give seat = record seat { seats = seat.seats - (give + 1) }
-
--- the seat that was split from it
-abbrev pub given_of : ℕ → View → View
-given_of give seat = record { edges = seat.edges; order = seat.order; all = seat.all; seats = give + 1; hold = None; visits = [] }
-
--- a seat into which another was joined
-abbrev pub joined : View → View → View
-joined seat other = record seat { seats = seat.seats + other.seats; visits = seat.visits ++ other.visits }
-
--- a seat that was joined into another
-abbrev pub spent : View
-spent = record { edges = []; order = []; all = 0; seats = 0; hold = None; visits = [] }
+-- a look shows nothing of what a seat knows
+abbrev pub SeesNothing : View → Type 0
+SeesNothing seat = Unit {0}

@@ -3,19 +3,19 @@ ghost use Rattle.std.specs.Slots.{IsFull, slots_items, slots_len};
 ghost use Rattle.walk_laws.specs.Joined.{Joined};
 ghost use Rattle.walk_laws.specs.Labelling.{EntryFits, label_row};
 ghost use Rattle.hub_index.specs.Views.{IsNode, GoesOnFrom};
-ghost use Rattle.label_rows.specs.Lawful.{kept_of, given_of};
 ghost use Rattle.label_rows.specs.Seats.{IsSeatOf};
 ghost use Rattle.label_rows.specs.Visits.{left_by, puts_of, seen_of, visits_of};
 
 use crate::row::Row;
-use crate::rule::{About, Giving, Law, Looks, Merges, Parts, View};
+use crate::rule::{About, Handing, Law, View};
 use crate::seat::RowSeat;
-use atomic_table::{Closed, Seat, Table};
+use atomic_table::{Closed, Table};
 use hub_index::RowList;
 use rank_table::Ranking;
 use std::alloc::{AllocError, Global};
-use std::marker::{Brand, Model};
+use std::marker::Model;
 use std::snapshot::Snapshot;
+use table_seats::{SeatView, join_in, split_off};
 use walk_laws::{Entry, Graph};
 
 /// A row of entries for each node of a graph under a ranking, which many workers write. Each row has a turn: a seat that
@@ -32,19 +32,19 @@ use walk_laws::{Entry, Graph};
 /// ```
 #[derive(Drop)]
 pub struct Rows {
-    pub(crate) table: Table<Row, View, About, Law, Global>,
+    pub(crate) table: Table<Row, SeatView<View>, About, Law, Global>,
     pub(crate) alloc: Global,
     n: u32,
 }
 
 impl Model for Rows {
     ghost use Rattle.std.specs.Prelude.{◌≡◌, ◌+◌, length};
-    ghost use Rattle.label_rows.specs.Lawful.{first_view};
+    ghost use Rattle.label_rows.specs.Lawful.{first_known};
     ghost use Rattle.label_rows.specs.Seats.{RowsId, rows_id};
 
     ghost Value = { RowsId };
 
-    ghost view = { λ r. rows_id r.table.shared.table_id (first_view r.table.shared.key) };
+    ghost view = { λ r. rows_id r.table.shared.table_id (first_known r.table.shared.key) };
 
     ghost invariant = { λ r.
         (r.table.shared.table_id.words ≡ r.n + 1)
@@ -97,21 +97,12 @@ impl Rows {
         ensures new_left { result.left ≡ give }
         ensures new_visits { result.visits ≡ [] }
     {
-        let given = self.part::<Brand>(&mut seat.seat, give);
+        let given = split_off::<Handing, _, _, _, _>(&self.table.shared, &mut seat.seat, give);
         seat.left -= give + 1;
         RowSeat {
             seat: given,
             left: give,
         }
-    }
-
-    // `G` tells the rule how many seats are given away.
-    fn part<G: Giving>(&self, seat: &mut Seat<Row, View>, give: u32) -> Seat<Row, View>
-        requires { (give ≡ G.give) × (seat.old.table_id ≡ self.now.table) × (give + 1 < seat.old.me.0.seats) }
-        ensures old { (seat.new.table_id ≡ seat.old.table_id) × (seat.new.me ≡ (kept_of give seat.old.me.0, seat.old.me.1)) }
-        ensures new { (result.table_id ≡ seat.old.table_id) × (result.me ≡ (given_of give seat.old.me.0, [])) }
-    {
-        self.table.shared.split_seat::<Parts<G>>(seat)
     }
 
     /// Joins the other seat into this one, which gains its visits and what may be split from it. It takes no memory and
@@ -124,8 +115,7 @@ impl Rows {
         ensures visits { seat.new.visits ≡ seat.old.visits ++ other.visits }
     {
         let RowSeat { seat: spent, left } = other;
-        self.table.shared.join_seat::<Merges>(&mut seat.seat, spent);
-        self.table.shared.load::<Looks>(&mut seat.seat, 0);
+        join_in::<Handing, Handing, _, _, _, _>(&self.table.shared, &mut seat.seat, spent);
         seat.left += left + 1;
     }
 

@@ -1,10 +1,10 @@
 //! The rule of the rows: what a seat knows, and what its steps change. The definitions stand in `specs/Lawful`.
 use crate::row::Row;
-use atomic_table::{Join, Play, Split, TableRule};
+use atomic_table::{Play, TableRule};
 use rank_table::Ranking;
 use std::collections::LinkedList;
-use std::marker::{Brand, PhantomData};
 use std::snapshot::Snapshot;
+use table_seats::{SeatView, Sees, Shares};
 use walk_laws::{Edge, Entry, Graph};
 
 /// What is fixed when rows are made: the graph and the ranking, without bytes, and how many seats there are.
@@ -35,8 +35,6 @@ pub struct View {
     pub order: LinkedList<u32>,
     /// How many seats the rows have.
     pub all: u32,
-    /// This seat and those that may still be split from it. None once it was joined into another.
-    pub seats: u32,
     pub hold: Option<Held>,
     /// What it did, and what the seats did that were joined into it.
     pub visits: LinkedList<Visit>,
@@ -44,7 +42,7 @@ pub struct View {
 
 pub struct Law;
 
-impl TableRule<Row, View, About> for Law {
+impl TableRule<Row, SeatView<View>, About> for Law {
     ghost use Rattle.label_rows.specs.Lawful.{IsLawful, first_view};
 
     ghost holds = { IsLawful };
@@ -55,7 +53,7 @@ impl TableRule<Row, View, About> for Law {
 /// The turn of a node is taken, where it was free.
 pub struct Takes;
 
-impl Play<Row, View> for Takes {
+impl Play<Row, SeatView<View>> for Takes {
     ghost use Rattle.label_rows.specs.Lawful.{Took};
 
     ghost then = { Took };
@@ -64,52 +62,27 @@ impl Play<Row, View> for Takes {
 /// The turn of a node is given back, and its row is at home again.
 pub struct Gives;
 
-impl Play<Row, View> for Gives {
+impl Play<Row, SeatView<View>> for Gives {
     ghost use Rattle.label_rows.specs.Lawful.{Gave};
 
     ghost then = { Gave };
 }
 
-/// Nothing changes, and the seat is seen to be one of the seats.
-pub struct Looks;
+/// A split seat has no turn and made no visit; a join puts the visits of both seats together.
+pub struct Handing;
 
-impl Play<Row, View> for Looks {
-    ghost use Rattle.label_rows.specs.Lawful.{Looked};
+impl Shares<View> for Handing {
+    ghost use Rattle.label_rows.specs.Lawful.{fresh, both, nothing};
 
-    ghost then = { Looked };
+    ghost given = { fresh };
+
+    ghost both = { both };
+
+    ghost nothing = { nothing };
 }
 
-/// How many seats a split gives away. The call that splits picks it.
-pub trait Giving {
-    ghost use Rattle.std.specs.Prelude.{ℕ};
+impl Sees<View> for Handing {
+    ghost use Rattle.label_rows.specs.Lawful.{SeesNothing};
 
-    ghost give: { ℕ };
-}
-
-impl Giving for Brand {
-    ghost give = { 0 };
-}
-
-/// A new seat is split from a seat.
-pub struct Parts<G: Giving> {
-    giving: PhantomData<G>,
-}
-
-impl<G: Giving> Split<View> for Parts<G> {
-    ghost use Rattle.label_rows.specs.Lawful.{kept_of, given_of};
-
-    ghost left = { kept_of G.give };
-
-    ghost right = { given_of G.give };
-}
-
-/// A seat is joined into another.
-pub struct Merges;
-
-impl Join<View> for Merges {
-    ghost use Rattle.label_rows.specs.Lawful.{joined, spent};
-
-    ghost both = { joined };
-
-    ghost spent = { spent };
+    ghost sees = { SeesNothing };
 }

@@ -4,13 +4,14 @@ use crate::row::Row;
 use crate::rule::View;
 use atomic_table::Seat;
 use std::marker::Model;
+use table_seats::SeatView;
 
 /// The right of one worker to take turns at rows, and to split seats off. It goes from thread to thread and is never
 /// copied. Contracts see whose it is, how many seats may still be split from it, and its visits: at which node it found
 /// which row and put which entry, with the visits of the seats that were joined into it.
 #[derive(Drop)]
 pub struct RowSeat {
-    pub(crate) seat: Seat<Row, View>,
+    pub(crate) seat: Seat<Row, SeatView<View>>,
     pub(crate) left: u32,
 }
 
@@ -20,9 +21,9 @@ impl Model for RowSeat {
 
     ghost Value = { Seated };
 
-    ghost view = { λ s. record { rows = rows_id s.seat.table_id s.seat.me.0; left = s.left; visits = s.seat.me.0.visits } };
+    ghost view = { λ s. record { rows = rows_id s.seat.table_id s.seat.me.0.knows; left = s.left; visits = s.seat.me.0.knows.visits } };
 
-    ghost invariant = { λ s. (s.seat.me.0.seats ≡ s.left + 1) × (s.left < 64) × (s.seat.me.0.hold ≡ None) × (s.seat.me.1 ≡ []) };
+    ghost invariant = { λ s. (s.seat.me.0.seats ≡ s.left + 1) × (s.left < 64) × (s.seat.me.0.knows.hold ≡ None) × (s.seat.me.1 ≡ []) };
 }
 
 impl RowSeat {

@@ -13,9 +13,10 @@ use std::alloc::Global;
 use std::hint::spin_loop;
 use std::sync::Wait;
 use std::thread::yield_now;
+use table_seats::SeatView;
 
 /// The words and slots of rows.
-pub type Turns = Shared<Row, View, About, Law>;
+pub type Turns = Shared<Row, SeatView<View>, About, Law>;
 
 /// Takes the turn of the node `v`, a number from 1, and its row out of the slot, by one swap for each try. It waits while
 /// another seat has the turn.
@@ -23,18 +24,18 @@ pub fn take<R: Wait>(
     rt: &R,
     alloc: Global,
     turns: &Turns,
-    seat: &mut Seat<Row, View>,
+    seat: &mut Seat<Row, SeatView<View>>,
     v: u32,
 ) -> Row
     requires table { seat.old.table_id ≡ turns.now.table_id }
-    requires words { turns.now.table_id.words ≡ length seat.old.me.0.order + 1 }
+    requires words { turns.now.table_id.words ≡ length seat.old.me.0.knows.order + 1 }
     requires live { 1 ≤ seat.old.me.0.seats }
-    requires free { (seat.old.me.0.hold ≡ None) × (seat.old.me.1 ≡ []) }
-    requires node { IsNode (length seat.old.me.0.order) v }
+    requires free { (seat.old.me.0.knows.hold ≡ None) × (seat.old.me.1 ≡ []) }
+    requires node { IsNode (length seat.old.me.0.knows.order) v }
     ensures same { (seat.new.table_id ≡ seat.old.table_id) × (seat.new.id ≡ seat.old.id) }
     ensures took { seat.new.me ≡ (took seat.old.me.0 v result, (v - 1, []) ∷ []) }
-    ensures fit { All (EntryFits (Joined seat.old.me.0.edges) seat.old.me.0.order v) result }
-    ensures goes_on { GoesOnFrom (seen_of seat.old.me.0.visits v) result }
+    ensures fit { All (EntryFits (Joined seat.old.me.0.knows.edges) seat.old.me.0.knows.order v) result }
+    ensures goes_on { GoesOnFrom (seen_of seat.old.me.0.knows.visits v) result }
 {
     let mut tries = 0;
     for _ in rt.forever() {
@@ -62,11 +63,11 @@ fn pause(tries: u32) -> u32 {
 
 /// Puts the row of the node `v`, a number from 1, back into its slot, and gives the turn back. The row is as it was found, or
 /// has one entry more.
-pub fn give(turns: &Turns, seat: &mut Seat<Row, View>, v: u32, row: Row)
+pub fn give(turns: &Turns, seat: &mut Seat<Row, SeatView<View>>, v: u32, row: Row)
     requires table { seat.old.table_id ≡ turns.now.table_id }
-    requires words { turns.now.table_id.words ≡ length seat.old.me.0.order + 1 }
+    requires words { turns.now.table_id.words ≡ length seat.old.me.0.knows.order + 1 }
     requires live { 1 ≤ seat.old.me.0.seats }
-    requires node { IsNode (length seat.old.me.0.order) v }
+    requires node { IsNode (length seat.old.me.0.knows.order) v }
     requires slot { seat.old.me.1 ≡ (v - 1, []) ∷ [] }
     requires may { MayGive seat.old.me.0 v row }
     ensures same { (seat.new.table_id ≡ seat.old.table_id) × (seat.new.id ≡ seat.old.id) }

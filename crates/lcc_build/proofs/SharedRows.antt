@@ -15,7 +15,7 @@ use Rattle.walk_laws.specs.Labelling.{EntryFits, label_row}
 use Rattle.walk_laws.proofs.JoinedEdges.{weights_of_edges}
 use Rattle.walk_laws.proofs.Positions.{position-lt}
 use Rattle.hub_index.specs.Views.{IsNode}
-use Rattle.root_claims.specs.Seats.{numbers}
+use Rattle.table_seats.specs.Numbers.{numbers}
 use Rattle.label_rows.specs.Visits.{puts_of}
 use Rattle.label_clean.specs.Below.{HoldsBelow}
 use Rattle.label_clean.specs.RawRows.{HasEachOnce}

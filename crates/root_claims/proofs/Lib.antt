@@ -1,5 +1,2 @@
 mod Allowed
-pub mod Counting
-mod LiveSeats
-mod LiveTotals
 mod Steps

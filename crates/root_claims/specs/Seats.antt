@@ -1,6 +1,5 @@
 -- What contracts see of claims and of their seats.
-use Rattle.std.specs.Prelude.{◌≡◌, ℕ, ◌-◌, Bool, List}
-use Rattle.std.specs.List.{range_with_len}
+use Rattle.std.specs.Prelude.{◌≡◌, ℕ, Bool, List}
 use Rattle.atomic_table.specs.Seated.{TableId}
 use Rattle.root_claims.specs.declared.rule.Bounds.{Bounds}
 
@@ -25,7 +24,3 @@ pub record Claimed : Type 0 where
 -- the seat is of these claims
 abbrev pub IsSeatOf : ClaimsId → Claimed → Type 0
 IsSeatOf claims seat = seat.claims ≡ claims
-
--- the numbers from the first up to but not including the next
-abbrev pub numbers : ℕ → ℕ → List ℕ
-numbers first next = range_with_len first (next - first)

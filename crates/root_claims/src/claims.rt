@@ -1,14 +1,15 @@
 ghost use Rattle.std.specs.Prelude.{◌≡◌, ℕ, ◌+◌, ◌^◌, ◌<◌, ◌≤◌, ◌||◌, true, false, [], ◌∷◌, ◌++◌, IsPermutation, IfOk, nat_eq};
 ghost use Rattle.std.specs.List.{IsDistinct};
-ghost use Rattle.root_claims.specs.Seats.{IsSeatOf, numbers};
+ghost use Rattle.table_seats.specs.Numbers.{numbers};
+ghost use Rattle.root_claims.specs.Seats.{IsSeatOf};
 ghost use Rattle.root_claims.specs.Answers.{IfRoot, IfEnd, is_end};
-ghost use Rattle.root_claims.specs.Lawful.{kept_of, given_of};
 
 use crate::claim::Claim;
-use crate::rule::{Bounds, Draws, Gives, Giving, Law, Looks, Merges, View};
+use crate::rule::{Bounds, Draws, Handing, Law, View};
 use atomic_table::{Seat, Table};
 use std::alloc::{AllocError, Global};
-use std::marker::{Brand, Model};
+use std::marker::Model;
+use table_seats::{SeatView, join_in, split_off};
 
 /// The numbers from a first one up to but not including `n`, which the seats of workers draw, each once. Positions of roots
 /// are such numbers. Contracts see which table it is, the first number, `n`, and how many seats there are.
@@ -22,7 +23,7 @@ use std::marker::{Brand, Model};
 /// ```
 #[derive(Drop)]
 pub struct Claims {
-    table: Table<(), View, Bounds, Law, Global>,
+    table: Table<(), SeatView<View>, Bounds, Law, Global>,
     n: u32,
 }
 
@@ -43,19 +44,19 @@ impl Model for Claims {
 /// joined with one that was over.
 #[derive(Drop)]
 pub struct ClaimSeat {
-    seat: Seat<(), View>,
+    seat: Seat<(), SeatView<View>>,
     left: u32,
 }
 
 impl Model for ClaimSeat {
-    ghost use Rattle.std.specs.Prelude.{◌≡◌, ◌<◌, true, []};
+    ghost use Rattle.std.specs.Prelude.{◌≡◌, ◌<◌, ◌+◌, []};
     ghost use Rattle.root_claims.specs.Seats.{Claimed, claims_id};
 
     ghost Value = { Claimed };
 
-    ghost view = { λ s. record { claims = claims_id s.seat.table_id s.seat.me.0.of; left = s.left; got = s.seat.me.0.got; over = s.seat.me.0.over } };
+    ghost view = { λ s. record { claims = claims_id s.seat.table_id s.seat.me.0.knows.of; left = s.left; got = s.seat.me.0.knows.got; over = s.seat.me.0.knows.over } };
 
-    ghost invariant = { λ s. (s.left ≡ s.seat.me.0.left) × (s.left < 64) × (s.seat.me.0.live ≡ true) × (s.seat.me.1 ≡ []) };
+    ghost invariant = { λ s. (s.seat.me.0.seats ≡ s.left + 1) × (s.left < 64) × (s.seat.me.1 ≡ []) };
 }
 
 impl Claims {
@@ -117,21 +118,12 @@ impl Claims {
         ensures new_got { result.got ≡ [] }
         ensures new_over { result.over ≡ seat.old.over }
     {
-        let given = self.give::<Brand>(&mut seat.seat, give);
+        let given = split_off::<Handing, _, _, _, _>(&self.table.shared, &mut seat.seat, give);
         seat.left -= give + 1;
         ClaimSeat {
             seat: given,
             left: give,
         }
-    }
-
-    // `G` tells the rule how many seats are given away.
-    fn give<G: Giving>(&self, seat: &mut Seat<(), View>, give: u32) -> Seat<(), View>
-        requires { (give ≡ G.give) × (seat.old.table_id ≡ self.now.table) × (seat.old.me.0.live ≡ true) × (give < seat.old.me.0.left) }
-        ensures old { (seat.new.table_id ≡ seat.old.table_id) × (seat.new.me ≡ (kept_of give seat.old.me.0, seat.old.me.1)) }
-        ensures new { (result.table_id ≡ seat.old.table_id) × (result.me ≡ (given_of give seat.old.me.0, [])) }
-    {
-        self.table.shared.split_seat::<Gives<G>>(seat)
     }
 
     /// Joins the other seat into this one, which gains what it got and what may be split from it, and is over where one of
@@ -146,8 +138,7 @@ impl Claims {
         ensures over { seat.new.over ≡ (seat.old.over || other.over) }
     {
         let ClaimSeat { seat: spent, left } = other;
-        self.table.shared.join_seat::<Merges>(&mut seat.seat, spent);
-        self.table.shared.load::<Looks>(&mut seat.seat, 0);
+        join_in::<Handing, Handing, _, _, _, _>(&self.table.shared, &mut seat.seat, spent);
         seat.left += left + 1;
     }
 

@@ -5,8 +5,9 @@ ghost use Rattle.root_claims.specs.declared.rule.Bounds.{Bounds as BoundsOfClaim
 ghost use Rattle.root_claims.specs.Lawful.{Holds, Sitter, Table};
 ghost use Rattle.root_claims.specs.Laws.{HoldsAtFirst, DrawsKeep, SplitsKeep, JoinsKeep};
 
-use crate::rule::{Bounds, Law, Looks, View};
+use crate::rule::{Bounds, Handing, Law, View};
 use atomic_table::{Play, TableRule};
+use table_seats::{Looks, SeatView};
 
 /// The rule holds of new claims, and each step of a seat keeps it, whatever the other seats have done before.
 pub fn the_rule_is_kept()
@@ -19,6 +20,6 @@ pub fn the_rule_is_kept()
 /// The rule is the one that the table of the counter is held to, between any two steps; and a look adds no number to those
 /// that a seat has drawn.
 pub fn the_table_is_held_to_the_rule()
-    ensures rule { (about : BoundsOfClaims) (claims : Table) → ⟦<Law as TableRule<(), View, Bounds>>⟧.holds about claims ↔ Holds about claims }
-    ensures look { (step : Step (Unit {0})) (me : Sitter) (found : ℕ) (after : Sitter) → ⟦<Looks as Play<(), View>>⟧.then step me found after → after.0.got ≡ me.0.got }
+    ensures rule { (about : BoundsOfClaims) (claims : Table) → ⟦<Law as TableRule<(), SeatView<View>, Bounds>>⟧.holds about claims ↔ Holds about claims }
+    ensures look { (step : Step (Unit {0})) (me : Sitter) (found : ℕ) (after : Sitter) → ⟦<Looks<Handing> as Play<(), SeatView<View>>>⟧.then step me found after → after.0.knows.got ≡ me.0.knows.got }
 {}

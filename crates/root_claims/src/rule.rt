@@ -1,7 +1,7 @@
-//! The rule of the claims: what a seat knows, and what its steps change. The definitions stand in `specs/Lawful`.
-use atomic_table::{Join, Play, Split, TableRule};
+//! The rule of the claims: what a seat knows, and what a draw changes. The definitions stand in `specs/Lawful`.
+use atomic_table::{Play, TableRule};
 use std::collections::LinkedList;
-use std::marker::{Brand, PhantomData};
+use table_seats::{SeatView, Sees, Shares};
 
 /// What is fixed when claims are made: the numbers from `first` up to but not including `n` are drawn, by at most so many
 /// seats at one time.
@@ -15,10 +15,6 @@ pub struct Bounds {
 /// What a seat at the table knows. No value of it is made.
 pub struct View {
     pub of: Bounds,
-    /// False once the seat was joined into another.
-    pub live: bool,
-    /// How many seats may still be split from it.
-    pub left: u32,
     /// The numbers that it drew, and those of the seats that were joined into it.
     pub got: LinkedList<u32>,
     /// Whether it drew the end, or was split from a seat or joined with one that was over.
@@ -27,7 +23,7 @@ pub struct View {
 
 pub struct Law;
 
-impl TableRule<(), View, Bounds> for Law {
+impl TableRule<(), SeatView<View>, Bounds> for Law {
     ghost use Rattle.root_claims.specs.Lawful.{Holds, first_view};
 
     ghost holds = { Holds };
@@ -38,52 +34,27 @@ impl TableRule<(), View, Bounds> for Law {
 /// A number is drawn.
 pub struct Draws;
 
-impl Play<(), View> for Draws {
+impl Play<(), SeatView<View>> for Draws {
     ghost use Rattle.root_claims.specs.Lawful.{Drew};
 
     ghost then = { Drew };
 }
 
-/// Nothing changes, and the seat is seen to be one of the seats.
-pub struct Looks;
+/// A split seat has got no number; a join puts the numbers of both seats together.
+pub struct Handing;
 
-impl Play<(), View> for Looks {
-    ghost use Rattle.root_claims.specs.Lawful.{Looked};
+impl Shares<View> for Handing {
+    ghost use Rattle.root_claims.specs.Lawful.{given, both, nothing};
 
-    ghost then = { Looked };
+    ghost given = { given };
+
+    ghost both = { both };
+
+    ghost nothing = { nothing };
 }
 
-/// How many seats a split gives away. The call that splits picks it.
-pub trait Giving {
-    ghost use Rattle.std.specs.Prelude.{ℕ};
+impl Sees<View> for Handing {
+    ghost use Rattle.root_claims.specs.Lawful.{GotOnce};
 
-    ghost give: { ℕ };
-}
-
-impl Giving for Brand {
-    ghost give = { 0 };
-}
-
-/// A new seat is split from a seat.
-pub struct Gives<G: Giving> {
-    giving: PhantomData<G>,
-}
-
-impl<G: Giving> Split<View> for Gives<G> {
-    ghost use Rattle.root_claims.specs.Lawful.{kept_of, given_of};
-
-    ghost left = { kept_of G.give };
-
-    ghost right = { given_of G.give };
-}
-
-/// A seat is joined into another.
-pub struct Merges;
-
-impl Join<View> for Merges {
-    ghost use Rattle.root_claims.specs.Lawful.{joined, spent};
-
-    ghost both = { joined };
-
-    ghost spent = { spent };
+    ghost sees = { GotOnce };
 }

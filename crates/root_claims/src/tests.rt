@@ -1,5 +1,6 @@
 ghost use Rattle.std.specs.Prelude.{◌≡◌, ◌+◌, ◌≤◌, ◌^◌, false, [], ◌++◌, IsPermutation, IfOk};
-ghost use Rattle.root_claims.specs.Seats.{IsSeatOf, numbers};
+ghost use Rattle.table_seats.specs.Numbers.{numbers};
+ghost use Rattle.root_claims.specs.Seats.{IsSeatOf};
 
 use crate::{Claim, ClaimSeat, Claims};
 use std::alloc::{AllocError, Global};

@@ -10,7 +10,7 @@ use mathlib.Core.Logic.{dite}
 use native.Mathlib.Decide.{ℕ_discrete}
 use Rattle.std.specs.Slots.{slots_items, slots_filled}
 use Rattle.walk_laws.specs.declared.entry.Entry.{Entry}
-use Rattle.label_rows.proofs.EachSeat.{within, at_or}
+use Rattle.table_seats.proofs.EachSeat.{within, at_or}
 use Rattle.label_rows.proofs.rows.taken_out.Goals as goal
 
 emptied : (filled : List Bool) (i : ℕ) → get_or (set filled i false) i false ≡ false

@@ -14,8 +14,8 @@ swap-requires g c =
     let same = i.4 in
     let within : c.args.v < c.args.turns.now.table_id.words = omega (arith, c.requires.words, c.requires.node.up_to_n) in
     let live = subst (λ (me : Sitter). 1 ≤ me.0.seats) (sym same) c.requires.live in
-    let node = subst (λ (me : Sitter). IsNode (length me.0.order) c.args.v) (sym same) c.requires.node in
-    (i.2 ∙ c.requires.table, within, takes_one _ _ _ c.loop.seat.me live c.args.v (ap (λ (me : Sitter). me.0.hold) same ∙ c.requires.free.0) node)
+    let node = subst (λ (me : Sitter). IsNode (length me.0.knows.order) c.args.v) (sym same) c.requires.node in
+    (i.2 ∙ c.requires.table, within, takes_one _ _ _ c.loop.seat.me live c.args.v (ap (λ (me : Sitter). me.0.knows.hold) same ∙ c.requires.free.0) node)
 
 -- what the take told, of the seat as it was at first
 told : (g : Given.Over) (c : goal.After-drop-iterator g) → IsTake c.args.seat.now.me c.args.v c.swap.new.seat.me
@@ -26,7 +26,7 @@ row_is : (g : Given.Over) (c : goal.After-drop-iterator g) → (told g c).row �
 row_is g c = ap slot_row (sym (told g c).slot ∙ c.exchange.ensures.2)
 
 pub returns-then-swap-eq0-clause-fit : goal.returns-then-swap-eq0-clause-fit
-returns-then-swap-eq0-clause-fit g c = subst (λ row. All (EntryFits (Joined c.args.seat.now.me.0.edges) c.args.seat.now.me.0.order c.args.v) row) (row_is g c) (told g c).fit
+returns-then-swap-eq0-clause-fit g c = subst (λ row. All (EntryFits (Joined c.args.seat.now.me.0.knows.edges) c.args.seat.now.me.0.knows.order c.args.v) row) (row_is g c) (told g c).fit
 
 pub returns-then-swap-eq0-clause-goes_on : goal.returns-then-swap-eq0-clause-goes_on
-returns-then-swap-eq0-clause-goes_on g c = subst (GoesOnFrom (seen_of c.args.seat.now.me.0.visits c.args.v)) (row_is g c) (told g c).goes_on
+returns-then-swap-eq0-clause-goes_on g c = subst (GoesOnFrom (seen_of c.args.seat.now.me.0.knows.visits c.args.v)) (row_is g c) (told g c).goes_on

@@ -4,7 +4,7 @@ use Rattle.std.specs.List.Sorted.{IsPermutation}
 use Rattle.walk_laws.specs.Joined.{Joined}
 use Rattle.walk_laws.specs.Labelling.{EntryFits, label_row}
 use Rattle.hub_index.specs.Views.{IsNode}
-use Rattle.root_claims.specs.Seats.{numbers}
+use Rattle.table_seats.specs.Numbers.{numbers}
 use Rattle.label_rows.specs.Visits.{puts_of}
 use Rattle.label_clean.proofs.Cleaned.{both_ok}
 use Rattle.lcc_build.specs.Shares.{IsReady, HasWorked}

@@ -1,6 +1,3 @@
-use Rattle.std.proofs.Common.{◌∙◌}
-use Rattle.atomic_table.proofs.Lists.{set_else}
-use Rattle.root_claims.specs.Lawful.{joined}
 use Rattle.root_claims.proofs.Steps.{begins, draws, splits, joins}
 use Rattle.root_claims.proofs.laws.the_rule_is_kept.Goals as goal
 
@@ -9,5 +6,5 @@ returns c = record {
   first = begins;
   draw = λ about counter views id v lawful seat on. draws about counter views id v lawful seat.0 seat.1 on;
   split = λ about counter views id v give lawful seat enough. splits about counter views id v lawful seat.0 seat.1 give enough;
-  join = λ about counter views id other v w lawful seat too apart. joins about counter views id v lawful seat.0 seat.1 other w apart (set_else views id other (joined v w) apart ∙ too.0) too.1;
+  join = λ about counter views id other v w lawful seat too apart. joins about counter views id v lawful seat.0 seat.1 other w apart too.0;
 }

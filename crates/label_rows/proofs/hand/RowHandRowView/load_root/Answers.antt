@@ -15,5 +15,5 @@ returns-clause-visit g c =
       row,
       row_found _ _ _ c.args.h row c.args.self.now (ap (λ seat. seat.rows.edges) before) (ap (λ seat. seat.rows.order) before) (ap (λ seat. seat.visits) before) c.take-row.ensures.goes_on c.take-row.ensures.fit,
       subst (HoldsRow c.load.new.self) (c.as_slice.ensures.value ∙ c.row.view_is) c.load.ensures.held,
-      one_visit _ _ _ c.take-row.new.seat.me.0 _ c.args.h row row None c.args.self.now taken (ap (λ view. view.hold) took) (c.give.ensures.same.0 ∙ c.take-row.ensures.same.0) (ap (λ (me : Sitter). me.0) c.give.ensures.gave) (sym (append-nil row)),
+      one_visit _ _ _ c.take-row.new.seat.me.0 _ c.args.h row row None c.args.self.now taken (ap (λ view. view.knows.hold) took) (c.give.ensures.same.0 ∙ c.take-row.ensures.same.0) (ap (λ (me : Sitter). me.0) c.give.ensures.gave) (sym (append-nil row)),
     )

@@ -12,14 +12,14 @@ pub give-requires-clause-may : goal.give-requires-clause-may
 give-requires-clause-may g c =
     let before = ap (λ hand. hand.seat) c.self-inside.view_is ∙ c.self.view_is in
     let took = ap (λ (me : Sitter). me.0) c.take-row.ensures.took in
-    let edges = ap (λ view. view.edges) took ∙ ap (λ seat. seat.rows.edges) before in
-    let order = ap (λ view. view.order) took ∙ ap (λ seat. seat.rows.order) before in
+    let edges = ap (λ view. view.knows.edges) took ∙ ap (λ seat. seat.rows.edges) before in
+    let order = ap (λ view. view.knows.order) took ∙ ap (λ seat. seat.rows.order) before in
     record {
       found = c.take-row.result;
       put = put_by c.args.entry c.offer-answer.result;
-      holds = ap (λ view. view.hold) took;
+      holds = ap (λ view. view.knows.hold) took;
       grown = c.offer-answer.ensures.row ∙ sym (put-behind c.take-row.result c.args.entry c.offer-answer.result);
-      fits = put-fits c.take-row.new.seat.me.0.edges c.take-row.new.seat.me.0.order c.args.v c.args.entry c.offer-answer.result
+      fits = put-fits c.take-row.new.seat.me.0.knows.edges c.take-row.new.seat.me.0.knows.order c.args.v c.args.entry c.offer-answer.result
           (subst (λ (t : List Edge × List ℕ). EntryFits (Joined t.0) t.1 c.args.v c.args.entry) (λ k. (sym edges k, sym order k)) c.requires.fits);
     }
 
@@ -34,7 +34,7 @@ returns g c =
         row,
         row_found _ _ _ c.args.v row c.args.self.now (ap (λ seat. seat.rows.edges) before) (ap (λ seat. seat.rows.order) before) (ap (λ seat. seat.visits) before) c.take-row.ensures.goes_on c.take-row.ensures.fit,
         c.offer-answer.ensures.answer,
-        one_visit _ _ _ c.take-row.new.seat.me.0 _ c.args.v row c.offer-answer.new.self (put_by c.args.entry c.offer-answer.result) c.args.self.now taken (ap (λ view. view.hold) took) (c.give.ensures.same.0 ∙ c.take-row.ensures.same.0) (ap (λ (me : Sitter). me.0) c.give.ensures.gave)
+        one_visit _ _ _ c.take-row.new.seat.me.0 _ c.args.v row c.offer-answer.new.self (put_by c.args.entry c.offer-answer.result) c.args.self.now taken (ap (λ view. view.knows.hold) took) (c.give.ensures.same.0 ∙ c.take-row.ensures.same.0) (ap (λ (me : Sitter). me.0) c.give.ensures.gave)
             (c.offer-answer.ensures.row ∙ sym (put-behind row c.args.entry c.offer-answer.result)),
       );
     }

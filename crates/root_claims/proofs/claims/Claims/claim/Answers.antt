@@ -7,4 +7,4 @@ fetch_add-number-requires c =
     let i = c.seat.invariant in
     let table = c.self.invariant in
     let same = ap (λ d. d.claims) c.seat.view_is ∙ c.requires.seat ∙ sym c.self.view_is in
-    (ap (λ d. d.table) same, omega arith, draws_one _ _ _ _ i.2 (ap (λ d. d.over) c.seat.view_is ∙ c.requires.over))
+    (ap (λ d. d.table) same, omega arith, draws_one _ _ _ _ (omega (arith, i.0)) (ap (λ d. d.over) c.seat.view_is ∙ c.requires.over))

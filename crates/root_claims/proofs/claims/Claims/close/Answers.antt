@@ -1,5 +1,5 @@
 use Rattle.std.proofs.Common.{◌≡◌, ℕ, ◌+◌, ◌<◌, ◌≤◌, List, IsPermutation, min, sym, ◌∙◌, ap, subst, arith}
-use Rattle.root_claims.specs.Seats.{numbers}
+use Rattle.table_seats.specs.Numbers.{numbers}
 use Rattle.root_claims.proofs.Allowed.{closes}
 use Rattle.root_claims.proofs.claims.Claims.close.Goals as goal
 
@@ -13,8 +13,8 @@ returns c =
     let n = ap (λ d. d.n) c.self.view_is in
     let key : about.n ≡ c.self.inside.n = c.self.invariant.2 in
     let left = ap (λ d. d.left + 1) c.seat.view_is ∙ c.requires.last ∙ sym (ap (λ d. d.seats) c.self.view_is) in
-    let last : c.seat.inside.seat.me.0.left + 1 ≡ about.seats = ap (λ k. k + 1) (sym i.0) ∙ left in
-    let h = closes about _ _ i.2 _ _ c.word-next.result last c.close_with-closed.ensures.values.2 c.word-next.ensures in
+    let last : c.seat.inside.seat.me.0.seats ≡ about.seats = i.0 ∙ left in
+    let h = closes about _ _ _ _ c.word-next.result last c.close_with-closed.ensures.values.2 c.word-next.ensures in
     let lesser : min c.word-next.result about.n ≡ c.min.result = omega arith in
     let begun : about.first ≤ min c.word-next.result about.n = h.0 in
     record {

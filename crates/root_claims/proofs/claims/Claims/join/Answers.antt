@@ -2,19 +2,14 @@ use Rattle.std.proofs.Common.{sym, ◌∙◌, ap, arith}
 use Rattle.root_claims.proofs.Allowed.{joins_in, looks}
 use Rattle.root_claims.proofs.claims.Claims.join.Goals as goal
 
-pub join_seat-requires : goal.join_seat-requires
-join_seat-requires c =
-    let table = c.self.invariant in
-    let i = c.seat.invariant in
-    let o = c.other.invariant in
+pub join_in-requires-clause-table : goal.join_in-requires-clause-table
+join_in-requires-clause-table c =
     let same = ap (λ d. d.claims) c.seat.view_is ∙ c.requires.seat ∙ sym c.self.view_is in
     let too = ap (λ d. d.claims) c.other.view_is ∙ c.requires.other ∙ sym c.self.view_is in
-    (ap (λ d. d.table) same, ap (λ d. d.table) too, o.3, omega arith, joins_in _ _ _ i.2 _ _ o.2)
+    (ap (λ d. d.table) same, ap (λ d. d.table) too, omega (arith, c.self.invariant.0))
 
-pub load-requires : goal.load-requires
-load-requires c =
-    let table = c.self.invariant in
-    let i = c.seat.invariant in
-    let same = ap (λ d. d.claims) c.seat.view_is ∙ c.requires.seat ∙ sym c.self.view_is in
-    let e = c.join_seat.ensures in
-    (e.0 ∙ ap (λ d. d.table) same, omega arith, looks _ _ _ _ (ap (λ me. me.0.live) e.2 ∙ i.2))
+pub join_in-requires-clause-may : goal.join_in-requires-clause-may
+join_in-requires-clause-may c = joins_in _ _ _ _ _ (omega (arith, c.seat.invariant.0))
+
+pub join_in-requires-clause-look : goal.join_in-requires-clause-look
+join_in-requires-clause-look c = looks _ _ _ _

@@ -7,7 +7,7 @@ use Rattle.std.proofs.lemmas.List.Sorted.{IsPermutation-refl, IsPermutation-sym,
 use Rattle.std.proofs.lemmas.List.Concat.{flat_map-cons}
 use mathlib.Core.Logic.{dite}
 use native.Mathlib.Decide.{ℕ_discrete}
-use Rattle.root_claims.specs.Seats.{numbers}
+use Rattle.table_seats.specs.Numbers.{numbers}
 
 -- 1 where the numbers are the same, and else 0
 abbrev pub once : ℕ → ℕ → ℕ
