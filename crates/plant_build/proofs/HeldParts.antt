@@ -331,7 +331,3 @@ module _ (edges : List Edge) (at : List ℕ) where
 pub both_ok : (r : Part) (P Q R : List (List Entry) → Type 0) → ((rows : List (List Entry)) → P rows → Q rows → R rows) → IfOk r P → IfOk r Q → IfOk r R
 both_ok (Ok rows) P Q R both p q = both rows p q
 both_ok (Err e) P Q R both p q = p
-
-pub take_front : {X : Type 0} (xs ys : List X) → take (length xs) (xs ++ ys) ≡ xs
-take_front [] ys = refl
-take_front (x ∷ xs) ys = ap (λ zs. x ∷ zs) (take_front xs ys)

@@ -2,8 +2,9 @@
 //! planted on its own, with no look at any row, so trees grow on many cores side by side.
 //!
 //! [`deal`] deals batches of roots to the deques of the workers, and a [`Hand`] takes them, or steals them from the others;
-//! `batch` plants the roots of a batch; [`build_plant`] is the whole build. It stands on plant_tree (one tree), hub_index
-//! (entries, rows and the index), desk_io (the gate that watches a build), walk_laws and rank_table, and on crossbeam_deque.
+//! [`settle`] accounts for them all; `batch` plants the roots of a batch; [`build_plant`] is the whole build. It stands on
+//! plant_tree (one tree), hub_index (entries, rows and the index), desk_io (the gate that watches a build), walk_laws and
+//! rank_table, and on crossbeam_deque, whose handles are of atomic_blocks.
 //! Its callers' clauses use `IsChl` of walk_laws and `HubIndex` of hub_index.
 #![tactic(auto)]
 
