@@ -1,6 +1,6 @@
 -- Entries that hold parts of the labelling: one tree, one batch more, and all batches.
 use Rattle.std.specs.Prelude.{◌↔◌, Ok, Err, IfOk, Some, slice_get, AllPairs}
-use Rattle.std.proofs.Common.{◌≡◌, ◌≢◌, ◌⊎◌, ℕ, ◌+◌, ◌-◌, ◌*◌, ◌/◌, ◌%◌, ◌<◌, ◌≤◌, Bool, true, false, true≢false, List, [], ◌∷◌, ◌++◌, Contains, length, map, take, get_or, set, replicate, refl, sym, ap, subst, ◌∙◌, inl, inr, append_assoc, arith, zero, suc}
+use Rattle.std.proofs.Common.{◌≡◌, ◌≢◌, ◌⊎◌, ℕ, ◌+◌, ◌-◌, ◌*◌, ◌/◌, ◌%◌, ◌<◌, ◌≤◌, Bool, true, false, true≢false, List, [], ◌∷◌, ◌++◌, Contains, length, map, get_or, set, replicate, refl, sym, ap, subst, ◌∙◌, inl, inr, append_assoc, arith, zero, suc}
 use Rattle.std.proofs.Math.ListN.{length-set}
 use Rattle.std.proofs.Math.Nat.{mod-eq_of_lt, mod-lt}
 use Rattle.std.proofs.lemmas.Nat.{div-add-mod', mul-le}
