@@ -1,6 +1,6 @@
 -- What an audit comes to, as the end of its stage.
 use Rattle.std.proofs.Common.{◌≡◌, ◌⊎◌, inl, inr, ℕ, List, refl, subst, sym}
-use Rattle.std.specs.Prelude.{Result, Ok, Err, IfErr}
+use Rattle.std.specs.Prelude.{Result, Err, IfErr}
 use Rattle.desk_io.specs.declared.desk.Desk.{Ghosts}
 use Rattle.hub_index.specs.HubIndex.{HubIndex}
 use Rattle.index_audit.specs.Audited.{IsAuditOf}

@@ -1,5 +1,5 @@
 -- What the files decide: always something, and one thing.
-use Rattle.std.proofs.Common.{◌≡◌, ◌≤◌, ℕ, Bool, true, false, cond, List, [], ◌∷◌, length, take, nat_lt, refl, sym, ap, subst, ◌∙◌, arith}
+use Rattle.std.proofs.Common.{◌≡◌, ◌≤◌, ℕ, Bool, true, false, cond, List, length, take, nat_lt, ap, subst, ◌∙◌, arith}
 use Rattle.std.specs.Prelude.{◌==◌, Option, Some, None, Result, Ok, Err}
 use Rattle.std.specs.FinMap as finite_map
 use Rattle.std.proofs.lemmas.Bool.{le-ltb}
@@ -33,7 +33,7 @@ use Rattle.walk_laws.proofs.JoinedEdges.{weights_of_edges}
 use Rattle.walk_laws.proofs.LabellingExists.{IsChl-exists}
 use Rattle.walk_laws.proofs.LabelRows.{IsChl-unique}
 use Rattle.chl_inputs.specs.Inputs.{Input, value_at, value_of, judged, past_limit, graph_input, order_input, pairs_input, index_input, ArePairsWithin}
-use Rattle.chl_inputs.specs.Stages.{Stage, After, Decided}
+use Rattle.chl_inputs.specs.Stages.{Stage, After}
 use Rattle.chl_inputs.specs.Stops.{graph_stop, order_stop, pairs_stop, index_stop}
 use Rattle.chl_inputs.specs.declared.stop.Stop.{Stop}
 use Rattle.chl_inputs.specs.declared.stop.Stop.TheVariants.{NotOfGraph}
@@ -42,7 +42,7 @@ use Rattle.chl_inputs.proofs.StageLaws.{Answerable, Determined, decided_always, 
 use Rattle.chl_inputs.proofs.StagesInTurn.{same_value}
 use Rattle.chl_lines.specs.PrintedAnswers.{answer_lines}
 use Rattle.chl_lines.specs.PrintedRows.{lines_from}
-use Rattle.chl_cmd.specs.Commands.{Decides, stage_of, labelling_stage, list_stage, build_stage, solve_stage, query_stage, path_stage, audit_stage, degree_stage, answers_stage, AreAnswers, stage_if}
+use Rattle.chl_cmd.specs.Commands.{Decides, stage_of, labelling_stage, solve_stage, query_stage, path_stage, audit_stage, degree_stage, answers_stage, AreAnswers, stage_if}
 use Rattle.chl_words.specs.declared.asked.By.{By}
 use Rattle.chl_words.specs.declared.asked.Asked.{Asked}
 use Rattle.chl_words.specs.declared.asked.Asked.TheVariants.{List as ListRows, Build, Solve, Query, Path, Audit, Degree}

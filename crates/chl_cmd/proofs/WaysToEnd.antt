@@ -1,7 +1,7 @@
 -- The ways in which a command is carried out: its stage, and then its output.
 use Rattle.std.proofs.Common.{◌≡◌, ◌∙◌, ℕ, List, refl, subst}
-use Rattle.std.specs.Prelude.{Option, None, Ok, Err}
-use Rattle.desk_io.specs.Contents.{Contents, Tells, IsSteady}
+use Rattle.std.specs.Prelude.{None, Ok, Err}
+use Rattle.desk_io.specs.Contents.{Tells, IsSteady}
 use Rattle.desk_io.specs.Counts.{Rises}
 use Rattle.desk_io.specs.declared.desk.Desk.{Ghosts}
 use Rattle.chl_inputs.specs.Stages.{CountsStop, Goes}

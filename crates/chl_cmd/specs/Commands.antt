@@ -1,6 +1,6 @@
 -- The commands: what each reads and works out in turn, and where its bytes go. A new command is a stage and a case of
 -- `command_of`.
-use Rattle.std.specs.Prelude.{◌≡◌, ℕ, List, [], ◌∷◌, ◌++◌, ◌==◌, Bool, true, false, length, codes, Option, Some, None, Result, Ok, Err, Vec}
+use Rattle.std.specs.Prelude.{ℕ, List, [], ◌∷◌, ◌++◌, ◌==◌, Bool, true, false, length, codes, Option, Some, None, Result, Ok, Err, Vec}
 use Rattle.std.specs.List.{AllZip}
 use Rattle.std.specs.Option.{option_or}
 use Rattle.desk_io.specs.Contents.{Files}

@@ -1,4 +1,4 @@
-use Rattle.std.proofs.Common.{◌≡◌, sym, inr, Some, arith}
+use Rattle.std.proofs.Common.{sym, inr, arith}
 use Rattle.chl_cmd.proofs.WalkAnswers.{HasWalked-step, HasWalked-end, HasWalked-stop}
 use Rattle.chl_cmd.proofs.commands.path.walks_of.Goals as goal
 
