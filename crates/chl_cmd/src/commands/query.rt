@@ -12,12 +12,11 @@ use dimacs_text::Pairs;
 use hub_index::Index;
 use hub_query::ask_all;
 use std::alloc::{AllocError, Global};
-use std::sync::Wait;
 use std::thread::Threads;
 
 /// The lines of what the rows of an index file say of the pairs of a text: right answers where the index is that of the
 /// canonical hub labelling, and else no worse than what its rows have.
-pub fn query_output<R: Threads + Wait + Sync, D: Desk>(
+pub fn query_output<R: Threads + Sync, D: Desk>(
     rt: &R,
     alloc: Global,
     index: &str,
@@ -33,7 +32,7 @@ pub fn query_output<R: Threads + Wait + Sync, D: Desk>(
 }
 
 /// The lines of what the rows say of the pairs.
-pub fn replies_text<R: Threads + Wait + Sync>(
+pub fn replies_text<R: Threads + Sync>(
     rt: &R,
     alloc: Global,
     index: &Index,
