@@ -1,0 +1,20 @@
+-- Other numbers for the nodes 1..n. A tour is a list of all nodes, each once; the new number of a node is its place in the
+-- tour, counted from 1.
+use Rattle.std.specs.Prelude.{ℕ, ◌+◌, List, map}
+use Rattle.walk_laws.specs.declared.graph.Edge.{Edge}
+use Rattle.walk_laws.specs.Ranking.{position_of}
+
+-- the new number of a node
+abbrev pub number_in : List ℕ → ℕ → ℕ
+number_in tour v = position_of tour v + 1
+
+-- the edge between the new numbers
+abbrev pub renumbered_edge : List ℕ → Edge → Edge
+renumbered_edge tour e = record { u = number_in tour e.u; v = number_in tour e.v; w = e.w }
+
+abbrev pub renumbered_edges : List ℕ → List Edge → List Edge
+renumbered_edges tour edges = map (renumbered_edge tour) edges
+
+-- the nodes of a list by their new numbers
+abbrev pub renumbered : List ℕ → List ℕ → List ℕ
+renumbered tour at = map (number_in tour) at

@@ -1,0 +1,18 @@
+//! Other numbers for the nodes of a graph, by which neighbours stand near one another in memory, and the way back.
+//!
+//! [`tour`] is an order of the nodes by breadth-first search; a node's new number is its place there. [`renumbered_graph`] and
+//! [`renumbered_ranking`] are a graph and a ranking by the new numbers, and [`rows_back`] gives each node the row that stands
+//! under its new number. `laws` has the law that the labelling comes back so. It stands on walk_laws, rank_table and hub_index.
+//! Its callers' clauses use `number_in`, `renumbered` and `renumbered_edges` (specs/Renumbered).
+#![tactic(auto)]
+
+pub mod laws;
+mod renumbered;
+mod rows;
+mod search;
+#[cfg(test)]
+mod tests;
+
+pub use renumbered::{renumbered_graph, renumbered_ranking};
+pub use rows::rows_back;
+pub use search::tour;
