@@ -1,0 +1,10 @@
+mod Allowed
+mod Calls
+mod Cells
+mod Puts
+mod Rests
+mod Seats
+mod Steps
+mod Tails
+mod Walked
+mod Words

@@ -1,0 +1,2 @@
+-- The laws of the rule.
+use Rattle.std.specs.Prelude.{◌≡◌, ℕ}

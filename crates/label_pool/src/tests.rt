@@ -1,0 +1,35 @@
+use crate::{LinkFact, Pool, PoolPut, PoolSeat};
+use std::alloc::{AllocError, Global};
+use std::sync::Wait;
+use std::test::Fail;
+use std::thread::{Threads, join};
+use walk_laws::Entry;
+
+/// The fact that always holds.
+#[derive(Clone, Copy)]
+struct Anything;
+
+impl LinkFact for Anything {
+    ghost fact = { λ _ _ _. Unit {0} };
+}
+
+fn entry(pos: u32) -> Entry {
+    Entry {
+        pos,
+        dist: u64::from(pos) + 7,
+    }
+}
+
+#[test]
+fn one_cell_takes_one_entry(rt: HostRuntime) -> Result<(), Fail> {
+    let (pool, mut seat) = Pool::new(rt.alloc(), 2, 1, 1, Anything)?;
+    assert_eq!(rt; pool.put(&rt, &mut seat, 2, entry(3)), PoolPut::Put);
+    assert_eq!(rt; pool.put(&rt, &mut seat, 2, entry(4)), PoolPut::Full { cell: 1, cells: 1 });
+    let mut walk = pool.visit(&mut seat, 2);
+    assert_eq!(rt; walk.next(&pool, &mut seat), Some(entry(3)));
+    assert_eq!(rt; walk.next(&pool, &mut seat), None);
+    let rows = pool.close(seat)?;
+    assert_eq!(rt; rows.row(2), [entry(3)].as_slice());
+    assert!(rt; rows.row(1).is_empty());
+    Ok(())
+}
