@@ -1,6 +1,7 @@
 mod Allowed
 mod Calls
 mod Cells
+mod Closes
 mod Puts
 mod Rests
 mod Seats

@@ -1,7 +1,9 @@
 -- A chain of closed words, of which a front was walked.
-use Rattle.std.proofs.Common.{◌≡◌, ◌≢◌, ℕ, ◌+◌, ◌<◌, ◌≤◌, ◌^◌, List, [], ◌∷◌, ◌++◌, All, length, map, refl, sym, ap, ◌∙◌, subst, arith}
-use Rattle.std.specs.Prelude.{Option, Some, None, slice_index}
+use Rattle.std.proofs.Common.{◌≡◌, ◌≢◌, ℕ, zero, suc, ◌+◌, ◌<◌, ◌≤◌, ◌^◌, List, [], ◌∷◌, ◌++◌, All, length, map, refl, sym, ap, ◌∙◌, subst, arith}
+use Rattle.std.specs.Prelude.{Option, Some, None, slice_index, slice_index_or}
 use Rattle.std.proofs.lemmas.List.{append_assoc, append-nil, map-append, length-append}
+use mathlib.Core.Option.{some, some-injective, some-ne-none}
+use lib.ListN.{get_elem?}
 use Rattle.walk_laws.specs.declared.entry.Entry.{Entry}
 use Rattle.label_pool.specs.declared.rule.Linked.{Linked}
 use Rattle.label_pool.specs.Chains.{named, first_cell, HoldsCell, IsChain, IsWithin, IsWritten, entries_of}
@@ -85,3 +87,19 @@ module _ (n cells : ℕ) (words : List ℕ) (v : ℕ) (chain : List Linked) (wri
       let a = ap length w.parted in
       let rest = short_rest w.front w.rest (let c = w.counted in let m = written.most in omega (arith, a, c, m, all)) in
       w.walked ∙ sym (ap entries_of (w.parted ∙ ap (λ ls. w.front ++ ls) rest ∙ append-nil w.front))
+
+-- a word that was read from a list
+pub at_word : (xs : List ℕ) (i x : ℕ) → get_elem? xs i ≡ some x → slice_index xs i ≡ x
+at_word [] i x at = absurd (some-ne-none x (sym at))
+at_word (y ∷ ys) zero x at = some-injective y x at
+at_word (y ∷ ys) (suc i) x at = at_word ys i x at
+
+-- a row comes behind others
+pub row-before : (rows : List (List Entry)) (row : List Entry) (k : ℕ) → k < length rows → slice_index_or (rows ++ row ∷ []) k [] ≡ slice_index_or rows k []
+row-before [] row k within = absurd (omega (arith, within))
+row-before (r ∷ rs) row zero within = refl
+row-before (r ∷ rs) row (suc k) within = row-before rs row k (omega (arith, within))
+
+pub row-last : (rows : List (List Entry)) (row : List Entry) → slice_index_or (rows ++ row ∷ []) (length rows) [] ≡ row
+row-last [] row = refl
+row-last (r ∷ rs) row = row-last rs row

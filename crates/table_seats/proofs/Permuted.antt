@@ -1,5 +1,5 @@
 -- What all seats have, one behind another, as views change: the same in another order, with what came.
-use Rattle.std.proofs.Common.{◌≡◌, ◌≢◌, ℕ, zero, suc, List, [], ◌∷◌, ◌++◌, set, refl, sym, ap, ◌∙◌, subst}
+use Rattle.std.proofs.Common.{◌≡◌, ◌≢◌, ℕ, zero, suc, List, [], ◌∷◌, ◌++◌, set, refl, sym, ap, ◌∙◌, subst, arith}
 use Rattle.std.specs.List.{flat_map}
 use Rattle.std.specs.List.Sorted.{IsPermutation}
 use Rattle.std.proofs.lemmas.Grind.{flat_map-append}
@@ -56,3 +56,15 @@ module _ {X Y : Type 0} (f : X → List Y) where
       let still : get_elem? (set xs j spent) i ≡ some v = set_else xs j i spent (λ is. apart (sym is)) ∙ at in
       subst (λ zs. IsPermutation (flat_map f zs) (flat_map f xs)) (set_comm xs j i spent both apart)
       (IsPermutation-trans _ _ _ (flat_map-more (set xs j spent) i v both (f u) still grown) (IsPermutation-sym _ _ (flat_map-less xs j u spent there none)))
+
+  flat_map-nothing : (xs : List X) → ((j : ℕ) (w : X) → get_elem? xs j ≡ some w → f w ≡ []) → flat_map f xs ≡ []
+  flat_map-nothing [] none = refl
+  flat_map-nothing (x ∷ xs) none = flat_map-cons f x xs ∙ ap (λ ys. ys ++ flat_map f xs) (none 0 x refl) ∙ flat_map-nothing xs (λ j w at. none (suc j) w at)
+
+  -- where the others have nothing
+  pub flat_map-one : (xs : List X) (i : ℕ) (v : X) → get_elem? xs i ≡ some v → ((j : ℕ) (w : X) → j ≢ i → get_elem? xs j ≡ some w → f w ≡ []) → flat_map f xs ≡ f v
+  flat_map-one [] i v at others = absurd (some-ne-none v (sym at))
+  flat_map-one (x ∷ xs) zero v at others =
+      flat_map-cons f x xs ∙ ap (λ ys. f x ++ ys) (flat_map-nothing xs (λ j w there. others (suc j) w (λ e. omega arith) there)) ∙ append-nil (f x) ∙ ap f (some-injective x v at)
+  flat_map-one (x ∷ xs) (suc i) v at others =
+      flat_map-cons f x xs ∙ ap (λ ys. ys ++ flat_map f xs) (others 0 x (λ e. omega arith) refl) ∙ flat_map-one xs i v at (λ j w apart there. others (suc j) w (λ e. apart (omega arith)) there)

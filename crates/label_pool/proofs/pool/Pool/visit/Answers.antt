@@ -1,9 +1,11 @@
-use Rattle.std.proofs.Common.{ℕ, sym, ap, ◌∙◌, refl, arith, subst}
+use Rattle.std.proofs.Common.{ℕ, ◌<◌, All, sym, ap, ◌∙◌, refl, arith, subst}
 use Rattle.std.specs.Prelude.{Option}
 use mathlib.Core.Option.{none}
 use Rattle.atomic_table.specs.Table.{step, Allows}
 use Rattle.hub_index.specs.Views.{IsNode}
 use Rattle.label_pool.specs.Lawful.{IsLawful}
+use Rattle.std.proofs.lemmas.List.Elements.{All-push}
+use Rattle.label_pool.specs.Seats.{AreWithin}
 use Rattle.label_pool.specs.Steps.{Found, IsFound}
 use Rattle.label_pool.specs.Chains.{first_cell}
 use Rattle.label_pool.proofs.Allowed.{finds_one}
@@ -41,7 +43,7 @@ pub invariant_of-seat : goal.invariant_of-seat
 invariant_of-seat g c =
     let i = c.seat.invariant in
     let t = told g (goal.at.invariant_of-seat g c).After-load-head in
-    (ap (λ v. v.seats) t.view ∙ i.0, i.1, ap (λ v. v.knows.filling) t.view ∙ i.2, t.slots ∙ i.3, ?)
+    (ap (λ v. v.seats) t.view ∙ i.0, i.1, ap (λ v. v.knows.filling) t.view ∙ i.2, t.slots ∙ i.3, subst AreWithin (sym (ap (λ v. v.knows) t.view)) (All-push (λ look. All (λ l. l.cell < c.seat.inside.seat.me.0.knows.cells) look.found) c.seat.inside.seat.me.0.knows.looks _ i.4 t.within))
 
 pub returns : goal.returns
 returns g c =
