@@ -1,5 +1,5 @@
 -- A cell that is drawn and not linked stands in no chain, and is open for one seat alone. A chain has no more cells than there are.
-use Rattle.std.proofs.Common.{◌≡◌, ◌≢◌, ℕ, ◌+◌, ◌-◌, ◌<◌, ◌≤◌, Bool, true, false, cond, eqb, eq-eqb, List, [], ◌∷◌, ◌++◌, All, IsPermutation, length, min, refl, sym, ap, ◌∙◌, arith}
+use Rattle.std.proofs.Common.{◌≡◌, ◌≢◌, ℕ, ◌+◌, ◌-◌, ◌<◌, ◌≤◌, Bool, true, false, cond, eqb, eq-eqb, eqb-true, List, [], ◌∷◌, ◌++◌, All, IsPermutation, length, min, refl, sym, ap, ◌∙◌, arith}
 use Rattle.std.specs.Prelude.{Option, Some, None, map, filter, nat_eq, if◌then◌else◌}
 use Rattle.std.specs.List.{flat_map, sum_by}
 use Rattle.std.proofs.lemmas.List.{length-append, length-map, map-append}
@@ -51,6 +51,25 @@ put_at-shorter v (p ∷ ps) = by_test (nat_eq p.node v) (put_at-shorter v ps)
     by_test : (t : Bool) → length (puts_at ps v) ≤ length ps → length (map (λ q. q.linked) (cond t (p ∷ filter (λ q. nat_eq q.node v) ps) (filter (λ q. nat_eq q.node v) ps))) ≤ length (p ∷ ps)
     by_test true r = omega (arith, r)
     by_test false r = omega (arith, r)
+
+-- how often a cell stands among what was put at a node, where a put comes that may be there
+abbrev some_at : ℕ → Put → List Put → Bool → ℕ → ℕ
+some_at c p ps t w = times c (cells_of (map (λ q. q.linked) (cond t (p ∷ filter (λ q. nat_eq q.node w) ps) (filter (λ q. nat_eq q.node w) ps))))
+
+-- what was put at two nodes is among what was put
+two-fewer : (c v u : ℕ) (puts : List Put) → v ≢ u → times c (cells_of (puts_at puts v)) + times c (cells_of (puts_at puts u)) ≤ times c (put_cells puts)
+two-fewer c v u [] unlike = omega arith
+two-fewer c v u (p ∷ ps) unlike =
+    let r = two-fewer c v u ps unlike in
+    let a = times-cons c p.linked.cell (put_cells ps) in
+    by_tests (nat_eq p.node v) (nat_eq p.node u) (λ one two. unlike (sym (eqb-true p.node v one) ∙ eqb-true p.node u two)) r a
+  where
+    by_tests : (t s : Bool) → (t ≡ true → s ≡ true → ⊥) → times c (cells_of (puts_at ps v)) + times c (cells_of (puts_at ps u)) ≤ times c (put_cells ps) → times c (put_cells (p ∷ ps)) ≡ once c p.linked.cell + times c (put_cells ps)
+        → some_at c p ps t v + some_at c p ps s u ≤ times c (put_cells (p ∷ ps))
+    by_tests true true both r a = absurd (both refl refl)
+    by_tests true false both r a = let b = times-cons c p.linked.cell (cells_of (puts_at ps v)) in omega (arith, r, a, b)
+    by_tests false true both r a = let b = times-cons c p.linked.cell (cells_of (puts_at ps u)) in omega (arith, r, a, b)
+    by_tests false false both r a = omega (arith, r, a)
 
 -- sums of two numbers each are no more than the sum of those that are no less
 sums-within : {X : Type 0} (g h k : X → ℕ) → ((x : X) → g x + h x ≤ k x) → (xs : List X) → sum_by g xs + sum_by h xs ≤ sum_by k xs
@@ -140,3 +159,29 @@ module _ {F : Type 0} (about : About F) (counter : ℕ) (views : List (SeatView 
       let d = length_permutation _ _ drawn.each_once in
       let e = length-range_with_len 0 (min counter about.cells - 0) in
       omega (arith, a, b, sums, c, d, e)
+
+  -- no cell stands in the chains of two nodes
+  pub chains-apart : (v u : ℕ) (chain other : List Linked) → v ≢ u → IsPermutation (flat_map (λ seat. puts_at seat.knows.puts v) views) chain → IsPermutation (flat_map (λ seat. puts_at seat.knows.puts u) views) other
+      → All (λ l. All (λ m. l.cell ≢ m.cell) other) chain
+  chains-apart v u chain other unlike here there = each chain (λ c. few c)
+    where
+      few : (c : ℕ) → times c (cells_of chain) + times c (cells_of other) ≤ 1
+      few c =
+          let at_v : SeatView (View F) → ℕ = λ seat. times c (cells_of (puts_at seat.knows.puts v)) in
+          let at_u : SeatView (View F) → ℕ = λ seat. times c (cells_of (puts_at seat.knows.puts u)) in
+          let all = drawn-once c in
+          let sums = sums-within at_v at_u (λ seat. times c (drawn_at seat))
+              (λ seat. let a = times-append c (put_cells seat.knows.puts) (open_at seat) in let b = two-fewer c v u seat.knows.puts unlike in omega (arith, a, b)) views in
+          let a = times-cells (λ (seat : SeatView (View F)). puts_at seat.knows.puts v) c views in
+          let b = times-cells (λ (seat : SeatView (View F)). puts_at seat.knows.puts u) c views in
+          let d = times-permutation c _ _ (IsPermutation-map (λ (l : Linked). l.cell) _ _ here) in
+          let e = times-permutation c _ _ (IsPermutation-map (λ (l : Linked). l.cell) _ _ there) in
+          omega (arith, all, sums, a, b, d, e)
+
+      each : (ls : List Linked) → ((c : ℕ) → times c (cells_of ls) + times c (cells_of other) ≤ 1) → All (λ l. All (λ m. l.cell ≢ m.cell) other) ls
+      each [] most = All-nil (λ l. All (λ m. l.cell ≢ m.cell) other)
+      each (l ∷ ls) most =
+          let a = times-cons l.cell l.cell (cells_of ls) in
+          let o : once l.cell l.cell ≡ 1 = ap (λ b. cond b 1 0) (eq-eqb l.cell l.cell refl) in
+          All-cons (λ m. All (λ k. m.cell ≢ k.cell) other) l ls (all-other l.cell other (omega (arith, a, o, most l.cell)))
+          (each ls (λ c. let b = times-cons c l.cell (cells_of ls) in omega (arith, b, most c)))

@@ -2,7 +2,7 @@ ghost use Rattle.std.specs.Prelude.{◌≡◌, ℕ, ◌+◌, ◌^◌, ◌<◌, �
 ghost use Rattle.walk_laws.specs.Labelling.{label_row};
 ghost use Rattle.hub_index.specs.Views.{IsNode};
 ghost use Rattle.label_pool.specs.declared.rule.Linked.{Linked};
-ghost use Rattle.label_pool.specs.Chains.{first_cell, entries_at};
+ghost use Rattle.label_pool.specs.Chains.{IsRest, entries_at};
 ghost use Rattle.label_pool.specs.Seats.{IsSeatOf, IsMet, HasPut, HasFound, IfPut, IfFull, first_some};
 
 use crate::gathering::gathered;
@@ -126,7 +126,7 @@ impl<F: LinkFact> Pool<F> {
     pub fn visit(&self, seat: &mut PoolSeat<F>, v: u32) -> Visit
         requires seat { IsSeatOf self.now seat.old }
         requires node { IsNode self.now.n v }
-        ensures found { (found : List Linked) × HasFound F.fact self.now seat.old v found seat.new × (result ≡ first_cell found) }
+        ensures found { (found : List Linked) × HasFound F.fact self.now seat.old v found seat.new × IsRest seat.new.looks result found }
     {
         let head = self.table.shared.load::<Finds>(&mut seat.seat, head_word(v));
         Visit::at(cell_named(head))

@@ -1,16 +1,17 @@
 use Rattle.std.proofs.Common.{ℕ, ◌<◌, All, sym, ap, ◌∙◌, refl, arith, subst}
-use Rattle.std.specs.Prelude.{Option}
+use Rattle.std.specs.Prelude.{Option, Contains}
 use mathlib.Core.Option.{none}
 use Rattle.atomic_table.specs.Table.{step, Allows}
 use Rattle.hub_index.specs.Views.{IsNode}
 use Rattle.label_pool.specs.Lawful.{IsLawful}
-use Rattle.std.proofs.lemmas.List.Elements.{All-push}
+use Rattle.std.proofs.lemmas.List.Elements.{All-push, Contains-push}
 use Rattle.label_pool.specs.Seats.{AreWithin}
 use Rattle.label_pool.specs.Steps.{Found, IsFound}
-use Rattle.label_pool.specs.Chains.{first_cell}
+use Rattle.label_pool.specs.declared.rule.Look.{Look}
+use Rattle.label_pool.specs.Chains.{first_cell, IsRest}
 use Rattle.label_pool.proofs.Allowed.{finds_one}
 use Rattle.label_pool.proofs.Calls.{has-found}
-use Rattle.label_pool.proofs.Tails.{named-same}
+use Rattle.label_pool.proofs.Tails.{named-same, tail-self}
 use Rattle.label_pool.proofs.pool.Pool.visit.Goals as goal
 use Rattle.label_pool.proofs.pool.Pool.visit.Given
 use Rattle.label_pool.proofs.pool.Pool.visit.Goals.{After-load-head}
@@ -49,4 +50,12 @@ pub returns : goal.returns
 returns g c =
     let t = told g (goal.at.returns g c).After-load-head in
     let found = has-found _ _ _ _ _ _ c.seat.view_is c.load-head.ensures.0 g.F.LinkFact.fact c.args.self.now c.requires.seat c.args.v t.found t.goes_on t.met t.most t.view in
-    record { found = (t.found, found, c.at.ensures ∙ named-same c.cell_named.result (first_cell t.found) (c.cell_named.ensures ∙ t.first)) }
+    let looks = ap (λ b. b.looks) found.after_is in
+    record {
+      found = (t.found, found, record {
+        look = record { node = c.args.v; found = t.found };
+        there = subst (λ ls. Contains ls (record { node = c.args.v; found = t.found })) (sym looks) (Contains-push c.args.seat.now.looks (record { node = c.args.v; found = t.found }));
+        tail = tail-self t.found;
+        at_first = c.at.ensures ∙ named-same c.cell_named.result (first_cell t.found) (c.cell_named.ensures ∙ t.first);
+      });
+    }

@@ -93,7 +93,8 @@ cell_named-self-inside-requires g c = (told_here g c (here g (goal.at-After-load
 pub overflow_cast-result : goal.overflow_cast-result
 overflow_cast-result g c =
     let before = (goal.at.overflow_cast-result g c).After-load-dist in
-    (told_here g before (here g (goal.at.overflow_cast-result g c).After-next_word)).pos_small
+    let small = (told_here g before (here g (goal.at.overflow_cast-result g c).After-next_word)).pos_small in
+    omega (arith, small)
 
 pub returns-clause-next : goal.returns-clause-next
 returns-clause-next g c rest r =
