@@ -45,8 +45,7 @@ module _ {F : Type 0} (fact : F → ℕ → Entry → Type 0) (about : About F) 
     draws_one empty on s lawful _ at _ =
         let count = slice_index s.words 0 in
         let most = drawing.counter_most drawn_by is_past 0 about.cells about.seats count s.views id me.0 lawful.drawn at in
-        let next : (count + 1) % 2 ^ 64 ≡ count + 1 = omega (arith, most, lawful.limits, lawful.seating.few) in
-        (
+        let next : (count + 1) % 2 ^ 64 ≡ count + 1 = omega (arith, most, lawful.limits, lawful.seating.few) in (
           knowing me.0 (with_drawn me.0.knows count),
           keeps,
           tt,
@@ -58,8 +57,7 @@ module _ {F : Type 0} (fact : F → ℕ → Entry → Type 0) (about : About F) 
       -- a word of the open cell is filled
       pub fills_next : (x : ℕ) → Allows (IsLawful fact about) slots id me (next_at me.0.knows.n f.cell) (λ _. x) (λ _. FilledNext (step slots (next_at me.0.knows.n f.cell) x 0 none) me x)
       fills_next x s lawful _ at _ =
-          let n = (steps.seated_here fact about s id me.0 at lawful live).n in
-          (
+          let n = (steps.seated_here fact about s id me.0 at lawful live).n in (
             knowing me.0 (record me.0.knows { filling = Some (record f { next = Some x }) }),
             keeps,
             tt,
@@ -69,8 +67,7 @@ module _ {F : Type 0} (fact : F → ℕ → Entry → Type 0) (about : About F) 
 
       pub fills_pos : (x : ℕ) → x < 2 ^ 32 → Allows (IsLawful fact about) slots id me (pos_at me.0.knows.n f.cell) (λ _. x) (λ _. FilledPos (step slots (pos_at me.0.knows.n f.cell) x 0 none) me x)
       fills_pos x small s lawful _ at _ =
-          let n = (steps.seated_here fact about s id me.0 at lawful live).n in
-          (
+          let n = (steps.seated_here fact about s id me.0 at lawful live).n in (
             knowing me.0 (record me.0.knows { filling = Some (record f { pos = Some x }) }),
             keeps,
             tt,
@@ -80,8 +77,7 @@ module _ {F : Type 0} (fact : F → ℕ → Entry → Type 0) (about : About F) 
 
       pub fills_dist : (x : ℕ) → Allows (IsLawful fact about) slots id me (dist_at me.0.knows.n f.cell) (λ _. x) (λ _. FilledDist (step slots (dist_at me.0.knows.n f.cell) x 0 none) me x)
       fills_dist x s lawful _ at _ =
-          let n = (steps.seated_here fact about s id me.0 at lawful live).n in
-          (
+          let n = (steps.seated_here fact about s id me.0 at lawful live).n in (
             knowing me.0 (record me.0.knows { filling = Some (record f { dist = Some x }) }),
             keeps,
             tt,
@@ -100,8 +96,7 @@ module _ {F : Type 0} (fact : F → ℕ → Entry → Type 0) (about : About F) 
           let here = node_here s lawful at in
           let chain = (lawful.chains v here).0 in
           let old = (lawful.chains v here).1 in
-          let w = with_look me.0.knows v chain in
-          (
+          let w = with_look me.0.knows v chain in (
             knowing me.0 w,
             keeps,
             tt,
@@ -166,21 +161,22 @@ module _ {F : Type 0} (fact : F → ℕ → Entry → Type 0) (about : About F) 
           let old = (lawful.chains v here).1 in
           let head_is : head ≡ named (first_cell chain) = sym same ∙ old.head in
           let open_is = is ∙ ap (λ h. Some (record { cell = cell; next = Some h; pos = Some p; dist = Some d })) head_is in
-          let fact_here : fact about.fact v (record { pos = p; dist = d }) = subst (λ value. IsMet fact value v (record { pos = p; dist = d })) seated.fact met in
-          (
+          let fact_here : fact about.fact v (record { pos = p; dist = d }) = subst (λ value. IsMet fact value v (record { pos = p; dist = d })) seated.fact met in (
             knowing me.0 (steps.linked fact about s id me.0 at lawful live v here cell p d open_is fact_here),
             keeps,
             tt,
             steps.links fact about s id me.0 at lawful live v here cell p d open_is fact_here,
             λ u word.
-            let u_is : u ≡ v = omega (arith, word) in
-            (λ _. subst (λ x. IsLink me x (knowing me.0 (steps.linked fact about s id me.0 at lawful live v here cell p d open_is fact_here), me.1)) (sym u_is)
-            (record {
-              behind = chain;
-              goes_on = seen-still v chain me.0.knows.marks (old.seen id me.0 at);
-              view = ap (λ (l : Linked). knowing me.0 (record me.0.knows { filling = None; puts = me.0.knows.puts ++ record { node = v; linked = l } ∷ []; marks = record { node = v; found = l ∷ chain } ∷ me.0.knows.marks })) (sym (ap linked_of is));
-              slots = refl;
-            }), λ no. absurd (no same)),
+                let u_is : u ≡ v = omega (arith, word) in (
+                  λ _. subst (λ x. IsLink me x (knowing me.0 (steps.linked fact about s id me.0 at lawful live v here cell p d open_is fact_here), me.1)) (sym u_is)
+                      (record {
+                        behind = chain;
+                        goes_on = seen-still v chain me.0.knows.marks (old.seen id me.0 at);
+                        view = ap (λ (l : Linked). knowing me.0 (record me.0.knows { filling = None; puts = me.0.knows.puts ++ record { node = v; linked = l } ∷ []; marks = record { node = v; found = l ∷ chain } ∷ me.0.knows.marks })) (sym (ap linked_of is));
+                        slots = refl;
+                      }),
+                  λ no. absurd (no same),
+                ),
           )
 
       misses : (s : Table F) → IsLawful fact about s → get_elem? s.views id ≡ some me.0 → slice_index s.words (head_at v) ≢ head → Goes s (slice_index s.words (head_at v)) (slice_index s.words (head_at v))

@@ -128,7 +128,7 @@ module _ {F : Type 0} (about : About F) (counter : ℕ) (views : List (SeatView 
       let opened : SeatView (View F) → ℕ = λ seat. times c (open_at seat) in
       let all = drawn-once c in
       let sums = sums-within linked_at opened (λ seat. times c (drawn_at seat))
-          (λ seat. let a = times-append c (put_cells seat.knows.puts) (open_at seat) in let b = put_at-fewer c v seat.knows.puts in omega (arith, a, b)) views in
+      (λ seat. let a = times-append c (put_cells seat.knows.puts) (open_at seat) in let b = put_at-fewer c v seat.knows.puts in omega (arith, a, b)) views in
       let here = one_within opened views id me at in
       let one : times c (open_at me) ≡ 1 = ap (λ o. times c (open_cell o)) is ∙ times-cons c c [] ∙ ap (λ b. cond b 1 0 + times c []) (eq-eqb c c refl) in
       let linked = times-cells (λ (seat : SeatView (View F)). puts_at seat.knows.puts v) c views in
@@ -154,7 +154,7 @@ module _ {F : Type 0} (about : About F) (counter : ℕ) (views : List (SeatView 
       let a = length-flat (λ (seat : SeatView (View F)). puts_at seat.knows.puts v) views in
       let b = length-flat drawn_at views in
       let sums = sums-within (λ (seat : SeatView (View F)). length (puts_at seat.knows.puts v)) nothing (λ seat. length (drawn_at seat))
-          (λ seat. let p = put_at-shorter v seat.knows.puts in let l = length-append (put_cells seat.knows.puts) (open_at seat) in let m = length-map seat.knows.puts (λ (q : Put). q.linked.cell) in omega (arith, p, l, m)) views in
+      (λ seat. let p = put_at-shorter v seat.knows.puts in let l = length-append (put_cells seat.knows.puts) (open_at seat) in let m = length-map seat.knows.puts (λ (q : Put). q.linked.cell) in omega (arith, p, l, m)) views in
       let c = length_permutation _ _ each_once in
       let d = length_permutation _ _ drawn.each_once in
       let e = length-range_with_len 0 (min counter about.cells - 0) in
@@ -171,7 +171,7 @@ module _ {F : Type 0} (about : About F) (counter : ℕ) (views : List (SeatView 
           let at_u : SeatView (View F) → ℕ = λ seat. times c (cells_of (puts_at seat.knows.puts u)) in
           let all = drawn-once c in
           let sums = sums-within at_v at_u (λ seat. times c (drawn_at seat))
-              (λ seat. let a = times-append c (put_cells seat.knows.puts) (open_at seat) in let b = two-fewer c v u seat.knows.puts unlike in omega (arith, a, b)) views in
+          (λ seat. let a = times-append c (put_cells seat.knows.puts) (open_at seat) in let b = two-fewer c v u seat.knows.puts unlike in omega (arith, a, b)) views in
           let a = times-cells (λ (seat : SeatView (View F)). puts_at seat.knows.puts v) c views in
           let b = times-cells (λ (seat : SeatView (View F)). puts_at seat.knows.puts u) c views in
           let d = times-permutation c _ _ (IsPermutation-map (λ (l : Linked). l.cell) _ _ here) in

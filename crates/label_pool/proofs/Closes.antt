@@ -30,13 +30,15 @@ module _ {F : Type 0} (fact : F → ℕ → Entry → Type 0) (about : About F) 
   pub written : (v : ℕ) → IsNode about.n v → (chain : List Linked) × IsWritten about.n about.cells words v chain
   unfolding chain_of lawful
   written v node =
-      let c = chain_of v node in
-      (c.0, subst (λ ws. IsWritten about.n about.cells ws v c.0) final.2 (record {
-        head = c.1.head;
-        linked = c.1.linked;
-        within = c.1.within;
-        most = chain-most about (slice_index final.0.words 0) final.0.views lawful.drawn v c.0 c.1.each_once;
-      }))
+      let c = chain_of v node in (
+        c.0,
+        subst (λ ws. IsWritten about.n about.cells ws v c.0) final.2 (record {
+          head = c.1.head;
+          linked = c.1.linked;
+          within = c.1.within;
+          most = chain-most about (slice_index final.0.words 0) final.0.views lawful.drawn v c.0 c.1.each_once;
+        }),
+      )
 
   module _ (rows : List (List Entry)) (row_is : (v : ℕ) (chain : List Linked) → IsNode about.n v → IsWritten about.n about.cells words v chain → label_row rows v ≡ entries_of chain) (v : ℕ) (node : IsNode about.n v) where
     row : label_row rows v ≡ entries_of (written v node).0
@@ -48,7 +50,7 @@ module _ {F : Type 0} (fact : F → ℕ → Entry → Type 0) (about : About F) 
     puts last =
         let c = chain_of v node in
         let alone = flat_map-one (λ (seat : SeatView (View F)). puts_at seat.knows.puts v) final.0.views id me final.1.1
-            (λ j w apart there. ap (λ (k : View F). puts_at k.puts v) (others_empty about.seats (IsSeated about) nothing final.0.views id me lawful.seating final.1.1 last j w apart there)) in
+        (λ j w apart there. ap (λ (k : View F). puts_at k.puts v) (others_empty about.seats (IsSeated about) nothing final.0.views id me lawful.seating final.1.1 last j w apart there)) in
         subst (IsPermutation (entries_at me.knows.puts v)) (sym row)
         (IsPermutation-map (λ (l : Linked). l.entry) (puts_at me.knows.puts v) c.0 (subst (λ ls. IsPermutation ls c.0) alone c.1.each_once))
 

@@ -47,15 +47,18 @@ module _ {F : Type 0} (fact : F → ℕ → Entry → Type 0) (about : About F) 
       words = length-replicate (word_count about.n about.cells) 0;
       filled = Each-one (λ seat. HoldsOpen about.n about.cells zeros seat.knows.filling) (first_view about) tt;
       noded = Each-one (λ seat. All (λ look. IsNode about.n look.node) seat.knows.looks) (first_view about) (All-nil (λ look. IsNode about.n look.node));
-      chains = λ v node. ([], record {
-        head = word_of (head_at v) (omega (arith, node.up_to_n));
-        linked = tt;
-        within = All-nil (IsWithin about.cells);
-        met = All-nil (λ l. fact about.fact v l.entry);
-        each_once = IsPermutation-refl [];
-        found = Each-one (λ seat. StillIn v [] seat.knows.looks) (first_view about) (All-nil (λ look. look.node ≡ v → IsTailOf look.found []));
-        seen = Each-one (λ seat. StillIn v [] seat.knows.marks) (first_view about) (All-nil (λ look. look.node ≡ v → IsTailOf look.found []));
-      });
+      chains = λ v node. (
+        [],
+        record {
+          head = word_of (head_at v) (omega (arith, node.up_to_n));
+          linked = tt;
+          within = All-nil (IsWithin about.cells);
+          met = All-nil (λ l. fact about.fact v l.entry);
+          each_once = IsPermutation-refl [];
+          found = Each-one (λ seat. StillIn v [] seat.knows.looks) (first_view about) (All-nil (λ look. look.node ≡ v → IsTailOf look.found []));
+          seen = Each-one (λ seat. StillIn v [] seat.knows.marks) (first_view about) (All-nil (λ look. look.node ≡ v → IsTailOf look.found []));
+        },
+      );
     }
 
   module _ (s : Table F) (id : ℕ) (me : SeatView (View F)) (at : get_elem? s.views id ≡ some me) (lawful : IsLawful fact about s) (live : 1 ≤ me.seats) where

@@ -99,9 +99,11 @@ module _ {F : Type 0} (fact : F → ℕ → Entry → Type 0) (about : About F) 
       filled = Each-set (Opened (set s.words 0 (counter + 1))) s.views id (knowing me w) (open-low 0 (counter + 1) (omega arith)) opened;
       noded = noded-set w looks;
       chains = λ v node.
-          let old = lawful.chains v node in
-          (old.0, chain-same (set s.words 0 (counter + 1)) w v old.0 old.1 (get_or-set_other s.words 0 (head_at v) (counter + 1) 0 (λ is. omega (arith, is))) (chain-low 0 (counter + 1) v old.0 (omega arith) old.1) (ap (λ ps. puts_at ps v) puts)
-          (subst (StillIn v old.0) (sym looks) (old.1.found id me at)) (subst (StillIn v old.0) (sym marks) (old.1.seen id me at)));
+          let old = lawful.chains v node in (
+            old.0,
+            chain-same (set s.words 0 (counter + 1)) w v old.0 old.1 (get_or-set_other s.words 0 (head_at v) (counter + 1) 0 (λ is. omega (arith, is))) (chain-low 0 (counter + 1) v old.0 (omega arith) old.1) (ap (λ ps. puts_at ps v) puts)
+                (subst (StillIn v old.0) (sym looks) (old.1.found id me at)) (subst (StillIn v old.0) (sym marks) (old.1.seen id me at)),
+          );
     }
 
     -- a number is drawn
@@ -142,10 +144,12 @@ module _ {F : Type 0} (fact : F → ℕ → Entry → Type 0) (about : About F) 
           noded = noded-set w refl;
           chains = λ v node.
               let old = lawful.chains v node in
-              let others = open-unlinked about counter s.views lawful.drawn v old.0 old.1.each_once id me f at is in
-              (old.0, chain-same (set s.words word x) w v old.0 old.1 (get_or-set_other s.words word (head_at v) x 0 (λ e. omega (arith, e, high, node.up_to_n)))
-              (chain-else about.n s.words word x old.0 (All-weaker (λ l. f.cell ≢ l.cell) (λ l. IsApart about.n word l.cell) (λ l other. apart l.cell other) old.0 others) old.1.linked)
-              refl (old.1.found id me at) (old.1.seen id me at));
+              let others = open-unlinked about counter s.views lawful.drawn v old.0 old.1.each_once id me f at is in (
+                old.0,
+                chain-same (set s.words word x) w v old.0 old.1 (get_or-set_other s.words word (head_at v) x 0 (λ e. omega (arith, e, high, node.up_to_n)))
+                    (chain-else about.n s.words word x old.0 (All-weaker (λ l. f.cell ≢ l.cell) (λ l. IsApart about.n word l.cell) (λ l other. apart l.cell other) old.0 others) old.1.linked)
+                    refl (old.1.found id me at) (old.1.seen id me at),
+              );
         }
       where
         others_at : (word x : ℕ) → ((cell : ℕ) → f.cell ≢ cell → IsApart about.n word cell) → (j : ℕ) (seat : SeatView (View F)) → j ≢ id → get_elem? s.views j ≡ some seat → Opened (set s.words word x) seat
@@ -214,15 +218,20 @@ module _ {F : Type 0} (fact : F → ℕ → Entry → Type 0) (about : About F) 
           filled = Each-set (Opened s.words) s.views id (knowing me w) lawful.filled (lawful.filled id me at);
           noded = Each-set Noded s.views id (knowing me w) lawful.noded (All-push (λ look. IsNode about.n look.node) me.knows.looks _ (lawful.noded id me at) node);
           chains = λ u node_u. dite (ℕ_discrete u v)
-              (λ same. (chain, subst (λ x. IsChainOf fact about (Next s.words w) x chain) (sym same)
-              (chain-same s.words w v chain old refl old.linked refl
-              (All-push (λ look. look.node ≡ v → IsTailOf look.found chain) me.knows.looks _ (old.found id me at) (λ _. tail-self chain))
-              (All-cons (λ look. look.node ≡ v → IsTailOf look.found chain) _ me.knows.marks (λ _. tail-self chain) (old.seen id me at)))))
+              (λ same. (
+                chain,
+                subst (λ x. IsChainOf fact about (Next s.words w) x chain) (sym same)
+                    (chain-same s.words w v chain old refl old.linked refl
+                    (All-push (λ look. look.node ≡ v → IsTailOf look.found chain) me.knows.looks _ (old.found id me at) (λ _. tail-self chain))
+                    (All-cons (λ look. look.node ≡ v → IsTailOf look.found chain) _ me.knows.marks (λ _. tail-self chain) (old.seen id me at))),
+              ))
               (λ other.
-              let theirs = lawful.chains u node_u in
-              (theirs.0, chain-same s.words w u theirs.0 theirs.1 refl theirs.1.linked refl
-              (All-push (λ look. look.node ≡ u → IsTailOf look.found theirs.0) me.knows.looks _ (theirs.1.found id me at) (λ is. absurd (other (sym is))))
-              (All-cons (λ look. look.node ≡ u → IsTailOf look.found theirs.0) _ me.knows.marks (λ is. absurd (other (sym is))) (theirs.1.seen id me at))));
+              let theirs = lawful.chains u node_u in (
+                theirs.0,
+                chain-same s.words w u theirs.0 theirs.1 refl theirs.1.linked refl
+                    (All-push (λ look. look.node ≡ u → IsTailOf look.found theirs.0) me.knows.looks _ (theirs.1.found id me at) (λ is. absurd (other (sym is))))
+                    (All-cons (λ look. look.node ≡ u → IsTailOf look.found theirs.0) _ me.knows.marks (λ is. absurd (other (sym is))) (theirs.1.seen id me at)),
+              ));
         }
 
     module _ (cell p d : ℕ) (is : me.knows.filling ≡ Some (record { cell = cell; next = Some (named (first_cell chain)); pos = Some p; dist = Some d })) (met : fact about.fact v (record { pos = p; dist = d })) where
@@ -275,9 +284,11 @@ module _ {F : Type 0} (fact : F → ℕ → Entry → Type 0) (about : About F) 
             chains = λ u node_u. dite (ℕ_discrete u v)
                 (λ same. (mine ∷ chain, subst (λ x. IsChainOf fact about (Next After linked) x (mine ∷ chain)) (sym same) chain-linked))
                 (λ other.
-                let theirs = lawful.chains u node_u in
-                (theirs.0, chain-same After linked u theirs.0 theirs.1 (get_or-set_other s.words (head_at v) (head_at u) (cell + 1) 0 (λ e. other (omega (arith, e)))) (chain-low (head_at v) (cell + 1) u theirs.0 low theirs.1)
-                (puts-else me.knows.puts v u mine (λ e. other (sym e)))
-                (theirs.1.found id me at)
-                (All-cons (λ look. look.node ≡ u → IsTailOf look.found theirs.0) _ me.knows.marks (λ e. absurd (other (sym e))) (theirs.1.seen id me at))));
+                let theirs = lawful.chains u node_u in (
+                  theirs.0,
+                  chain-same After linked u theirs.0 theirs.1 (get_or-set_other s.words (head_at v) (head_at u) (cell + 1) 0 (λ e. other (omega (arith, e)))) (chain-low (head_at v) (cell + 1) u theirs.0 low theirs.1)
+                      (puts-else me.knows.puts v u mine (λ e. other (sym e)))
+                      (theirs.1.found id me at)
+                      (All-cons (λ look. look.node ≡ u → IsTailOf look.found theirs.0) _ me.knows.marks (λ e. absurd (other (sym e))) (theirs.1.seen id me at)),
+                ));
           }

@@ -30,7 +30,6 @@ is_some (Some past) = true
 abbrev pub StillIn : ℕ → List Linked → List Look → Type 0
 StillIn v chain looks = All (λ look. look.node ≡ v → IsTailOf look.found chain) looks
 
-
 module _ {F : Type 0} where
   -- the cells that a seat drew
   abbrev pub drawn_by : View F → List ℕ

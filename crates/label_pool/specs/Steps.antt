@@ -19,7 +19,6 @@ pub record TellsCell (n word number : ℕ) (l : Linked) (ls : List Linked) : Typ
   pub pos : word ≡ pos_at n l.cell → (number ≡ l.entry.pos) × (number < 2 ^ 32)
   pub dist : word ≡ dist_at n l.cell → number ≡ l.entry.dist
 
-
 module _ {F : Type 0} where
   -- what a seat knows that drew a number: that cell is open, or the number is past the cells
   abbrev pub with_drawn : View F → ℕ → View F

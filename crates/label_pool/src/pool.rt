@@ -128,7 +128,10 @@ impl<F: LinkFact> Pool<F> {
         requires node { IsNode self.now.n v }
         ensures found { (found : List Linked) × HasFound F.fact self.now seat.old v found seat.new × IsRest seat.new.looks result found }
     {
-        let head = self.table.shared.load::<Finds>(&mut seat.seat, head_word(v));
+        let head = self
+            .table
+            .shared
+            .load::<Finds>(&mut seat.seat, head_word(v));
         Visit::at(cell_named(head))
     }
 

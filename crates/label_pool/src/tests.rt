@@ -44,7 +44,10 @@ fn one_cell_takes_one_entry(rt: HostRuntime) -> Result<(), Fail> {
     let (pool, mut seat) = Pool::new(rt.alloc(), 2, 1, 1, Anything)?;
     assert_eq!(rt; seat.left(), 0);
     assert_eq!(rt; pool.put(&rt, &mut seat, 2, entry(3)), PoolPut::Put);
-    assert_eq!(rt; pool.put(&rt, &mut seat, 2, entry(4)), PoolPut::Full { cell: 1, cells: 1 });
+    assert_eq!(rt;
+        pool.put(&rt, &mut seat, 2, entry(4)),
+        PoolPut::Full { cell: 1, cells: 1 }
+    );
     let mut walk = pool.visit(&mut seat, 2);
     assert_eq!(rt; walk.next(&pool, &mut seat), Some(entry(3)));
     assert_eq!(rt; walk.next(&pool, &mut seat), None);
@@ -69,8 +72,14 @@ fn two_seats_find_what_both_put(rt: HostRuntime) -> Result<(), Fail> {
     assert_eq!(rt; pool.put(&rt, &mut one, 3, entry(1)), PoolPut::Put);
     assert_eq!(rt; pool.put(&rt, &mut two, 3, entry(2)), PoolPut::Put);
     let both = [entry(2), entry(1)];
-    assert_eq!(rt; walked(rt.alloc(), &pool, &mut one, 3)?.as_slice(), both.as_slice());
-    assert_eq!(rt; walked(rt.alloc(), &pool, &mut two, 3)?.as_slice(), both.as_slice());
+    assert_eq!(rt;
+        walked(rt.alloc(), &pool, &mut one, 3)?.as_slice(),
+        both.as_slice()
+    );
+    assert_eq!(rt;
+        walked(rt.alloc(), &pool, &mut two, 3)?.as_slice(),
+        both.as_slice()
+    );
     pool.join(&mut one, two);
     assert_eq!(rt; one.left(), 1);
     assert_eq!(rt; pool.close(one)?.row(3).len(), 2);
@@ -90,7 +99,10 @@ fn a_walk_gives_what_it_began_with(rt: HostRuntime) -> Result<(), Fail> {
     assert_eq!(rt; walk.next(&pool, &mut one), Some(entry(1)));
     assert_eq!(rt; walk.next(&pool, &mut one), None);
     let all = [entry(4), entry(3), entry(2), entry(1)];
-    assert_eq!(rt; walked(rt.alloc(), &pool, &mut one, 1)?.as_slice(), all.as_slice());
+    assert_eq!(rt;
+        walked(rt.alloc(), &pool, &mut one, 1)?.as_slice(),
+        all.as_slice()
+    );
     Ok(())
 }
 

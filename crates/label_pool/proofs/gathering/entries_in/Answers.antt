@@ -72,6 +72,6 @@ pub returns : goal.returns
 returns c chain w =
     let words = slots_items c.args.closed.now.words in
     elim c.loop-test.branch [
-      else-loop-test t ↦ spent c.args.n c.args.cells words c.args.v chain w c.loop.at c.loop.counter c.loop.entries.items t.loop-test.false (c.loop.invariant chain w)
+      | else-loop-test t ↦ spent c.args.n c.args.cells words c.args.v chain w c.loop.at c.loop.counter c.loop.entries.items t.loop-test.false (c.loop.invariant chain w)
       | then-loop-test+in_default t ↦ ended c.args.n c.args.cells words c.args.v chain w c.loop.at c.loop.counter c.loop.entries.items t.in_default.is (c.loop.invariant chain w)
     ]

@@ -23,9 +23,12 @@ returns g c =
       link = λ about s id me v cell e lawful seat node is met.
           let chain = (lawful.chains v node).0 in
           let old = (lawful.chains v node).1 in
-          let open_is = is ∙ ap (λ h. Some (filled cell (Some h) e)) old.head in
-          (chain, old, subst (λ (l : Linked). IsLawful fact about (with_step s (head_at v) (cell + 1) id me (record me.knows { filling = None; puts = me.knows.puts ++ record { node = v; linked = l } ∷ []; marks = record { node = v; found = l ∷ chain } ∷ me.knows.marks })))
-          (sym (ap linked_of is)) (steps.links fact about s id me seat.0 lawful seat.1 v node cell e.pos e.dist open_is met));
+          let open_is = is ∙ ap (λ h. Some (filled cell (Some h) e)) old.head in (
+            chain,
+            old,
+            subst (λ (l : Linked). IsLawful fact about (with_step s (head_at v) (cell + 1) id me (record me.knows { filling = None; puts = me.knows.puts ++ record { node = v; linked = l } ∷ []; marks = record { node = v; found = l ∷ chain } ∷ me.knows.marks })))
+                (sym (ap linked_of is)) (steps.links fact about s id me seat.0 lawful seat.1 v node cell e.pos e.dist open_is met),
+          );
       split = λ about s id me give lawful seat enough. seats.splits fact about s id me seat.0 lawful seat.1 give enough;
       join = λ about s id other me them lawful seat too apart empty empty_too. seats.joins fact about s id me seat.0 lawful seat.1 other them apart too.0 empty empty_too;
       short = λ about s v chain lawful old. (chain-most about (slice_index s.words 0) s.views lawful.drawn v chain old.each_once, λ id seat f at is. open-unlinked about (slice_index s.words 0) s.views lawful.drawn v chain old.each_once id seat f at is);

@@ -33,12 +33,11 @@ store-requires g c =
     let cell : Filling = filled c.args.cell next e in
     let open_is = ap (λ (m : Sitter g.row.F.Denot). m.0.knows.filling) is ∙ ap (with_next next) c.requires.filled.1 in
     let word = c.next_word.ensures ∙ ap (λ n. next_at n c.args.cell) (sym (ap (λ (m : Sitter g.row.F.Denot). m.0.knows.n) is ∙ c.requires.n)) in
-    let live : 1 ≤ me.0.seats = omega (arith, ap (λ (m : Sitter g.row.F.Denot). m.0.seats) is, c.requires.live) in
-    (
+    let live : 1 ≤ me.0.seats = omega (arith, ap (λ (m : Sitter g.row.F.Denot). m.0.seats) is, c.requires.live) in (
       i.2 ∙ c.requires.table,
       omega (arith, c.next_word.ensures, c.requires.inside),
       subst (λ w. Allows (IsLawful fact c.args.words.now.key) slots c.loop.seat.id me w (λ _. x) (λ _. FilledNext (step slots w x 0 none) me x)) (sym word)
-      (fills_next fact c.args.words.now.key slots c.loop.seat.id me live cell open_is x),
+          (fills_next fact c.args.words.now.key slots c.loop.seat.id me live cell open_is x),
     )
 
 -- the seat whose cell names the head that is expected
@@ -65,12 +64,11 @@ compare_exchange-found-requires g c =
     let open_is = ap (λ (m : Sitter g.row.F.Denot). m.0.knows.filling) is ∙ ap (with_next (Some head)) c.requires.filled.1 in
     let node : IsNode me.0.knows.n c.args.v = subst (λ n. IsNode n c.args.v) (sym (ap (λ (m : Sitter g.row.F.Denot). m.0.knows.n) is ∙ c.requires.n)) c.requires.node in
     let met = subst (λ value. IsMet fact value c.args.v e) (sym (ap (λ (m : Sitter g.row.F.Denot). m.0.knows.fact) is)) c.requires.filled.2 in
-    let new : c.args.cell + 1 ≡ c.from.result + 1 = ap (λ k. k + 1) (sym c.from.ensures) in
-    (
+    let new : c.args.cell + 1 ≡ c.from.result + 1 = ap (λ k. k + 1) (sym c.from.ensures) in (
       c.store.ensures.0 ∙ c.loop.invariant.2 ∙ c.requires.table,
       omega (arith, c.head_word-in-loop.ensures, c.requires.inside, c.requires.node.up_to_n),
       subst (λ (t : ℕ × ℕ). Allows (IsLawful fact c.args.words.now.key) slots c.store.new.seat.id me t.0 (λ k. either (k == head) t.1 k) (LinkedTo (step slots t.0 head t.1 none) me)) (λ k. (sym c.head_word-in-loop.ensures k, new k))
-      (links_one fact c.args.words.now.key slots c.store.new.seat.id me live c.args.v node c.args.cell e.pos e.dist head open_is met),
+          (links_one fact c.args.words.now.key slots c.store.new.seat.id me live c.args.v node c.args.cell e.pos e.dist head open_is met),
     )
 
 -- what the exchange told, of the seat as it was at first

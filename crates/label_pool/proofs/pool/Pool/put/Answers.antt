@@ -8,8 +8,7 @@ use Rattle.label_pool.proofs.pool.Pool.put.Goals as goal
 
 pub fetch_add-drawn-requires : goal.fetch_add-drawn-requires
 fetch_add-drawn-requires g c =
-    let whose = ap (λ d. d.pool) c.seat.view_is ∙ c.requires.seat ∙ sym c.self.view_is in
-    (
+    let whose = ap (λ d. d.pool) c.seat.view_is ∙ c.requires.seat ∙ sym c.self.view_is in (
       ap (λ d. d.table) whose,
       omega (arith, c.self.invariant.0),
       draws_one _ _ _ _ _ (omega (arith, c.seat.invariant.0)) c.seat.invariant.2 (ap (λ d. d.past) c.seat.view_is ∙ c.requires.past),

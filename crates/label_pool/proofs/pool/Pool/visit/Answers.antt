@@ -26,12 +26,11 @@ load-head-requires g c =
     let whose = ap (λ d. d.pool) c.seat.view_is ∙ c.requires.seat in
     let n_is = ap (λ d. d.n) whose in
     let size = sym (ap (λ d. d.n) c.self.view_is) ∙ c.self.invariant.2 in
-    let node : IsNode me.0.knows.n c.args.v = subst (λ n. IsNode n c.args.v) (sym n_is) c.requires.node in
-    (
+    let node : IsNode me.0.knows.n c.args.v = subst (λ n. IsNode n c.args.v) (sym n_is) c.requires.node in (
       ap (λ d. d.table) (whose ∙ sym c.self.view_is),
       omega (arith, c.head_word.ensures, c.self.invariant.0, c.requires.node.up_to_n, size),
       subst (λ w. Allows (IsLawful fact about) slots c.seat.inside.seat.id me w (λ n. n) (Found fact (step slots w 0 0 none) me)) (sym c.head_word.ensures)
-      (finds_one fact about slots c.seat.inside.seat.id me (omega (arith, i.0)) c.args.v node),
+          (finds_one fact about slots c.seat.inside.seat.id me (omega (arith, i.0)) c.args.v node),
     )
 
 told : (g : Given.Over) (c : After-load-head g) → IsFound g.F.LinkFact.fact c.seat.inside.seat.me c.args.v c.load-head.result c.load-head.new.seat.me
@@ -52,10 +51,14 @@ returns g c =
     let found = has-found _ _ _ _ _ _ c.seat.view_is c.load-head.ensures.0 g.F.LinkFact.fact c.args.self.now c.requires.seat c.args.v t.found t.goes_on t.met t.most t.view in
     let looks = ap (λ b. b.looks) found.after_is in
     record {
-      found = (t.found, found, record {
-        look = record { node = c.args.v; found = t.found };
-        there = subst (λ ls. Contains ls (record { node = c.args.v; found = t.found })) (sym looks) (Contains-push c.args.seat.now.looks (record { node = c.args.v; found = t.found }));
-        tail = tail-self t.found;
-        at_first = c.at.ensures ∙ named-same c.cell_named.result (first_cell t.found) (c.cell_named.ensures ∙ t.first);
-      });
+      found = (
+        t.found,
+        found,
+        record {
+          look = record { node = c.args.v; found = t.found };
+          there = subst (λ ls. Contains ls (record { node = c.args.v; found = t.found })) (sym looks) (Contains-push c.args.seat.now.looks (record { node = c.args.v; found = t.found }));
+          tail = tail-self t.found;
+          at_first = c.at.ensures ∙ named-same c.cell_named.result (first_cell t.found) (c.cell_named.ensures ∙ t.first);
+        },
+      );
     }
