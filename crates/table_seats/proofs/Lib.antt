@@ -1,4 +1,5 @@
 pub mod Counting
 pub mod Drawing
 pub mod EachSeat
+pub mod Permuted
 pub mod Seating

@@ -1,0 +1,195 @@
+-- Each call's step is allowed: whatever the table is at that moment, it keeps the rule and tells what it should.
+use Rattle.std.proofs.Common.{◌≡◌, ◌≢◌, ⊎_elim, ℕ, ◌+◌, ◌%◌, ◌^◌, ◌<◌, ◌≤◌, List, [], ◌∷◌, ◌++◌, ◌==◌, All, length, set, refl, sym, ap, ◌∙◌, subst, arith}
+use Rattle.std.specs.Prelude.{Option, Some, None, Contains, slice_index, slice_set}
+use Rattle.std.proofs.lemmas.List.{append_assoc, set-get_or}
+use Rattle.std.proofs.lemmas.List.Elements.{All-contains, All-weaker}
+use prog.Atomic.{either}
+use mathlib.Core.Option.{none, some}
+use lib.ListN.{get_elem?}
+use Rattle.atomic_table.specs.Table.{Act, keeps, step, Valid, carried_after, stepped, Allows, Splits, Joins}
+use Rattle.atomic_table.proofs.Lists.{at_set, set_again, exchanged}
+use Rattle.walk_laws.specs.declared.entry.Entry.{Entry}
+use Rattle.hub_index.specs.Views.{IsNode}
+use Rattle.table_seats.specs.declared.seat_view.SeatView.{SeatView}
+use Rattle.table_seats.specs.Seats.{knowing, kept_of, given_of, joined, spent, looked}
+use Rattle.table_seats.proofs.Seating.{is_one}
+use Rattle.table_seats.proofs.Drawing as drawing
+use Rattle.label_pool.specs.declared.rule.About.{About}
+use Rattle.label_pool.specs.declared.rule.Filling.{Filling}
+use Rattle.label_pool.specs.declared.rule.Linked.{Linked}
+use Rattle.label_pool.specs.declared.rule.Look.{Look}
+use Rattle.label_pool.specs.declared.rule.View.{View}
+use Rattle.label_pool.specs.Chains.{named, first_cell, IsChain, IsWithin, IsTailOf}
+use Rattle.label_pool.specs.Fillings.{linked_of, with_next, with_pos, with_dist}
+use Rattle.label_pool.specs.Layout.{head_at, next_at, pos_at, dist_at}
+use Rattle.label_pool.specs.Lawful.{Table, Sitter, IsSeated, IsChainOf, IsLawful, drawn_by, is_past, given, both, nothing}
+use Rattle.label_pool.specs.Seats.{IsMet}
+use Rattle.label_pool.specs.Steps.{Drew, FilledNext, FilledPos, FilledDist, Found, LinkedTo, Read, SeesNothing, TellsCell, IsFound, IsLink, with_drawn, with_look}
+use Rattle.label_pool.proofs.Cells.{chain-most}
+use Rattle.label_pool.proofs.Seats as seats
+use Rattle.label_pool.proofs.Steps as steps
+use Rattle.label_pool.proofs.Tails.{named-small, seen-still, tail-further, cell-at, all-at, all-behind}
+
+module _ {F : Type 0} (fact : F → ℕ → Entry → Type 0) (about : About F) (slots id : ℕ) where
+  module _ (me : Sitter F) (live : 1 ≤ me.0.seats) where
+    -- nothing changes
+    same_lawful : (s : Table F) (word : ℕ) → IsLawful fact about s → get_elem? s.views id ≡ some me.0 → IsLawful fact about (stepped s word (slice_index s.words word) id me.1 me.0 keeps)
+    same_lawful s word lawful at =
+        subst (λ (t : List ℕ × List (SeatView (View F))). IsLawful fact about (record { words = t.0; homes = s.homes; views = t.1 })) (λ k. (sym (set-get_or s.words word 0) k, sym (set_again s.views id me.0 at) k)) lawful
+
+    pub looks : Allows (IsLawful fact about) slots id me 0 (λ n. n) (looked SeesNothing (step slots 0 0 0 none) me)
+    looks s lawful _ at _ = (me.0, keeps, tt, same_lawful s 0 lawful at, (refl, is_one about.seats (IsSeated about) nothing s.views id me.0 lawful.seating at, tt))
+
+    -- a number is drawn
+    pub draws_one : me.0.knows.filling ≡ None → me.0.knows.past ≡ None → Allows (IsLawful fact about) slots id me 0 (λ n. (n + 1) % 2 ^ 64) (Drew (step slots 0 1 0 none) me)
+    draws_one empty on s lawful _ at _ =
+        let count = slice_index s.words 0 in
+        let most = drawing.counter_most drawn_by is_past 0 about.cells about.seats count s.views id me.0 lawful.drawn at in
+        let next : (count + 1) % 2 ^ 64 ≡ count + 1 = omega (arith, most, lawful.limits, lawful.seating.few) in (
+          knowing me.0 (with_drawn me.0.knows count),
+          keeps,
+          tt,
+          subst (λ x. IsLawful fact about (record { words = set s.words 0 x; homes = s.homes; views = set s.views id (knowing me.0 (with_drawn me.0.knows count)) })) (sym next) (steps.draws fact about s id me.0 at lawful live empty on),
+          (refl, refl),
+        )
+
+    module _ (f : Filling) (is : me.0.knows.filling ≡ Some f) where
+      -- a word of the open cell is filled
+      pub fills_next : (x : ℕ) → Allows (IsLawful fact about) slots id me (next_at me.0.knows.n f.cell) (λ _. x) (λ _. FilledNext (step slots (next_at me.0.knows.n f.cell) x 0 none) me x)
+      fills_next x s lawful _ at _ =
+          let n = (steps.seated_here fact about s id me.0 at lawful live).n in (
+            knowing me.0 (record me.0.knows { filling = Some (record f { next = Some x }) }),
+            keeps,
+            tt,
+            subst (λ k. IsLawful fact about (record { words = set s.words (next_at k f.cell) x; homes = s.homes; views = set s.views id (knowing me.0 (record me.0.knows { filling = Some (record f { next = Some x }) })) })) (sym n) (steps.fills_next fact about s id me.0 at lawful live f is x),
+            (ap (λ o. knowing me.0 (record me.0.knows { filling = with_next (Some x) o })) (sym is), refl),
+          )
+
+      pub fills_pos : (x : ℕ) → x < 2 ^ 32 → Allows (IsLawful fact about) slots id me (pos_at me.0.knows.n f.cell) (λ _. x) (λ _. FilledPos (step slots (pos_at me.0.knows.n f.cell) x 0 none) me x)
+      fills_pos x small s lawful _ at _ =
+          let n = (steps.seated_here fact about s id me.0 at lawful live).n in (
+            knowing me.0 (record me.0.knows { filling = Some (record f { pos = Some x }) }),
+            keeps,
+            tt,
+            subst (λ k. IsLawful fact about (record { words = set s.words (pos_at k f.cell) x; homes = s.homes; views = set s.views id (knowing me.0 (record me.0.knows { filling = Some (record f { pos = Some x }) })) })) (sym n) (steps.fills_pos fact about s id me.0 at lawful live f is x small),
+            (ap (λ o. knowing me.0 (record me.0.knows { filling = with_pos x o })) (sym is), refl),
+          )
+
+      pub fills_dist : (x : ℕ) → Allows (IsLawful fact about) slots id me (dist_at me.0.knows.n f.cell) (λ _. x) (λ _. FilledDist (step slots (dist_at me.0.knows.n f.cell) x 0 none) me x)
+      fills_dist x s lawful _ at _ =
+          let n = (steps.seated_here fact about s id me.0 at lawful live).n in (
+            knowing me.0 (record me.0.knows { filling = Some (record f { dist = Some x }) }),
+            keeps,
+            tt,
+            subst (λ k. IsLawful fact about (record { words = set s.words (dist_at k f.cell) x; homes = s.homes; views = set s.views id (knowing me.0 (record me.0.knows { filling = Some (record f { dist = Some x }) })) })) (sym n) (steps.fills_dist fact about s id me.0 at lawful live f is x),
+            (ap (λ o. knowing me.0 (record me.0.knows { filling = with_dist x o })) (sym is), refl),
+          )
+
+    module _ (v : ℕ) (node : IsNode me.0.knows.n v) where
+      node_here : (s : Table F) → IsLawful fact about s → get_elem? s.views id ≡ some me.0 → IsNode about.n v
+      node_here s lawful at = subst (λ n. IsNode n v) (steps.seated_here fact about s id me.0 at lawful live).n node
+
+      -- a head is loaded
+      pub finds_one : Allows (IsLawful fact about) slots id me (head_at v) (λ n. n) (Found fact (step slots (head_at v) 0 0 none) me)
+      finds_one s lawful _ at _ =
+          let seated = steps.seated_here fact about s id me.0 at lawful live in
+          let here = node_here s lawful at in
+          let chain = (lawful.chains v here).0 in
+          let old = (lawful.chains v here).1 in
+          let w = with_look me.0.knows v chain in (
+            knowing me.0 w,
+            keeps,
+            tt,
+            subst (λ words. IsLawful fact about (record { words = words; homes = s.homes; views = set s.views id (knowing me.0 w) })) (sym (set-get_or s.words (head_at v) 0)) (steps.finds fact about s id me.0 at lawful live v here),
+            found s v chain old seated lawful at,
+          )
+        where
+          found : (s : Table F) (v : ℕ) (chain : List Linked) → IsChainOf fact about s v chain → IsSeated about me.0.knows → IsLawful fact about s → get_elem? s.views id ≡ some me.0
+              → Found fact (step slots (head_at v) 0 0 none) me (slice_index s.words (head_at v)) (knowing me.0 (with_look me.0.knows v chain), me.1)
+          found s v chain old seated lawful at u same =
+              let is : u ≡ v = omega (arith, same) in
+              subst (λ x. IsFound fact me x (slice_index s.words (head_at v)) (knowing me.0 (with_look me.0.knows v chain), me.1)) (sym is)
+              (record {
+                found = chain;
+                first = old.head;
+                small = let small = named-small about.cells chain old.within in omega (arith, small, old.head, lawful.limits);
+                most = let most = chain-most about (slice_index s.words 0) s.views lawful.drawn v chain old.each_once in omega (arith, most, seated.cells);
+                within = subst (λ k. All (λ l. l.cell < k) chain) (sym seated.cells) (All-weaker (IsWithin about.cells) (λ l. l.cell < about.cells) (λ l w. w.cell) chain old.within);
+                met = subst (λ value. All (λ l. IsMet fact value v l.entry) chain) (sym seated.fact) old.met;
+                goes_on = seen-still v chain me.0.knows.marks (old.seen id me.0 at);
+                view = refl;
+                slots = refl;
+              })
+
+    -- a word of a cell is loaded
+    pub reads_one : (word : ℕ) → Allows (IsLawful fact about) slots id me word (λ n. n) (Read (step slots word 0 0 none) me)
+    reads_one word s lawful _ at _ = (me.0, keeps, tt, same_lawful s word lawful at, (refl, λ look l ls there tail. tells s word lawful at look l ls there tail))
+      where
+        tells : (s : Table F) (word : ℕ) → IsLawful fact about s → get_elem? s.views id ≡ some me.0 → (look : Look) (l : Linked) (ls : List Linked) → Contains me.0.knows.looks look → IsTailOf (l ∷ ls) look.found
+            → TellsCell me.0.knows.n word (slice_index s.words word) l ls
+        tells s word lawful at look l ls there tail =
+            let n = (steps.seated_here fact about s id me.0 at lawful live).n in
+            let node = All-contains (λ x. IsNode about.n x.node) me.0.knows.looks look (lawful.noded id me.0 at) there in
+            let chain = (lawful.chains look.node node).0 in
+            let old = (lawful.chains look.node node).1 in
+            let still = All-contains (λ x. x.node ≡ look.node → IsTailOf x.found chain) me.0.knows.looks look (old.found id me.0 at) there refl in
+            let whole = tail-further (l ∷ ls) look.found chain tail still in
+            let holds = cell-at about.n s.words whole.front l ls (subst (IsChain about.n s.words) whole.parted old.linked) in
+            let within = subst (All (IsWithin about.cells)) whole.parted old.within in
+            let here = all-at (IsWithin about.cells) whole.front l ls within in
+            let rest = named-small about.cells ls (all-behind (IsWithin about.cells) (whole.front ++ l ∷ []) ls (subst (All (IsWithin about.cells)) (whole.parted ∙ sym (append_assoc whole.front (l ∷ []) ls)) old.within)) in
+            record {
+              next = λ is.
+                  let same = ap (slice_index s.words) (is ∙ ap (λ k. next_at k l.cell) n) ∙ holds.next in
+                  (same, omega (arith, same, rest, lawful.limits));
+              pos = λ is.
+                  let same = ap (slice_index s.words) (is ∙ ap (λ k. pos_at k l.cell) n) ∙ holds.pos in
+                  (same, omega (arith, same, here.pos));
+              dist = λ is. ap (slice_index s.words) (is ∙ ap (λ k. dist_at k l.cell) n) ∙ holds.dist;
+            }
+
+    -- the open cell is linked where the head is the expected one
+    module _ (v : ℕ) (node : IsNode me.0.knows.n v) (cell p d head : ℕ) (is : me.0.knows.filling ≡ Some (record { cell = cell; next = Some head; pos = Some p; dist = Some d })) (met : IsMet fact me.0.knows.fact v (record { pos = p; dist = d })) where
+      abbrev Goes : Table F → ℕ → ℕ → Type 0
+      Goes s found x = (w : SeatView (View F)) × (a : Act (Unit {0})) × Valid s.homes me.1 a × IsLawful fact about (stepped s (head_at v) x id me.1 w a) × LinkedTo (step slots (head_at v) head (cell + 1) none) me found (w, carried_after me.1 a)
+
+      hits : (s : Table F) → IsLawful fact about s → get_elem? s.views id ≡ some me.0 → slice_index s.words (head_at v) ≡ head → Goes s (slice_index s.words (head_at v)) (cell + 1)
+      hits s lawful at same =
+          let seated = steps.seated_here fact about s id me.0 at lawful live in
+          let here = node_here v node s lawful at in
+          let chain = (lawful.chains v here).0 in
+          let old = (lawful.chains v here).1 in
+          let head_is : head ≡ named (first_cell chain) = sym same ∙ old.head in
+          let open_is = is ∙ ap (λ h. Some (record { cell = cell; next = Some h; pos = Some p; dist = Some d })) head_is in
+          let fact_here : fact about.fact v (record { pos = p; dist = d }) = subst (λ value. IsMet fact value v (record { pos = p; dist = d })) seated.fact met in (
+            knowing me.0 (steps.linked fact about s id me.0 at lawful live v here cell p d open_is fact_here),
+            keeps,
+            tt,
+            steps.links fact about s id me.0 at lawful live v here cell p d open_is fact_here,
+            λ u word.
+                let u_is : u ≡ v = omega (arith, word) in (
+                  λ _. subst (λ x. IsLink me x (knowing me.0 (steps.linked fact about s id me.0 at lawful live v here cell p d open_is fact_here), me.1)) (sym u_is)
+                      (record {
+                        behind = chain;
+                        goes_on = seen-still v chain me.0.knows.marks (old.seen id me.0 at);
+                        view = ap (λ (l : Linked). knowing me.0 (record me.0.knows { filling = None; puts = me.0.knows.puts ++ record { node = v; linked = l } ∷ []; marks = record { node = v; found = l ∷ chain } ∷ me.0.knows.marks })) (sym (ap linked_of is));
+                        slots = refl;
+                      }),
+                  λ no. absurd (no same),
+                ),
+          )
+
+      misses : (s : Table F) → IsLawful fact about s → get_elem? s.views id ≡ some me.0 → slice_index s.words (head_at v) ≢ head → Goes s (slice_index s.words (head_at v)) (slice_index s.words (head_at v))
+      misses s lawful at other = (me.0, keeps, tt, same_lawful s (head_at v) lawful at, λ u word. ((λ same. absurd (other same)), λ _. refl))
+
+      pub links_one : Allows (IsLawful fact about) slots id me (head_at v) (λ k. either (k == head) (cell + 1) k) (LinkedTo (step slots (head_at v) head (cell + 1) none) me)
+      links_one s lawful _ at _ = exchanged (slice_index s.words (head_at v)) head (cell + 1) (Goes s (slice_index s.words (head_at v))) (hits s lawful at) (misses s lawful at)
+
+  module _ (me : SeatView (View F)) where
+    pub splits_off : (give : ℕ) → give + 1 < me.seats → Splits (IsLawful fact about) id me (kept_of give me) (given_of given give me)
+    splits_off give enough s lawful at = seats.splits fact about s id me at lawful (omega (arith, enough)) give enough
+
+    pub joins_in : (other : ℕ) (u : SeatView (View F)) → 1 ≤ me.seats → me.knows.filling ≡ None → u.knows.filling ≡ None → Joins (IsLawful fact about) id me other u (joined both me u) (spent nothing)
+    joins_in other u live empty empty_too s lawful at apart there =
+        let before : get_elem? s.views other ≡ some u = ⊎_elim (λ (t : (other ≡ id) × (joined both me u ≡ u)). absurd (apart t.0)) (λ (t : (other ≢ id) × (get_elem? s.views other ≡ some u)). t.1) (at_set s.views id other (joined both me u) u there) in
+        seats.joins fact about s id me at lawful live other u apart before empty empty_too

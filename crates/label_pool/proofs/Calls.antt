@@ -1,0 +1,54 @@
+-- What one call did, as contracts see a seat before and after.
+use Rattle.std.proofs.Common.{◌≡◌, ℕ, ◌<◌, ◌≤◌, Bool, true, List, [], ◌∷◌, ◌++◌, All, length, refl, sym, ap, ◌∙◌, subst}
+use Rattle.std.specs.Prelude.{Option, Some, None, nat_lt, if◌then◌else◌}
+use Rattle.std.proofs.lemmas.Bool.{lt-ltb, le-ltb}
+use Rattle.atomic_table.specs.Seated.{TableId}
+use Rattle.walk_laws.specs.declared.entry.Entry.{Entry}
+use Rattle.table_seats.specs.declared.seat_view.SeatView.{SeatView}
+use Rattle.table_seats.specs.Seats.{knowing}
+use Rattle.label_pool.specs.declared.rule.Filling.{Filling}
+use Rattle.label_pool.specs.declared.rule.Linked.{Linked}
+use Rattle.label_pool.specs.declared.rule.View.{View}
+use Rattle.label_pool.specs.Chains.{IsTailOf, seen_of}
+use Rattle.label_pool.specs.Fillings.{drawn, linked_of, with_next}
+use Rattle.label_pool.specs.Seats.{PoolId, Seated, seated, IsMet, HasFound, HasPut}
+use Rattle.label_pool.specs.Steps.{with_drawn, with_filling, with_look, with_link}
+
+-- the name of a next cell that was stored before counts no more, and is no part of the entry
+pub next-again : (x y : Option ℕ) (o : Option Filling) → with_next x (with_next y o) ≡ with_next x o
+next-again x y None = refl
+next-again x y (Some f) = refl
+
+pub linked-next : (x : Option ℕ) (o : Option Filling) → linked_of (with_next x o) ≡ linked_of o
+linked-next x None = refl
+linked-next x (Some f) = refl
+
+module _ {F : Type 0} where
+  -- a number below the cells was drawn, or one past them
+  pub drew-cell : (v : View F) (number : ℕ) → number < v.cells → with_drawn v number ≡ with_filling v (Some (drawn number))
+  drew-cell v number below = ap (λ (b : Bool). if b then with_filling v (Some (drawn number)) else record v { past = Some number }) (lt-ltb number v.cells below)
+
+  pub drew-past : (v : View F) (number : ℕ) → v.cells ≤ number → with_drawn v number ≡ record v { past = Some number }
+  drew-past v number above = ap (λ (b : Bool). if b then with_filling v (Some (drawn number)) else record v { past = Some number }) (le-ltb number v.cells above)
+
+  module _ (id id' : TableId) (left : ℕ) (me after : SeatView (View F)) (before : Seated F) (is : seated id left me.knows ≡ before) (same : id' ≡ id) where
+    pub has-found : (fact : F → ℕ → Entry → Type 0) (pool : PoolId F) → before.pool ≡ pool → (v : ℕ) (found : List Linked) → IsTailOf (seen_of me.knows.marks v) found → All (λ l. IsMet fact me.knows.fact v l.entry) found → length found ≤ me.knows.cells
+        → after ≡ knowing me (with_look me.knows v found) → HasFound fact pool before v found (seated id' left after.knows)
+    has-found fact pool whose v found goes_on met most after_is = record {
+      goes_on = subst (λ marks. IsTailOf (seen_of marks v) found) (ap (λ b. b.marks) is) goes_on;
+      met = subst (λ value. All (λ l. IsMet fact value v l.entry) found) (ap (λ b. b.pool.fact) is ∙ ap (λ p. p.fact) whose) met;
+      most = subst (λ cells. length found ≤ cells) (ap (λ b. b.pool.cells) is ∙ ap (λ p. p.cells) whose) most;
+      after_is = (λ k. seated (same k) left (after_is k).knows) ∙ ap (λ (b : Seated F). record b { looks = b.looks ++ record { node = v; found = found } ∷ []; marks = record { node = v; found = found } ∷ b.marks }) is;
+    }
+
+    pub has-put : (v : ℕ) (e : Entry) (cell : ℕ) (behind : List Linked) → IsTailOf (seen_of me.knows.marks v) behind → (filling : Option Filling) → linked_of filling ≡ record { cell = cell; entry = e }
+        → after ≡ knowing me (with_link (with_filling me.knows filling) v behind) → HasPut before v e (seated id' left after.knows)
+    has-put v e cell behind goes_on filling linked after_is = record {
+      cell = cell;
+      behind = behind;
+      goes_on = subst (λ marks. IsTailOf (seen_of marks v) behind) (ap (λ b. b.marks) is) goes_on;
+      after_is =
+          (λ k. seated (same k) left (after_is k).knows)
+          ∙ ap (λ (l : Linked). seated id left (record me.knows { filling = None; puts = me.knows.puts ++ record { node = v; linked = l } ∷ []; marks = record { node = v; found = l ∷ behind } ∷ me.knows.marks })) linked
+          ∙ ap (λ (b : Seated F). record b { puts = b.puts ++ record { node = v; linked = record { cell = cell; entry = e } } ∷ []; marks = record { node = v; found = record { cell = cell; entry = e } ∷ behind } ∷ b.marks }) is;
+    }

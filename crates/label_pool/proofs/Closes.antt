@@ -1,0 +1,65 @@
+-- What the last seat gets where the pool is closed.
+use Rattle.std.proofs.Common.{◌≡◌, ◌≢◌, ◌^◌, ◌≤◌, ℕ, List, [], All, IsPermutation, length, map, refl, sym, ap, ◌∙◌, subst}
+use Rattle.std.specs.Prelude.{Option, Result, Ok, Err, IfOk, flat_map, slice_index}
+use Rattle.std.proofs.lemmas.List.Elements.{All-map, All-weaker}
+use Rattle.std.proofs.lemmas.List.Sorted.{IsPermutation-map}
+use mathlib.Core.Option.{some}
+use lib.ListN.{get_elem?}
+use Rattle.atomic_table.specs.Table.{Final, Seen}
+use Rattle.walk_laws.specs.declared.entry.Entry.{Entry}
+use Rattle.walk_laws.specs.Labelling.{label_row}
+use Rattle.hub_index.specs.Views.{IsNode}
+use Rattle.table_seats.specs.declared.seat_view.SeatView.{SeatView}
+use Rattle.table_seats.proofs.Permuted.{flat_map-one}
+use Rattle.table_seats.proofs.Seating.{others_empty, fixed_here}
+use Rattle.label_pool.specs.declared.rule.About.{About}
+use Rattle.label_pool.specs.declared.rule.Linked.{Linked}
+use Rattle.label_pool.specs.declared.rule.View.{View}
+use Rattle.label_pool.specs.Chains.{IsWritten, entries_of, entries_at, puts_at}
+use Rattle.label_pool.specs.Lawful.{Table, IsSeated, IsChainOf, IsLawful, nothing}
+use Rattle.label_pool.proofs.Cells.{chain-most}
+
+module _ {F : Type 0} (fact : F → ℕ → Entry → Type 0) (about : About F) (id : ℕ) (me : SeatView (View F)) (words : List ℕ) (slots : List (Unit {0})) (final : Final (Seen (IsLawful fact about) id me) words slots) where
+  lawful : IsLawful fact about final.0
+  lawful = final.1.0
+
+  chain_of : (v : ℕ) → IsNode about.n v → (chain : List Linked) × IsChainOf fact about final.0 v chain
+  chain_of v node = lawful.chains v node
+
+  -- each node has a chain among the words
+  pub written : (v : ℕ) → IsNode about.n v → (chain : List Linked) × IsWritten about.n about.cells words v chain
+  unfolding chain_of lawful
+  written v node =
+      let c = chain_of v node in (
+        c.0,
+        subst (λ ws. IsWritten about.n about.cells ws v c.0) final.2 (record {
+          head = c.1.head;
+          linked = c.1.linked;
+          within = c.1.within;
+          most = chain-most about (slice_index final.0.words 0) final.0.views lawful.drawn v c.0 c.1.each_once;
+        }),
+      )
+
+  module _ (rows : List (List Entry)) (row_is : (v : ℕ) (chain : List Linked) → IsNode about.n v → IsWritten about.n about.cells words v chain → label_row rows v ≡ entries_of chain) (v : ℕ) (node : IsNode about.n v) where
+    row : label_row rows v ≡ entries_of (written v node).0
+    row = row_is v (written v node).0 node (written v node).1
+
+    -- the last seat put all entries, and nothing else is there
+    pub puts : me.seats ≡ about.seats → IsPermutation (entries_at me.knows.puts v) (label_row rows v)
+    unfolding written chain_of lawful
+    puts last =
+        let c = chain_of v node in
+        let alone = flat_map-one (λ (seat : SeatView (View F)). puts_at seat.knows.puts v) final.0.views id me final.1.1
+        (λ j w apart there. ap (λ (k : View F). puts_at k.puts v) (others_empty about.seats (IsSeated about) nothing final.0.views id me lawful.seating final.1.1 last j w apart there)) in
+        subst (IsPermutation (entries_at me.knows.puts v)) (sym row)
+        (IsPermutation-map (λ (l : Linked). l.entry) (puts_at me.knows.puts v) c.0 (subst (λ ls. IsPermutation ls c.0) alone c.1.each_once))
+
+    -- and each meets the fact
+    pub met : All (λ e. fact about.fact v e) (label_row rows v)
+    unfolding written chain_of
+    met = subst (All (λ e. fact about.fact v e)) (sym row) (All-map (λ e. fact about.fact v e) (λ (l : Linked). l.entry) (chain_of v node).0 (chain_of v node).1.met)
+
+-- a fact of what is there where nothing failed
+pub if-ok : {X E : Type 0} (r : Result X E) (P Q : X → Type 0) → ((x : X) → P x → Q x) → IfOk r P → IfOk r Q
+if-ok (Ok x) P Q f p = f x p
+if-ok (Err e) P Q f p = tt

@@ -1,0 +1,11 @@
+mod Allowed
+mod Calls
+mod Cells
+mod Closes
+mod Puts
+mod Rests
+mod Seats
+mod Steps
+mod Tails
+mod Walked
+mod Words

@@ -1,0 +1,51 @@
+use Rattle.std.proofs.Common.{◌≡◌, ◌+◌, ℕ, List, All, IsPermutation, ap, ◌∙◌, sym, subst, arith}
+use Rattle.std.specs.Prelude.{Option}
+use Rattle.std.specs.Slots.{slots_items}
+use Rattle.walk_laws.specs.declared.entry.Entry.{Entry}
+use Rattle.walk_laws.specs.Labelling.{label_row}
+use Rattle.hub_index.specs.Views.{IsNode}
+use Rattle.label_pool.specs.declared.rule.Linked.{Linked}
+use Rattle.label_pool.specs.Chains.{IsWritten, entries_of, entries_at}
+use Rattle.label_pool.specs.Seats.{IsMet}
+use Rattle.label_pool.proofs.Closes.{written, puts, met, if-ok}
+use Rattle.label_pool.proofs.pool.Pool.close.Goals as goal
+use Rattle.label_pool.proofs.pool.Pool.close.Given
+use Rattle.label_pool.proofs.pool.Pool.close.Goals.{After-close_with-closed}
+
+pub gathered-rows-requires-clause-chains : goal.gathered-rows-requires-clause-chains
+gathered-rows-requires-clause-chains g c =
+    let i = c.self.invariant in
+    let words = slots_items c.close_with-closed.result.words in
+    subst (λ (t : ℕ × ℕ). (v : ℕ) → IsNode t.0 v → (chain : List Linked) × IsWritten t.0 t.1 words v chain) (λ k. (i.2 k, i.3 k))
+    (written g.F.LinkFact.fact c.self.inside.table.shared.key c.seat.inside.seat.id c.seat.inside.seat.me.0 words (slots_items c.close_with-closed.result.slots) c.close_with-closed.ensures.values.2)
+
+-- rows of the chains that are written there
+abbrev AreRows : (n cells : ℕ) (words : List ℕ) (rows : List (List Entry)) → Type 0
+AreRows n cells words rows = (v : ℕ) (chain : List Linked) → IsNode n v → IsWritten n cells words v chain → label_row rows v ≡ entries_of chain
+
+rows_of : (g : Given.Over) (c : After-close_with-closed g) (rows : List (List Entry)) → AreRows c.self.inside.n c.self.inside.cells (slots_items c.close_with-closed.result.words) rows
+    → AreRows c.self.inside.table.shared.key.n c.self.inside.table.shared.key.cells (slots_items c.close_with-closed.result.words) rows
+rows_of g c rows are = let i = c.self.invariant in subst (λ (t : ℕ × ℕ). AreRows t.0 t.1 (slots_items c.close_with-closed.result.words) rows) (λ k. (sym i.2 k, sym i.3 k)) are
+
+node_of : (g : Given.Over) (c : After-close_with-closed g) (v : ℕ) → IsNode c.args.self.n v → IsNode c.self.inside.table.shared.key.n v
+node_of g c v node = subst (λ n. IsNode n v) (sym (ap (λ d. d.n) c.self.view_is)) node
+
+pub returns-clause-puts : goal.returns-clause-puts
+returns-clause-puts g c =
+    let before = (goal.at.returns-clause-puts g c).After-close_with-closed in
+    let left = ap (λ d. d.left + 1) c.seat.view_is ∙ c.requires.last ∙ sym (ap (λ d. d.seats) c.self.view_is) in
+    let last = c.seat.invariant.0 ∙ left in
+    if-ok c.gathered-rows.result _ _
+    (λ rows are v node. subst (λ ps. IsPermutation (entries_at ps v) (label_row rows v)) (ap (λ d. d.puts) c.seat.view_is)
+    (puts g.F.LinkFact.fact c.self.inside.table.shared.key c.seat.inside.seat.id c.seat.inside.seat.me.0 (slots_items c.close_with-closed.result.words) (slots_items c.close_with-closed.result.slots) c.close_with-closed.ensures.values.2
+    rows (rows_of g before rows are) v (node_of g before v node) last))
+    c.gathered-rows.ensures.rows
+
+pub returns-clause-fact : goal.returns-clause-fact
+returns-clause-fact g c =
+    let before = (goal.at.returns-clause-fact g c).After-close_with-closed in
+    if-ok c.gathered-rows.result _ _
+    (λ rows are v node. subst (λ value. All (IsMet g.F.LinkFact.fact value v) (label_row rows v)) (ap (λ d. d.fact) c.self.view_is)
+    (met g.F.LinkFact.fact c.self.inside.table.shared.key c.seat.inside.seat.id c.seat.inside.seat.me.0 (slots_items c.close_with-closed.result.words) (slots_items c.close_with-closed.result.slots) c.close_with-closed.ensures.values.2
+    rows (rows_of g before rows are) v (node_of g before v node)))
+    c.gathered-rows.ensures.rows

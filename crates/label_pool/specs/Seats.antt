@@ -1,0 +1,78 @@
+-- What contracts see of pools and of their seats.
+use Rattle.std.specs.Prelude.{◌≡◌, ℕ, ◌<◌, ◌≤◌, Option, Some, None, List, [], ◌∷◌, ◌++◌, All, length}
+use Rattle.atomic_table.specs.Seated.{TableId}
+use Rattle.walk_laws.specs.declared.entry.Entry.{Entry}
+use Rattle.label_pool.specs.declared.pool_put.PoolPut.{PoolPut}
+use Rattle.label_pool.specs.declared.pool_put.PoolPut.TheVariants.{Put as IsPut, Full as IsFull}
+use Rattle.label_pool.specs.declared.rule.Linked.{Linked}
+use Rattle.label_pool.specs.declared.rule.Look.{Look}
+use Rattle.label_pool.specs.declared.rule.Put.{Put}
+use Rattle.label_pool.specs.declared.rule.View.{View}
+use Rattle.label_pool.specs.Chains.{IsTailOf, seen_of}
+
+-- A pool: its table, which no others have, how many nodes, cells and seats there are, and the value of the fact that its entries meet
+pub record PoolId (F : Type 0) : Type 0 where
+  pub table : TableId
+  pub n : ℕ
+  pub cells : ℕ
+  pub seats : ℕ
+  pub fact : Option F
+
+-- A seat: whose it is, how many seats may still be split from it, what it put and what it found, both with those of the seats that were joined into it, what it saw by itself, newest first, and the number past the cells that it drew
+pub record Seated (F : Type 0) : Type 0 where
+  pub pool : PoolId F
+  pub left : ℕ
+  pub puts : List Put
+  pub looks : List Look
+  pub marks : List Look
+  pub past : Option ℕ
+
+module _ {F : Type 0} where
+  -- the pool that a seat knows, of a table
+  abbrev pub pool_id : TableId → View F → PoolId F
+  pool_id id v = record { table = id; n = v.n; cells = v.cells; seats = v.all; fact = v.fact }
+
+  abbrev pub seated : TableId → ℕ → View F → Seated F
+  seated id left v = record { pool = pool_id id v; left = left; puts = v.puts; looks = v.looks; marks = v.marks; past = v.past }
+
+  -- the cells that a seat has found are cells of its pool
+  abbrev pub AreWithin : View F → Type 0
+  AreWithin v = All (λ look. All (λ l. l.cell < v.cells) look.found) v.looks
+
+  -- the seat is of this pool
+  abbrev pub IsSeatOf : PoolId F → Seated F → Type 0
+  IsSeatOf pool seat = seat.pool ≡ pool
+
+  -- the entry of the node v meets the fact at its value
+  abbrev pub IsMet : (F → ℕ → Entry → Type 0) → Option F → ℕ → Entry → Type 0
+  IsMet fact None v e = ⊥
+  IsMet fact (Some value) v e = fact value v e
+
+  -- The seat put the entry at the node v: the chain that it saw by that has its cell in front, then what others put meanwhile, and what it had seen before at the end
+  pub record HasPut (before : Seated F) (v : ℕ) (e : Entry) (after : Seated F) : Type 0 where
+    pub cell : ℕ
+    pub behind : List Linked
+    pub goes_on : IsTailOf (seen_of before.marks v) behind
+    pub after_is : after ≡ record before { puts = before.puts ++ record { node = v; linked = record { cell = cell; entry = e } } ∷ []; marks = record { node = v; found = record { cell = cell; entry = e } ∷ behind } ∷ before.marks }
+
+  -- The seat found this chain at the node v: what it had seen before is its end, all its entries meet the fact, and it has no more cells than the pool
+  pub record HasFound (fact : F → ℕ → Entry → Type 0) (pool : PoolId F) (before : Seated F) (v : ℕ) (found : List Linked) (after : Seated F) : Type 0 where
+    pub goes_on : IsTailOf (seen_of before.marks v) found
+    pub met : All (λ l. IsMet fact pool.fact v l.entry) found
+    pub most : length found ≤ pool.cells
+    pub after_is : after ≡ record before { looks = before.looks ++ record { node = v; found = found } ∷ []; marks = record { node = v; found = found } ∷ before.marks }
+
+-- where the entry was put, the fact holds
+abbrev pub IfPut : PoolPut → Type 0 → Type 0
+IfPut IsPut P = P
+IfPut (IsFull cell cells) P = Unit {0}
+
+-- where no cell was left, the fact holds of the number that was drawn and of how many cells there are
+abbrev pub IfFull : PoolPut → (ℕ → ℕ → Type 0) → Type 0
+IfFull IsPut P = Unit {0}
+IfFull (IsFull cell cells) P = P cell cells
+
+-- the number past the cells, of two seats
+abbrev pub first_some : Option ℕ → Option ℕ → Option ℕ
+first_some None other = other
+first_some (Some past) other = Some past

@@ -1,0 +1,88 @@
+-- What each step of a seat at a pool tells.
+use Rattle.std.specs.Prelude.{◌≡◌, ℕ, ◌^◌, ◌<◌, ◌≤◌, Option, Some, None, List, [], ◌∷◌, ◌++◌, All, Contains, length, nat_lt, if◌then◌else◌}
+use Rattle.atomic_table.specs.Table.{Step}
+use Rattle.walk_laws.specs.declared.entry.Entry.{Entry}
+use Rattle.table_seats.specs.Seats.{knowing}
+use Rattle.label_pool.specs.declared.rule.Filling.{Filling}
+use Rattle.label_pool.specs.declared.rule.Linked.{Linked}
+use Rattle.label_pool.specs.declared.rule.Look.{Look}
+use Rattle.label_pool.specs.declared.rule.View.{View}
+use Rattle.label_pool.specs.Chains.{named, first_cell, IsTailOf, seen_of}
+use Rattle.label_pool.specs.Fillings.{drawn, linked_of, with_next, with_pos, with_dist}
+use Rattle.label_pool.specs.Layout.{head_at, next_at, pos_at, dist_at}
+use Rattle.label_pool.specs.Lawful.{Sitter}
+use Rattle.label_pool.specs.Seats.{IsMet}
+
+-- what the load of a word tells of a cell in a chain that was found
+pub record TellsCell (n word number : ℕ) (l : Linked) (ls : List Linked) : Type 0 where
+  pub next : word ≡ next_at n l.cell → (number ≡ named (first_cell ls)) × (number ≤ 2 ^ 31)
+  pub pos : word ≡ pos_at n l.cell → (number ≡ l.entry.pos) × (number < 2 ^ 32)
+  pub dist : word ≡ dist_at n l.cell → number ≡ l.entry.dist
+
+module _ {F : Type 0} where
+  -- what a seat knows that drew a number: that cell is open, or the number is past the cells
+  abbrev pub with_drawn : View F → ℕ → View F
+  with_drawn v number = if nat_lt number v.cells then record v { filling = Some (drawn number) } else record v { past = Some number }
+
+  -- what a draw tells
+  abbrev pub Drew : Step (Unit {0}) → Sitter F → ℕ → Sitter F → Type 0
+  Drew step me number after = (after.0 ≡ knowing me.0 (with_drawn me.0.knows number)) × (after.1 ≡ me.1)
+
+  -- what a seat knows whose open cell is this
+  abbrev pub with_filling : View F → Option Filling → View F
+  with_filling v filling = record v { filling = filling }
+
+  -- what a fill tells
+  abbrev pub Fills : (Option Filling → Option Filling) → Sitter F → Sitter F → Type 0
+  Fills with_it me after = (after.0 ≡ knowing me.0 (with_filling me.0.knows (with_it me.0.knows.filling))) × (after.1 ≡ me.1)
+
+  abbrev pub FilledNext : Step (Unit {0}) → Sitter F → ℕ → Sitter F → Type 0
+  FilledNext step me number after = Fills (with_next (Some step.first)) me after
+
+  abbrev pub FilledPos : Step (Unit {0}) → Sitter F → ℕ → Sitter F → Type 0
+  FilledPos step me number after = Fills (with_pos step.first) me after
+
+  abbrev pub FilledDist : Step (Unit {0}) → Sitter F → ℕ → Sitter F → Type 0
+  FilledDist step me number after = Fills (with_dist step.first) me after
+
+  -- what a seat knows that found this chain
+  abbrev pub with_look : View F → ℕ → List Linked → View F
+  with_look v node found = record v { looks = v.looks ++ record { node = node; found = found } ∷ []; marks = record { node = node; found = found } ∷ v.marks }
+
+  -- What the load of a head tells: the chain that it names, whose end is what the seat had seen before
+  pub record IsFound (fact : F → ℕ → Entry → Type 0) (me : Sitter F) (v number : ℕ) (after : Sitter F) : Type 0 where
+    pub found : List Linked
+    pub first : number ≡ named (first_cell found)
+    pub small : number ≤ 2 ^ 31
+    pub most : length found ≤ me.0.knows.cells
+    pub within : All (λ l. l.cell < me.0.knows.cells) found
+    pub met : All (λ l. IsMet fact me.0.knows.fact v l.entry) found
+    pub goes_on : IsTailOf (seen_of me.0.knows.marks v) found
+    pub view : after.0 ≡ knowing me.0 (with_look me.0.knows v found)
+    pub slots : after.1 ≡ me.1
+
+  abbrev pub Found : (F → ℕ → Entry → Type 0) → Step (Unit {0}) → Sitter F → ℕ → Sitter F → Type 0
+  Found fact step me number after = (v : ℕ) → step.word ≡ head_at v → IsFound fact me v number after
+
+  -- what a seat knows that linked its open cell in front of this chain
+  abbrev pub with_link : View F → ℕ → List Linked → View F
+  with_link v node behind = record v { filling = None; puts = v.puts ++ record { node = node; linked = linked_of v.filling } ∷ []; marks = record { node = node; found = linked_of v.filling ∷ behind } ∷ v.marks }
+
+  -- what a link tells where the head was the one that was expected
+  pub record IsLink (me : Sitter F) (v : ℕ) (after : Sitter F) : Type 0 where
+    pub behind : List Linked
+    pub goes_on : IsTailOf (seen_of me.0.knows.marks v) behind
+    pub view : after.0 ≡ knowing me.0 (with_link me.0.knows v behind)
+    pub slots : after.1 ≡ me.1
+
+  -- where it was another, nothing has changed
+  abbrev pub LinkedTo : Step (Unit {0}) → Sitter F → ℕ → Sitter F → Type 0
+  LinkedTo step me number after = (v : ℕ) → step.word ≡ head_at v → (number ≡ step.first → IsLink me v after) × (¬ (number ≡ step.first) → after ≡ me)
+
+  -- a load changes nothing
+  abbrev pub Read : Step (Unit {0}) → Sitter F → ℕ → Sitter F → Type 0
+  Read step me number after = (after ≡ me) × ((look : Look) (l : Linked) (ls : List Linked) → Contains me.0.knows.looks look → IsTailOf (l ∷ ls) look.found → TellsCell me.0.knows.n step.word number l ls)
+
+  -- a look shows nothing of what a seat knows
+  abbrev pub SeesNothing : View F → Type 0
+  SeesNothing v = Unit {0}
