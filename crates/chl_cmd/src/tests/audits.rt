@@ -6,16 +6,24 @@ const AUDIT: &str = "chl audit --graph g --order o --index x";
 /// A row of an index: positions with distances.
 pub type Row = &'static [(u32, u64)];
 
+/// A count, as an index file has it.
+fn count_bytes(count: usize) -> [u8; 4] {
+    match u32::try_from(count) {
+        Ok(count) => count.to_be_bytes(),
+        Err(_) => [0; 4],
+    }
+}
+
 /// The bytes of an index file.
 pub fn index_file(alloc: Global, nodes: &[u32], rows: &[Row]) -> Result<Vec<u8>, AllocError> {
     let mut bytes = Vec::new(alloc);
     bytes.extend_from_slice(b"CHLABEL\x01")?;
-    bytes.extend_from_slice(&(rows.len() as u32).to_be_bytes())?;
+    bytes.extend_from_slice(&count_bytes(rows.len()))?;
     for node in nodes {
         bytes.extend_from_slice(&node.to_be_bytes())?;
     }
     for row in rows {
-        bytes.extend_from_slice(&(row.len() as u32).to_be_bytes())?;
+        bytes.extend_from_slice(&count_bytes(row.len()))?;
         for (pos, dist) in row.iter() {
             bytes.extend_from_slice(&pos.to_be_bytes())?;
             bytes.extend_from_slice(&dist.to_be_bytes())?;
