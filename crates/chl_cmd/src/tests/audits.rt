@@ -187,6 +187,7 @@ fn a_built_index_is_the_same(rt: HostRuntime) -> Result<(), Fail> {
     expect(&rt, &mut desk, AUDIT, "chl: done", "same\n")?;
     let mut desk = desk_of(rt.alloc(), 4, &[(Call::Say, 2)], SQUARE, "1\n1\n")?;
     let bytes = index_file(rt.alloc(), &ROUND, &SQUARE_ROWS)?;
+    assert!(rt; 150 < bytes.len());
     desk.put_file("x", &bytes[..150])?;
     let line = "chl: order line 2: repeated node 1";
     expect(&rt, &mut desk, AUDIT, line, "")?;
