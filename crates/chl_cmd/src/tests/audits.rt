@@ -6,21 +6,36 @@ const AUDIT: &str = "chl audit --graph g --order o --index x";
 /// A row of an index: positions with distances.
 pub type Row = &'static [(u32, u64)];
 
+/// A count, as an index file has it.
+fn count_bytes(count: usize) -> [u8; 4] {
+    match u32::try_from(count) {
+        Ok(count) => count.to_be_bytes(),
+        Err(_) => [0; 4],
+    }
+}
+
 /// The bytes of an index file.
 pub fn index_file(alloc: Global, nodes: &[u32], rows: &[Row]) -> Result<Vec<u8>, AllocError> {
     let mut bytes = Vec::new(alloc);
     bytes.extend_from_slice(b"CHLABEL\x01")?;
-    bytes.extend_from_slice(&(rows.len() as u32).to_be_bytes())?;
+    bytes.extend_from_slice(&count_bytes(rows.len()))?;
     for node in nodes {
         bytes.extend_from_slice(&node.to_be_bytes())?;
     }
     for row in rows {
-        bytes.extend_from_slice(&(row.len() as u32).to_be_bytes())?;
+        bytes.extend_from_slice(&count_bytes(row.len()))?;
         for (pos, dist) in row.iter() {
             bytes.extend_from_slice(&pos.to_be_bytes())?;
             bytes.extend_from_slice(&dist.to_be_bytes())?;
         }
     }
+    Ok(bytes)
+}
+
+/// The first 150 of the 152 bytes of the square's index file.
+pub fn index_front(alloc: Global) -> Result<Vec<u8>, AllocError> {
+    let mut bytes = index_file(alloc, &ROUND, &SQUARE_ROWS)?;
+    bytes.truncate(150);
     Ok(bytes)
 }
 
@@ -179,7 +194,7 @@ fn a_built_index_is_the_same(rt: HostRuntime) -> Result<(), Fail> {
     expect(&rt, &mut desk, AUDIT, "chl: done", "same\n")?;
     let mut desk = desk_of(rt.alloc(), 4, &[(Call::Say, 2)], SQUARE, "1\n1\n")?;
     let bytes = index_file(rt.alloc(), &ROUND, &SQUARE_ROWS)?;
-    desk.put_file("x", &bytes[..150])?;
+    desk.put_file("x", &index_front(rt.alloc())?)?;
     let line = "chl: order line 2: repeated node 1";
     expect(&rt, &mut desk, AUDIT, line, "")?;
     desk.put_file("o", b"2\n1\n3\n4\n")?;
