@@ -10,7 +10,7 @@ use Rattle.walk_laws.specs.declared.entry.Entry.{Entry}
 use Rattle.walk_laws.specs.Labelling.{label_row}
 use Rattle.hub_index.specs.Views.{IsNode}
 use Rattle.table_seats.specs.declared.seat_view.SeatView.{SeatView}
-use Rattle.table_seats.proofs.Permuted.{flat_map-one}
+use Rattle.label_pool.proofs.Permuted.{flat_map-one}
 use Rattle.table_seats.proofs.Seating.{others_empty, fixed_here}
 use Rattle.label_pool.specs.declared.rule.About.{About}
 use Rattle.label_pool.specs.declared.rule.Linked.{Linked}

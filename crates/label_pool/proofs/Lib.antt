@@ -2,6 +2,7 @@ mod Allowed
 mod Calls
 mod Cells
 mod Closes
+mod Permuted
 mod Puts
 mod Rests
 mod Seats

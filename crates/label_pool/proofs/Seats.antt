@@ -13,7 +13,7 @@ use Rattle.table_seats.specs.declared.seat_view.SeatView.{SeatView}
 use Rattle.table_seats.specs.Draws.{IsDrawn}
 use Rattle.table_seats.specs.Seats.{kept_of, given_of, joined, spent}
 use Rattle.table_seats.proofs.EachSeat.{Each-one, Each-split, Each-join}
-use Rattle.table_seats.proofs.Permuted.{flat_map-same, flat_map-none, flat_map-join}
+use Rattle.label_pool.proofs.Permuted.{flat_map-same, flat_map-none, flat_map-join}
 use Rattle.table_seats.proofs.Seating as seating
 use Rattle.table_seats.proofs.Drawing as drawing
 use Rattle.label_pool.specs.declared.rule.About.{About}

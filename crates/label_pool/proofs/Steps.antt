@@ -17,7 +17,7 @@ use Rattle.table_seats.specs.declared.seat_view.SeatView.{SeatView}
 use Rattle.table_seats.specs.Seats.{Each, knowing}
 use Rattle.table_seats.specs.Draws.{IsDrawn}
 use Rattle.table_seats.proofs.EachSeat.{Each-set}
-use Rattle.table_seats.proofs.Permuted.{flat_map-same, flat_map-more}
+use Rattle.label_pool.proofs.Permuted.{flat_map-same, flat_map-more}
 use Rattle.table_seats.proofs.Seating as seating
 use Rattle.table_seats.proofs.Drawing as drawing
 use Rattle.label_pool.specs.declared.rule.About.{About}

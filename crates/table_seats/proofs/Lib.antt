@@ -1,5 +1,4 @@
 pub mod Counting
 pub mod Drawing
 pub mod EachSeat
-pub mod Permuted
 pub mod Seating
