@@ -1,3 +1,8 @@
+ghost use Rattle.std.specs.Prelude.{◌≡◌, ◌+◌, ◌^◌, ◌<◌, ◌≤◌, Some, None, IfOk};
+ghost use Rattle.hub_index.specs.Views.{IsNode};
+ghost use Rattle.label_pool.specs.declared.tests.Anything.{Anything as AnyFact};
+ghost use Rattle.label_pool.specs.Seats.{IsSeatOf};
+
 use crate::{LinkFact, Pool, PoolPut, PoolSeat};
 use std::alloc::{AllocError, Global};
 use std::sync::Wait;
@@ -27,7 +32,11 @@ fn walked(
     pool: &Pool<Anything>,
     seat: &mut PoolSeat<Anything>,
     v: u32,
-) -> Result<Vec<Entry>, AllocError> {
+) -> Result<Vec<Entry>, AllocError>
+    requires seat { IsSeatOf pool.now seat.old }
+    requires node { IsNode pool.now.n v }
+    ensures seat { (IsSeatOf pool.now seat.new) × (seat.new.left ≡ seat.old.left) × (seat.new.past ≡ seat.old.past) }
+{
     let mut entries = Vec::new(alloc);
     let mut walk = pool.visit(seat, v);
     for _ in 0..u64::MAX {
@@ -113,9 +122,18 @@ fn put_each(
     mut seat: PoolSeat<Anything>,
     first: u32,
     count: u32,
-) -> PoolSeat<Anything> {
+) -> PoolSeat<Anything>
+    requires seat { IsSeatOf pool.now seat }
+    requires past { seat.past ≡ None }
+    requires nodes { 2 ≤ pool.now.n }
+    requires fact { (value : AnyFact) × (pool.now.fact ≡ Some value) }
+    requires numbers { first + count < 2 ^ 32 }
+    ensures seat { IsSeatOf pool.now result × (result.left ≡ seat.left) }
+{
     for k in 0..count {
-        pool.put(rt, &mut seat, k % 2 + 1, entry(first + k));
+        if let PoolPut::Full { .. } = pool.put(rt, &mut seat, k % 2 + 1, entry(first + k)) {
+            break;
+        }
     }
     seat
 }
@@ -155,11 +173,9 @@ fn many_seats_come_together_again(rt: HostRuntime) -> Result<(), Fail> {
         seats.push(pool.split(&mut first, 0))?;
     }
     assert_eq!(rt; first.left(), 0);
-    let mut number = 0;
-    while let Some(mut seat) = seats.pop() {
-        assert_eq!(rt; pool.put(&rt, &mut seat, 1, entry(number)), PoolPut::Put);
+    for (number, mut seat) in seats.into_iter().enumerate() {
+        assert_eq!(rt; pool.put(&rt, &mut seat, 1, entry(number as u32)), PoolPut::Put);
         pool.join(&mut first, seat);
-        number += 1;
     }
     assert_eq!(rt; first.left(), 63);
     assert_eq!(rt; pool.close(first)?.row(1).len(), 63);
