@@ -1,6 +1,6 @@
 -- A cell that is drawn and not linked stands in no chain, and is open for one seat alone. A chain has no more cells than there are.
-use Rattle.std.proofs.Common.{◌≡◌, ◌≢◌, ℕ, ◌+◌, ◌-◌, ◌<◌, ◌≤◌, Bool, true, false, cond, eqb, eq-eqb, eqb-true, List, [], ◌∷◌, ◌++◌, All, IsPermutation, length, min, refl, sym, ap, ◌∙◌, arith}
-use Rattle.std.specs.Prelude.{Option, Some, None, map, filter, nat_eq, if◌then◌else◌}
+use Rattle.std.proofs.Common.{◌≡◌, ◌≢◌, ℕ, ◌+◌, ◌-◌, ◌≤◌, Bool, true, false, cond, eq-eqb, eqb-true, List, [], ◌∷◌, All, IsPermutation, length, min, refl, sym, ap, ◌∙◌, arith}
+use Rattle.std.specs.Prelude.{Some, map, filter, nat_eq}
 use Rattle.std.specs.List.{flat_map, sum_by}
 use Rattle.std.proofs.lemmas.List.{length-append, length-map, map-append}
 use Rattle.std.proofs.lemmas.List.FromFn.{length-range_with_len}
@@ -12,7 +12,6 @@ use mathlib.Core.Option.{some}
 use lib.ListN.{get_elem?}
 use Rattle.table_seats.specs.declared.seat_view.SeatView.{SeatView}
 use Rattle.table_seats.specs.Draws.{IsDrawn}
-use Rattle.table_seats.specs.Numbers.{numbers}
 use Rattle.table_seats.proofs.Counting.{times, once, times-cons, times-append, times-flat_map, times-permutation, times-numbers}
 use Rattle.table_seats.proofs.EachSeat.{one_within, two_within}
 use Rattle.label_pool.specs.declared.rule.About.{About}

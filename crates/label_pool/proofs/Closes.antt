@@ -1,22 +1,20 @@
 -- What the last seat gets where the pool is closed.
-use Rattle.std.proofs.Common.{◌≡◌, ◌≢◌, ◌^◌, ◌≤◌, ℕ, List, [], All, IsPermutation, length, map, refl, sym, ap, ◌∙◌, subst}
-use Rattle.std.specs.Prelude.{Option, Result, Ok, Err, IfOk, flat_map, slice_index}
-use Rattle.std.proofs.lemmas.List.Elements.{All-map, All-weaker}
+use Rattle.std.proofs.Common.{◌≡◌, ℕ, List, All, IsPermutation, sym, ap, subst}
+use Rattle.std.specs.Prelude.{Result, Ok, Err, IfOk, slice_index}
+use Rattle.std.proofs.lemmas.List.Elements.{All-map}
 use Rattle.std.proofs.lemmas.List.Sorted.{IsPermutation-map}
-use mathlib.Core.Option.{some}
-use lib.ListN.{get_elem?}
 use Rattle.atomic_table.specs.Table.{Final, Seen}
 use Rattle.walk_laws.specs.declared.entry.Entry.{Entry}
 use Rattle.walk_laws.specs.Labelling.{label_row}
 use Rattle.hub_index.specs.Views.{IsNode}
 use Rattle.table_seats.specs.declared.seat_view.SeatView.{SeatView}
 use Rattle.label_pool.proofs.Permuted.{flat_map-one}
-use Rattle.table_seats.proofs.Seating.{others_empty, fixed_here}
+use Rattle.table_seats.proofs.Seating.{others_empty}
 use Rattle.label_pool.specs.declared.rule.About.{About}
 use Rattle.label_pool.specs.declared.rule.Linked.{Linked}
 use Rattle.label_pool.specs.declared.rule.View.{View}
 use Rattle.label_pool.specs.Chains.{IsWritten, entries_of, entries_at, puts_at}
-use Rattle.label_pool.specs.Lawful.{Table, IsSeated, IsChainOf, IsLawful, nothing}
+use Rattle.label_pool.specs.Lawful.{IsSeated, IsChainOf, IsLawful, nothing}
 use Rattle.label_pool.proofs.Cells.{chain-most}
 
 module _ {F : Type 0} (fact : F → ℕ → Entry → Type 0) (about : About F) (id : ℕ) (me : SeatView (View F)) (words : List ℕ) (slots : List (Unit {0})) (final : Final (Seen (IsLawful fact about) id me) words slots) where

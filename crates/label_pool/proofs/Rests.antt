@@ -1,11 +1,11 @@
 -- A walk that stands at a cell: what is left of it, and what it gives next.
-use Rattle.std.proofs.Common.{◌≡◌, ◌<◌, ◌≤◌, ◌^◌, ◌+◌, ℕ, List, [], ◌∷◌, ◌++◌, All, sym, ap, ◌∙◌, subst, refl, arith}
+use Rattle.std.proofs.Common.{◌≡◌, ◌<◌, ℕ, List, [], ◌∷◌, All, sym, ap, subst, refl}
 use Rattle.std.specs.Prelude.{Option, Some, None, Contains}
 use Rattle.std.proofs.lemmas.List.Elements.{All-contains}
 use Rattle.walk_laws.specs.declared.entry.Entry.{Entry}
 use Rattle.label_pool.specs.declared.rule.Linked.{Linked}
 use Rattle.label_pool.specs.declared.rule.Look.{Look}
-use Rattle.label_pool.specs.Chains.{named, first_cell, IsTailOf, IsRest, IsNext}
+use Rattle.label_pool.specs.Chains.{first_cell, IsTailOf, IsRest, IsNext}
 use Rattle.label_pool.proofs.Tails.{tail-rest, all-at}
 
 -- the cell stands in a chain that was found

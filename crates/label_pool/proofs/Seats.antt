@@ -1,6 +1,6 @@
 -- A new pool keeps the rule, and so does a split and a join of its seats.
-use Rattle.std.proofs.Common.{◌≡◌, ◌≢◌, ℕ, ◌+◌, ◌^◌, ◌<◌, ◌≤◌, Bool, true, false, ◌||◌, List, [], ◌∷◌, ◌++◌, All, IsPermutation, length, map, set, replicate, refl, sym, ap, ◌∙◌, subst, arith}
-use Rattle.std.specs.Prelude.{Option, Some, None, flat_map, slice_index}
+use Rattle.std.proofs.Common.{◌≡◌, ◌≢◌, ℕ, ◌+◌, ◌^◌, ◌<◌, ◌≤◌, ◌||◌, List, [], ◌∷◌, ◌++◌, All, IsPermutation, map, set, replicate, refl, sym, ap, ◌∙◌, subst, arith}
+use Rattle.std.specs.Prelude.{Option, Some, None, slice_index}
 use Rattle.std.proofs.lemmas.List.{append-nil, map-append, get_or-replicate, length-replicate}
 use Rattle.std.proofs.lemmas.List.Elements.{All-nil, All-append}
 use Rattle.std.proofs.lemmas.List.Sorted.{IsPermutation-refl, IsPermutation-trans}
@@ -17,7 +17,6 @@ use Rattle.label_pool.proofs.Permuted.{flat_map-same, flat_map-none, flat_map-jo
 use Rattle.table_seats.proofs.Seating as seating
 use Rattle.table_seats.proofs.Drawing as drawing
 use Rattle.label_pool.specs.declared.rule.About.{About}
-use Rattle.label_pool.specs.declared.rule.Look.{Look}
 use Rattle.label_pool.specs.declared.rule.Linked.{Linked}
 use Rattle.label_pool.specs.declared.rule.Put.{Put}
 use Rattle.label_pool.specs.declared.rule.View.{View}

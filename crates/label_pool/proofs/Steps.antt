@@ -1,6 +1,6 @@
 -- Each step of one seat keeps the rule.
 use Rattle.std.proofs.Common.{◌≡◌, ◌≢◌, ℕ, ◌+◌, ◌*◌, ◌^◌, ◌<◌, ◌≤◌, Bool, true, false, List, [], ◌∷◌, ◌++◌, ⊎_elim, All, IsPermutation, length, set, map, get_or-set_other, get_or-set_same, refl, sym, ap, ◌∙◌, subst, arith}
-use Rattle.std.specs.Prelude.{Option, Some, None, flat_map, nat_lt, slice_index, if◌then◌else◌}
+use Rattle.std.specs.Prelude.{Some, None, nat_lt, slice_index, if◌then◌else◌}
 use Rattle.std.proofs.Math.ListN.{length-set}
 use Rattle.std.proofs.lemmas.Bool.{lt-ltb, le-ltb}
 use Rattle.std.proofs.lemmas.List.{append-nil, map-append}
@@ -26,11 +26,11 @@ use Rattle.label_pool.specs.declared.rule.Linked.{Linked}
 use Rattle.label_pool.specs.declared.rule.Look.{Look}
 use Rattle.label_pool.specs.declared.rule.Put.{Put}
 use Rattle.label_pool.specs.declared.rule.View.{View}
-use Rattle.label_pool.specs.Chains.{named, first_cell, IsChain, IsWithin, IsTailOf, HoldsCell, puts_at}
-use Rattle.label_pool.specs.Fillings.{HoldsFilling, HoldsOpen, open_cell, linked_of}
+use Rattle.label_pool.specs.Chains.{named, first_cell, IsChain, IsWithin, IsTailOf, puts_at}
+use Rattle.label_pool.specs.Fillings.{HoldsFilling, HoldsOpen, open_cell}
 use Rattle.label_pool.specs.Layout.{head_at, next_at, pos_at, dist_at, word_count}
 use Rattle.label_pool.specs.Lawful.{Table, IsSeated, IsChainOf, IsLawful, StillIn, drawn_by, is_past, nothing}
-use Rattle.label_pool.specs.Steps.{with_drawn, with_look, with_link}
+use Rattle.label_pool.specs.Steps.{with_drawn, with_look}
 use Rattle.label_pool.proofs.Cells.{open-unlinked, open-alone}
 use Rattle.label_pool.proofs.Puts.{puts-here, puts-else}
 use Rattle.label_pool.proofs.Tails.{tail-self, tail-under}

@@ -5,7 +5,7 @@ use Rattle.std.proofs.lemmas.List.Elements.{All-head, All-tail}
 use Rattle.label_pool.specs.declared.rule.Filling.{Filling}
 use Rattle.label_pool.specs.declared.rule.Linked.{Linked}
 use Rattle.label_pool.specs.Chains.{named, first_cell, HoldsCell, IsChain}
-use Rattle.label_pool.specs.Fillings.{IsFilled, HoldsFilling, HoldsOpen}
+use Rattle.label_pool.specs.Fillings.{IsFilled, HoldsOpen}
 use Rattle.label_pool.specs.Layout.{next_at, pos_at, dist_at}
 
 -- the word is none of the cell's

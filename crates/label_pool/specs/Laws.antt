@@ -1,5 +1,5 @@
 -- The laws of the rule: it holds at first, each step of a seat keeps it, whichever seats there are beside, and of a chain it says what may be relied on.
-use Rattle.std.specs.Prelude.{◌≡◌, ◌≢◌, ℕ, ◌+◌, ◌^◌, ◌<◌, ◌≤◌, Option, Some, None, List, [], ◌∷◌, ◌++◌, All, length, replicate, slice_index, slice_set}
+use Rattle.std.specs.Prelude.{◌≡◌, ◌≢◌, ℕ, ◌+◌, ◌^◌, ◌<◌, ◌≤◌, Some, None, List, [], ◌∷◌, ◌++◌, All, length, replicate, slice_index, slice_set}
 use mathlib.Core.Option.{some}
 use lib.ListN.{get_elem?}
 use Rattle.atomic_table.specs.Table.{opening}
@@ -11,7 +11,6 @@ use Rattle.label_pool.specs.declared.rule.About.{About}
 use Rattle.label_pool.specs.declared.rule.Filling.{Filling}
 use Rattle.label_pool.specs.declared.rule.Linked.{Linked}
 use Rattle.label_pool.specs.declared.rule.View.{View}
-use Rattle.label_pool.specs.Chains.{named, first_cell}
 use Rattle.label_pool.specs.Fillings.{filled}
 use Rattle.label_pool.specs.Layout.{head_at, next_at, pos_at, dist_at, word_count}
 use Rattle.label_pool.specs.Lawful.{Table, IsChainOf, IsLawful, first_view, given, both, nothing}

@@ -1,5 +1,13 @@
-use crate::{LinkFact, Pool, PoolPut};
+ghost use Rattle.std.specs.Prelude.{◌≡◌, ◌+◌, ◌^◌, ◌<◌, ◌≤◌, Some, None, IfOk};
+ghost use Rattle.hub_index.specs.Views.{IsNode};
+ghost use Rattle.label_pool.specs.declared.tests.Anything.{Anything as AnyFact};
+ghost use Rattle.label_pool.specs.Seats.{IsSeatOf};
+
+use crate::{LinkFact, Pool, PoolPut, PoolSeat};
+use std::alloc::{AllocError, Global};
+use std::sync::Wait;
 use std::test::Fail;
+use std::thread::{Threads, join};
 use walk_laws::Entry;
 
 /// The fact that always holds.
@@ -16,6 +24,28 @@ fn entry(pos: u32) -> Entry {
         pos,
         dist: u64::from(pos) + 7,
     }
+}
+
+// The entries of a walk of the node, newest first.
+fn walked(
+    alloc: Global,
+    pool: &Pool<Anything>,
+    seat: &mut PoolSeat<Anything>,
+    v: u32,
+) -> Result<Vec<Entry>, AllocError>
+    requires seat { IsSeatOf pool.now seat.old }
+    requires node { IsNode pool.now.n v }
+    ensures seat { (IsSeatOf pool.now seat.new) × (seat.new.left ≡ seat.old.left) × (seat.new.past ≡ seat.old.past) }
+{
+    let mut entries = Vec::new(alloc);
+    let mut walk = pool.visit(seat, v);
+    for _ in 0..u64::MAX {
+        let Some(entry) = walk.next(pool, seat) else {
+            break;
+        };
+        entries.push(entry)?;
+    }
+    Ok(entries)
 }
 
 #[test]
@@ -40,5 +70,116 @@ fn one_cell_takes_one_entry(rt: HostRuntime) -> Result<(), Fail> {
 fn a_pool_of_no_nodes_closes_empty(rt: HostRuntime) -> Result<(), Fail> {
     let (pool, seat) = Pool::new(rt.alloc(), 0, 1, 1, Anything)?;
     assert_eq!(rt; pool.close(seat)?.n(), 0);
+    Ok(())
+}
+
+#[test]
+fn two_seats_find_what_both_put(rt: HostRuntime) -> Result<(), Fail> {
+    let (pool, mut one) = Pool::new(rt.alloc(), 3, 4, 2, Anything)?;
+    let mut two = pool.split(&mut one, 0);
+    assert_eq!(rt; (one.left(), two.left()), (0, 0));
+    assert_eq!(rt; pool.put(&rt, &mut one, 3, entry(1)), PoolPut::Put);
+    assert_eq!(rt; pool.put(&rt, &mut two, 3, entry(2)), PoolPut::Put);
+    let both = [entry(2), entry(1)];
+    assert_eq!(rt;
+        walked(rt.alloc(), &pool, &mut one, 3)?.as_slice(),
+        both.as_slice()
+    );
+    assert_eq!(rt;
+        walked(rt.alloc(), &pool, &mut two, 3)?.as_slice(),
+        both.as_slice()
+    );
+    pool.join(&mut one, two);
+    assert_eq!(rt; one.left(), 1);
+    assert_eq!(rt; pool.close(one)?.row(3).len(), 2);
+    Ok(())
+}
+
+#[test]
+fn a_walk_gives_what_it_began_with(rt: HostRuntime) -> Result<(), Fail> {
+    let (pool, mut one) = Pool::new(rt.alloc(), 1, 4, 2, Anything)?;
+    let mut two = pool.split(&mut one, 0);
+    assert_eq!(rt; pool.put(&rt, &mut one, 1, entry(1)), PoolPut::Put);
+    assert_eq!(rt; pool.put(&rt, &mut one, 1, entry(2)), PoolPut::Put);
+    let mut walk = pool.visit(&mut one, 1);
+    assert_eq!(rt; pool.put(&rt, &mut two, 1, entry(3)), PoolPut::Put);
+    assert_eq!(rt; walk.next(&pool, &mut one), Some(entry(2)));
+    assert_eq!(rt; pool.put(&rt, &mut two, 1, entry(4)), PoolPut::Put);
+    assert_eq!(rt; walk.next(&pool, &mut one), Some(entry(1)));
+    assert_eq!(rt; walk.next(&pool, &mut one), None);
+    let all = [entry(4), entry(3), entry(2), entry(1)];
+    assert_eq!(rt;
+        walked(rt.alloc(), &pool, &mut one, 1)?.as_slice(),
+        all.as_slice()
+    );
+    Ok(())
+}
+
+// Puts the entries with the positions from `first` on, by turns at the nodes 1 and 2.
+fn put_each(
+    rt: &impl Wait,
+    pool: &Pool<Anything>,
+    mut seat: PoolSeat<Anything>,
+    first: u32,
+    count: u32,
+) -> PoolSeat<Anything>
+    requires seat { IsSeatOf pool.now seat }
+    requires past { seat.past ≡ None }
+    requires nodes { 2 ≤ pool.now.n }
+    requires fact { (value : AnyFact) × (pool.now.fact ≡ Some value) }
+    requires numbers { first + count < 2 ^ 32 }
+    ensures seat { IsSeatOf pool.now result × (result.left ≡ seat.left) }
+{
+    for k in 0..count {
+        if let PoolPut::Full { .. } = pool.put(rt, &mut seat, k % 2 + 1, entry(first + k)) {
+            break;
+        }
+    }
+    seat
+}
+
+#[test]
+fn two_threads_put_each_entry_once(rt: HostRuntime) -> Result<(), Fail> {
+    let (pool, mut one) = Pool::new(rt.alloc(), 2, 600, 2, Anything)?;
+    let two = pool.split(&mut one, 0);
+    let shared = &pool;
+    let runtime = &rt;
+    let (mut one, two) = join(
+        runtime,
+        move || put_each(runtime, shared, one, 0, 300),
+        move || put_each(runtime, shared, two, 300, 300),
+    );
+    pool.join(&mut one, two);
+    let rows = pool.close(one)?;
+    let mut all = Vec::new(rt.alloc());
+    for v in 1..3 {
+        assert_eq!(rt; rows.row(v).len(), 300);
+        for e in rows.row(v) {
+            all.push(e.pos)?;
+        }
+    }
+    all.sort()?;
+    for (place, pos) in all.iter().enumerate() {
+        assert_eq!(rt; *pos as usize, place);
+    }
+    Ok(())
+}
+
+#[test]
+fn many_seats_come_together_again(rt: HostRuntime) -> Result<(), Fail> {
+    let (pool, mut one) = Pool::new(rt.alloc(), 1, 100, 64, Anything)?;
+    assert_eq!(rt; one.left(), 63);
+    let mut two = pool.split(&mut one, 31);
+    assert_eq!(rt; (one.left(), two.left()), (31, 31));
+    for joined in 0..31u32 {
+        assert_eq!(rt; (one.left(), two.left()), (31 + joined, 31 - joined));
+        let mut other = pool.split(&mut two, 0);
+        assert_eq!(rt; pool.put(&rt, &mut other, 1, entry(joined)), PoolPut::Put);
+        pool.join(&mut one, other);
+    }
+    assert_eq!(rt; (one.left(), two.left()), (62, 0));
+    pool.join(&mut one, two);
+    assert_eq!(rt; one.left(), 63);
+    assert_eq!(rt; pool.close(one)?.row(1).len(), 31);
     Ok(())
 }

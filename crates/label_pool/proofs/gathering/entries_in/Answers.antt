@@ -1,8 +1,8 @@
-use Rattle.std.proofs.Common.{◌≡◌, ◌<◌, ◌≤◌, ◌^◌, ◌+◌, ℕ, List, sym, ap, ◌∙◌, subst, arith, refl}
-use Rattle.std.specs.Prelude.{Option, Some, None, slice_index}
-use Rattle.std.specs.Slots.{slots_items, slots_len}
+use Rattle.std.proofs.Common.{◌≡◌, ◌<◌, ◌+◌, List, sym, ap, ◌∙◌, subst, arith}
+use Rattle.std.specs.Prelude.{slice_index}
+use Rattle.std.specs.Slots.{slots_items}
 use Rattle.label_pool.specs.declared.rule.Linked.{Linked}
-use Rattle.label_pool.specs.Chains.{named, first_cell, IsWritten}
+use Rattle.label_pool.specs.Chains.{IsWritten}
 use Rattle.label_pool.specs.Layout.{head_at, next_at, pos_at, dist_at}
 use Rattle.label_pool.proofs.Tails.{named-small}
 use Rattle.label_pool.proofs.Walked.{IsWalked, Stands, begins, stands, goes_on, ended, spent, at_word}

@@ -1,4 +1,4 @@
-use Rattle.std.proofs.Common.{◌≡◌, ◌<◌, ◌≤◌, ◌+◌, ◌-◌, ℕ, List, [], ◌∷◌, ◌++◌, length, map, sym, ap, ◌∙◌, subst, arith, refl}
+use Rattle.std.proofs.Common.{◌≡◌, ◌+◌, ◌-◌, List, [], ◌∷◌, ◌++◌, length, map, ap, ◌∙◌, subst, arith}
 use Rattle.std.specs.Prelude.{Vec, slice_index_or}
 use Rattle.std.proofs.Common.{Global}
 use Rattle.std.proofs.lemmas.List.{length-append, length-map, map-append}
@@ -7,7 +7,6 @@ use mathlib.Core.Logic.{dite}
 use native.Mathlib.Decide.{dec_le}
 use Rattle.walk_laws.specs.declared.entry.Entry.{Entry}
 use Rattle.walk_laws.specs.Labelling.{label_row}
-use Rattle.hub_index.specs.Views.{IsNode}
 use Rattle.label_pool.specs.Chains.{IsWritten}
 use Rattle.label_pool.proofs.Walked.{row-before, row-last}
 use Rattle.label_pool.proofs.gathering.gathered.Goals as goal

@@ -1,8 +1,6 @@
-use Rattle.std.proofs.Common.{◌≡◌, ◌+◌, [], ◌∷◌, ◌++◌, ap, ◌∙◌, sym, subst}
+use Rattle.std.proofs.Common.{◌+◌, [], ◌∷◌, ◌++◌, ap, ◌∙◌, sym, subst}
 use Rattle.std.specs.Prelude.{Some, None, slice_index}
-use Rattle.table_seats.specs.Seats.{knowing}
 use Rattle.label_pool.specs.declared.rule.Linked.{Linked}
-use Rattle.label_pool.specs.declared.rule.View.{View}
 use Rattle.label_pool.specs.Fillings.{filled, linked_of}
 use Rattle.label_pool.specs.Lawful.{IsLawful}
 use Rattle.label_pool.specs.Layout.{head_at}

@@ -1,10 +1,10 @@
-use Rattle.std.proofs.Common.{◌≡◌, ◌^◌, ◌<◌, ◌≤◌, ℕ, refl, sym, ap, ◌∙◌, subst, arith}
+use Rattle.std.proofs.Common.{◌≡◌, ◌≤◌, sym, ap, ◌∙◌, subst, arith}
 use Rattle.std.specs.Prelude.{Some, None}
 use mathlib.Core.Option.{none}
 use Rattle.atomic_table.specs.Table.{step, Allows}
 use Rattle.table_seats.specs.Seats.{knowing}
 use Rattle.label_pool.specs.Fillings.{drawn, with_pos, with_dist}
-use Rattle.label_pool.specs.Lawful.{IsLawful, Sitter}
+use Rattle.label_pool.specs.Lawful.{IsLawful}
 use Rattle.label_pool.specs.Steps.{FilledPos, FilledDist, with_filling}
 use Rattle.label_pool.specs.Layout.{pos_at, dist_at}
 use Rattle.label_pool.specs.declared.rule.Filling.{Filling}

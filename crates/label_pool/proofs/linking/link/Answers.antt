@@ -1,9 +1,8 @@
-use Rattle.std.proofs.Common.{[], ◌∷◌, ◌++◌, ◌+◌, ◌==◌, ◌≡◌, ◌^◌, ◌<◌, ◌≤◌, ℕ, refl, sym, ap, ◌∙◌, subst, arith}
-use Rattle.std.specs.Prelude.{Option, Some, None}
+use Rattle.std.proofs.Common.{[], ◌∷◌, ◌++◌, ◌+◌, ◌==◌, ◌≡◌, ◌≤◌, ℕ, sym, ap, ◌∙◌, subst, arith}
+use Rattle.std.specs.Prelude.{Some, None}
 use mathlib.Core.Option.{none}
 use prog.Atomic.{either}
 use Rattle.atomic_table.specs.Table.{step, Allows}
-use Rattle.walk_laws.specs.declared.entry.Entry.{Entry}
 use Rattle.hub_index.specs.Views.{IsNode}
 use Rattle.table_seats.specs.Seats.{knowing}
 use Rattle.label_pool.specs.Fillings.{filled, with_next}
@@ -12,7 +11,7 @@ use Rattle.label_pool.specs.Chains.{IsTailOf, seen_of}
 use Rattle.label_pool.specs.Lawful.{IsLawful, Sitter}
 use Rattle.label_pool.specs.Seats.{IsMet}
 use Rattle.label_pool.specs.Steps.{FilledNext, LinkedTo, IsLink, with_filling, with_link}
-use Rattle.label_pool.specs.Layout.{next_at, head_at}
+use Rattle.label_pool.specs.Layout.{next_at}
 use Rattle.label_pool.specs.declared.rule.Filling.{Filling}
 use Rattle.label_pool.proofs.Allowed.{fills_next, links_one}
 use Rattle.label_pool.proofs.Calls.{next-again, linked-next}

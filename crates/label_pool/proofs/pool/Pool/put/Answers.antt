@@ -1,4 +1,4 @@
-use Rattle.std.proofs.Common.{◌≡◌, ◌<◌, ◌≤◌, ℕ, sym, ap, ◌∙◌, refl, arith, subst}
+use Rattle.std.proofs.Common.{◌<◌, sym, ap, ◌∙◌, arith, subst}
 use Rattle.table_seats.specs.Seats.{knowing}
 use Rattle.label_pool.specs.Lawful.{Sitter}
 use Rattle.label_pool.specs.Seats.{IsMet}

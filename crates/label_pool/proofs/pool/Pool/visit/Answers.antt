@@ -1,5 +1,5 @@
-use Rattle.std.proofs.Common.{ℕ, ◌<◌, All, sym, ap, ◌∙◌, refl, arith, subst}
-use Rattle.std.specs.Prelude.{Option, Contains}
+use Rattle.std.proofs.Common.{◌<◌, All, sym, ap, ◌∙◌, arith, subst}
+use Rattle.std.specs.Prelude.{Contains}
 use mathlib.Core.Option.{none}
 use Rattle.atomic_table.specs.Table.{step, Allows}
 use Rattle.hub_index.specs.Views.{IsNode}
@@ -7,8 +7,7 @@ use Rattle.label_pool.specs.Lawful.{IsLawful}
 use Rattle.std.proofs.lemmas.List.Elements.{All-push, Contains-push}
 use Rattle.label_pool.specs.Seats.{AreWithin}
 use Rattle.label_pool.specs.Steps.{Found, IsFound}
-use Rattle.label_pool.specs.declared.rule.Look.{Look}
-use Rattle.label_pool.specs.Chains.{first_cell, IsRest}
+use Rattle.label_pool.specs.Chains.{first_cell}
 use Rattle.label_pool.proofs.Allowed.{finds_one}
 use Rattle.label_pool.proofs.Calls.{has-found}
 use Rattle.label_pool.proofs.Tails.{named-same, tail-self}

@@ -1,13 +1,10 @@
-use Rattle.std.proofs.Common.{◌≡◌, ◌<◌, ◌≤◌, ◌^◌, ◌+◌, ◌*◌, ℕ, List, [], ◌∷◌, sym, ap, ◌∙◌, subst, arith, refl}
-use Rattle.std.specs.Prelude.{Option, Some, None, Contains}
-use mathlib.Core.Option.{none}
-use Rattle.atomic_table.specs.Table.{step, Allows}
+use Rattle.std.proofs.Common.{◌≡◌, ◌<◌, ◌≤◌, ◌^◌, ℕ, List, ◌∷◌, sym, ap, ◌∙◌, subst, arith}
+use Rattle.std.specs.Prelude.{Some, Contains}
 use Rattle.label_pool.specs.declared.rule.Linked.{Linked}
 use Rattle.label_pool.specs.declared.rule.Look.{Look}
-use Rattle.label_pool.specs.Chains.{named, first_cell, IsTailOf, IsRest, IsNext}
+use Rattle.label_pool.specs.Chains.{named, first_cell, IsTailOf, IsRest}
 use Rattle.label_pool.specs.Layout.{next_at, pos_at, dist_at}
-use Rattle.label_pool.specs.Lawful.{IsLawful, Sitter}
-use Rattle.label_pool.specs.Steps.{Read, TellsCell}
+use Rattle.label_pool.specs.Lawful.{Sitter}
 use Rattle.label_pool.proofs.Allowed.{reads_one}
 use Rattle.label_pool.proofs.Tails.{named-same}
 use Rattle.label_pool.proofs.Rests.{IsAt, rest-at, cell-within, next-given}
