@@ -12,16 +12,16 @@ use label_clean::clean_in_place;
 use label_clean::laws::the_whole_is_the_labelling;
 use label_rows::Rows;
 use rank_table::Ranking;
+use renumbering::WorkingCopy;
 use root_claims::Claims;
 use std::alloc::{AllocError, Global};
 use std::sync::Wait;
 use std::thread;
 use std::thread::Threads;
 use walk_laws::Graph;
-use walk_laws::laws::the_lightest_edges_keep_the_labelling;
 
-/// The index of the canonical hub labelling of a graph under a ranking of its nodes. It begins with the edges that matter: of
-/// those between two nodes the lightest. So many workers claim roots one by one, and grow their pruned trees at the same time
+/// The index of the canonical hub labelling of a graph under a ranking of its nodes. It begins with a copy of both in which
+/// neighbours stand near one another ([`WorkingCopy`]). So many workers claim roots one by one, and grow their pruned trees at the same time
 /// over rows that all of them write; then the rows are cleaned, on all cores. The gate is told of each root when its tree
 /// begins and when it ends. The only error is that memory ran out.
 ///
@@ -42,16 +42,11 @@ pub fn build_lcc<R: Threads + Wait + Sync, G: Gate + Sync>(
     ensures order { IfOk result (λ index. index.order ≡ ranking.now) }
     ensures labelling { IfOk result (λ index. IsChl (Joined graph.now.edges) ranking.now index.rows) }
 {
-    let n = graph.n();
-    let ranked = ranking.n();
-    prove!(n == ranked);
-    let order = ranking.copy(alloc)?;
-    let light = graph.lightest(alloc)?;
-    let raw = raw_rows(rt, alloc, &light, ranking, workers, gate)?;
-    let rows = clean_in_place(rt, alloc, ranking, raw)?;
+    let copy = WorkingCopy::new(alloc, graph, ranking)?;
+    let raw = raw_rows(rt, alloc, &copy.graph, &copy.ranking, workers, gate)?;
+    let rows = clean_in_place(rt, alloc, &copy.ranking, raw)?;
     the_whole_is_the_labelling();
-    the_lightest_edges_keep_the_labelling();
-    Ok(Index::new(order, rows))
+    copy.index(alloc, graph, ranking, rows)
 }
 
 /// The rows that the trees of all roots leave, grown by so many workers: they have every canonical entry.

@@ -2,7 +2,6 @@ ghost use Rattle.std.specs.Prelude.{◌≡◌, ℕ, ◌*◌, ◌^◌, ◌≤◌,
 ghost use Rattle.walk_laws.specs.Joined.{Joined};
 ghost use Rattle.walk_laws.specs.Labelling.{IsChl};
 ghost use Rattle.hub_index.specs.Sunk.{sunk_at, HoldsPart};
-ghost use Rattle.hub_index.specs.WellFormed.{IsWellFormed};
 ghost use Rattle.plant_build.specs.Marks.{IsMissing};
 ghost use Rattle.plant_build.specs.Rounds.{share_of, put_by, IsOneRound};
 ghost use Rattle.plant_build.specs.Workers.{IsReady, HasWorked, shares_of};
@@ -15,13 +14,14 @@ use desk_io::Gate;
 use hub_index::{EntrySink, Index, RowList, gather};
 use plant_tree::Planter;
 use rank_table::Ranking;
+use renumbering::WorkingCopy;
 use std::alloc::{AllocError, Global};
 use std::sync::Wait;
 use std::thread::{self, Threads};
 use walk_laws::Graph;
 
-/// The index of the canonical hub labelling of a graph under a ranking of its nodes, by planted trees of all roots.
-/// The roots are dealt in batches of at most `cut` to so many workers, and who has none left steals from the others. The
+/// The index of the canonical hub labelling of a graph under a ranking of its nodes, by planted trees of all roots. It
+/// begins with a copy of both in which neighbours stand near one another ([`WorkingCopy`]). The roots are dealt in batches of at most `cut` to so many workers, and who has none left steals from the others. The
 /// caller itself plants each batch that came from nobody. The gate sees each root begin, and end with the number of its
 /// entries. The only error is that memory ran out.
 pub fn build_plant<R: Threads + Wait + Sync, G: Gate + Sync>(
@@ -41,10 +41,17 @@ pub fn build_plant<R: Threads + Wait + Sync, G: Gate + Sync>(
     ensures order { IfOk result (λ index. index.order ≡ ranking.now) }
     ensures labelling { IfOk result (λ index. IsChl (Joined graph.now.edges) ranking.now index.rows) }
 {
-    let order = ranking.copy(alloc)?;
-    let lightest = graph.lightest(alloc)?;
-    let rows = planted_rows(rt, alloc, &lightest, ranking, workers, cut, gate)?;
-    Ok(Index::new(order, rows))
+    let copy = WorkingCopy::new(alloc, graph, ranking)?;
+    let rows = planted_rows(
+        rt,
+        alloc,
+        &copy.graph,
+        &copy.ranking,
+        workers,
+        cut,
+        gate,
+    )?;
+    copy.index(alloc, graph, ranking, rows)
 }
 
 /// The rows of the labelling: the trees of all roots are planted by the workers, and what they put is gathered.
@@ -62,7 +69,6 @@ fn planted_rows<R: Threads + Wait + Sync, G: Gate + Sync>(
     requires workers_to { workers ≤ 64 }
     requires cut_from { 1 ≤ cut }
     ensures labelling { IfOk result (λ rows. IsChl (Joined graph.now.edges) ranking.now rows) }
-    ensures well_formed { IfOk result (λ rows. IsWellFormed ranking.now rows) }
 {
     let n = graph.n();
     let roots = ranking.n();

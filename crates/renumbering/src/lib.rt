@@ -12,7 +12,9 @@ mod rows;
 mod search;
 #[cfg(test)]
 mod tests;
+mod working;
 
 pub use renumbered::{renumbered_graph, renumbered_ranking};
 pub use rows::rows_back;
 pub use search::tour;
+pub use working::WorkingCopy;

@@ -1,12 +1,9 @@
 use Rattle.std.proofs.Common.{◌≡◌, ℕ, ◌≤◌, List, ◌++◌, [], ◌∷◌, All, length, ap, sym, subst, ◌∙◌, arith}
 use Rattle.std.proofs.lemmas.List.{with_items_is}
 use Rattle.std.proofs.lemmas.List.Elements.{All-push, All-weaker}
-use Rattle.std.proofs.lemmas.Result.{IfOk-weaker}
 use Rattle.walk_laws.specs.Joined.{Joined}
 use Rattle.walk_laws.specs.Labelling.{IsChl, label_row}
 use Rattle.hub_index.specs.Sunk.{sunk_at, all_sunk, HoldsPart, IsGatheredRow}
-use Rattle.hub_index.specs.WellFormed.{IsWellFormed}
-use Rattle.hub_index.proofs.CanonicalRows.{IsWellFormed-canonical}
 use Rattle.plant_build.specs.Marks.{HasCome, IsMissing}
 use Rattle.plant_build.proofs.HeldParts.{IsChl-whole, both_ok}
 use Rattle.plant_build.specs.Rounds.{Share, put_by, IsOneRound}
@@ -57,8 +54,3 @@ returns-clause-labelling g c =
     both_ok c.gather.result (λ rows. length rows ≡ c.n-n.result) (λ rows. (v : ℕ) → 1 ≤ v → v ≤ c.n-n.result → IsGatheredRow (all_sunk c.deref-2.result.now v) (label_row rows v)) (IsChl (Joined edges) at)
     (λ rows size each. IsChl-whole edges at n c.in_ok-come.come.items c.in_ok-come.sinks.items own rows (sym c.requires.nodes) come c.in_ok-plant_missing.ensures.sink missing (size ∙ c.n-n.ensures.value)
     (λ v low high. subst (λ sinks. IsGatheredRow (all_sunk sinks v) (label_row rows v)) sinks_are (each v low (omega (arith, high, c.n-n.ensures.value))))) c.gather.ensures.size c.gather.ensures.rows
-
-pub returns-clause-well_formed : goal.returns-clause-well_formed
-returns-clause-well_formed g c =
-    IfOk-weaker c.gather.result (IsChl (Joined c.args.graph.now.edges) c.args.ranking.now) (IsWellFormed c.args.ranking.now)
-    (IsWellFormed-canonical c.args.graph.now.n c.args.graph.now.edges c.args.ranking.now c.n-n.ensures.graph c.n-roots.ensures.ranking c.requires.nodes) (returns-clause-labelling g c)

@@ -1,0 +1,75 @@
+ghost use Rattle.std.specs.Prelude.{◌≡◌, length, IfOk};
+ghost use Rattle.walk_laws.specs.Joined.{Joined};
+ghost use Rattle.walk_laws.specs.Labelling.{IsChl};
+ghost use Rattle.renumbering.specs.Copies.{IsCopyOf};
+
+use crate::renumbered::{renumbered_graph, renumbered_ranking};
+use crate::rows::rows_back;
+use crate::search::tour;
+use hub_index::{Index, RowList};
+use rank_table::Ranking;
+use std::alloc::{AllocError, Global};
+use walk_laws::Graph;
+
+/// A graph and a ranking as a build works on them: of the edges between two nodes the lightest alone, and neighbours by
+/// numbers near one another. Positions, lengths and hubs are those of the graph and the ranking that it was made of.
+#[derive(Debug, Drop)]
+pub struct WorkingCopy {
+    /// The graph by its new numbers.
+    pub graph: Graph,
+    /// The ranking by the new numbers.
+    pub ranking: Ranking,
+    /// The nodes by their old numbers, in the order of the new ones.
+    pub tour: Ranking,
+}
+
+impl WorkingCopy {
+    /// The copy that a build of this graph and this ranking works on, in O(n log n + m log d) for n nodes and m edges, with
+    /// at most d at a node. The only error is that memory ran out.
+    pub fn new(
+        alloc: Global,
+        graph: &Graph,
+        ranking: &Ranking,
+    ) -> Result<WorkingCopy, AllocError>
+        requires { length ranking.now ≡ graph.now.n }
+        ensures copy { IfOk result (λ copy. IsCopyOf graph.now ranking.now copy) }
+        ensures nodes { IfOk result (λ copy. length copy.ranking ≡ copy.graph.n) }
+    {
+        let lightest = graph.lightest(alloc)?;
+        let n = lightest.n();
+        let ranked = ranking.n();
+        prove!(n == ranked);
+        let tour = tour(alloc, &lightest)?;
+        let graph = renumbered_graph(alloc, &lightest, &tour)?;
+        let ranking = renumbered_ranking(alloc, ranking, &tour)?;
+        Ok(WorkingCopy {
+            graph,
+            ranking,
+            tour,
+        })
+    }
+
+    /// The index of the graph and the ranking that the copy was made of, from the labelling of the copy. No entry is copied;
+    /// the only error is that memory ran out.
+    pub fn index(
+        self,
+        alloc: Global,
+        graph: &Graph,
+        ranking: &Ranking,
+        rows: RowList,
+    ) -> Result<Index, AllocError>
+        requires nodes { length ranking.now ≡ graph.now.n }
+        requires copy { IsCopyOf graph.now ranking.now self }
+        requires labelling { IsChl (Joined self.graph.edges) self.ranking rows }
+        ensures order { IfOk result (λ index. index.order ≡ ranking.now) }
+        ensures labelling { IfOk result (λ index. IsChl (Joined graph.now.edges) ranking.now index.rows) }
+    {
+        let n = graph.n();
+        let ranked = ranking.n();
+        let toured = self.tour.n();
+        prove!(n == ranked && n == toured);
+        let order = ranking.copy(alloc)?;
+        let back = rows_back(alloc, &self.tour, rows)?;
+        Ok(Index::new(order, back))
+    }
+}
