@@ -1,13 +1,14 @@
 -- Arcs that are placed one by one, each where the next one of its node is to stand.
-use Rattle.std.specs.Prelude.{◌≡◌, ◌≢◌, ℕ, zero, suc, ◌+◌, ◌-◌, ◌*◌, ◌≤◌, ◌<◌, ◌==◌, List, [], ◌∷◌, ◌++◌, length, nat_lt, slice_index, slice_range, set, if◌then◌else◌, refl}
+use Rattle.std.specs.Prelude.{◌≡◌, ◌≢◌, ℕ, zero, suc, Bool, true, false, ◌+◌, ◌-◌, ◌*◌, ◌/◌, ◌^◌, ◌≤◌, ◌<◌, ◌==◌, List, [], ◌∷◌, ◌++◌, length, nat_lt, slice_index, slice_range, set, if◌then◌else◌, refl}
 use Rattle.std.proofs.Common.{◌∙◌, ap, sym, subst, inl, inr, arith, take, drop, get_or, append_assoc}
 use Rattle.std.proofs.lemmas.Bool.{cases_lt, eq-eqb, ne_eqb, cases_eq}
 use Rattle.std.proofs.lemmas.Bool.Decides.{nat_tests}
 use Rattle.std.proofs.lemmas.List.{ext_get_or, take_more, take-append-drop, get_or-take, get_or-drop, length-take, length-drop, length-append, length-set, get_or-set_same, get_or-set_other, append-nil}
+use Rattle.std.proofs.Math.Pow.{shr_mono}
 use Rattle.walk_laws.specs.declared.graph.Edge.{Edge}
 use Rattle.walk_laws.specs.declared.graph.Arc.{Arc}
 use Rattle.walk_laws.specs.Graph.{arcs_at}
-use Rattle.walk_laws.specs.Rows.{IsPlaced, arcs_before}
+use Rattle.walk_laws.specs.Rows.{IsPlaced, arcs_before, rows_before}
 use Rattle.walk_laws.proofs.Arcs.{arcs_at-append}
 
 -- lists that agree between two places have the same part there
@@ -125,25 +126,87 @@ IsPlaced-more edges row arcs next v a placed lt less few =
       ];
     }
 
-pub IsPlaced-same : (edges : List Edge) (row other : ℕ → List Arc) (arcs : List Arc) (next : List ℕ) → ((u : ℕ) → row u ≡ other u) → IsPlaced edges row arcs next → IsPlaced edges other arcs next
+pub IsPlaced-same : (edges : List Edge) (row other : ℕ → List Arc) (arcs : List Arc) (next : List ℕ) → ((u : ℕ) → u < length next → row u ≡ other u) → IsPlaced edges row arcs next → IsPlaced edges other arcs next
 IsPlaced-same edges row other arcs next same placed = record {
   room = placed.room;
-  ends = λ v lt. placed.ends v lt ∙ ap (λ l. arcs_before edges v + length l) (same v);
-  rows = λ v lt. placed.rows v lt ∙ same v;
+  ends = λ v lt. placed.ends v lt ∙ ap (λ l. arcs_before edges v + length l) (same v lt);
+  rows = λ v lt. placed.rows v lt ∙ same v lt;
 }
 
+-- a row with one more arc of the node v, if it is to be placed now
+abbrev added_if : Bool → (ℕ → List Arc) → ℕ → Arc → ℕ → List Arc
+added_if is_now row v a u = if is_now then added row v a u else row u
+
+IsPlaced-if : (edges : List Edge) (row : ℕ → List Arc) (arcs : List Arc) (next : List ℕ) (v : ℕ) (a : Arc) (is_now : Bool) → IsPlaced edges row arcs next → v < length next → (is_now ≡ true → length (row v) < length (arcs_at edges v)) → ((u : ℕ) → length (row u) ≤ length (arcs_at edges u)) → IsPlaced edges (added_if is_now row v a) (if is_now then set arcs (slice_index next v) a else arcs) (if is_now then set next v (slice_index next v + 1) else next)
+IsPlaced-if edges row arcs next v a true placed lt less few = IsPlaced-more edges row arcs next v a placed lt (less refl) few
+IsPlaced-if edges row arcs next v a false placed lt less few = placed
+
+-- the rows while a range is placed: whole ones before it, and such as they are so far in it
+abbrev pub rows_within : (ℕ → List Arc) → (ℕ → List Arc) → ℕ → ℕ → ℕ → List Arc
+rows_within whole row shift range v = if nat_lt (v / 2 ^ shift) range then whole v else (if v / 2 ^ shift == range then row v else [])
+
+abbrev in_range : ℕ → ℕ → ℕ → Bool
+in_range shift range v = v / 2 ^ shift == range
+
+-- by cases: before, in or behind the range
+within_added : (whole row : ℕ → List Arc) (shift range v : ℕ) (a : Arc) (u : ℕ) → added_if (in_range shift range v) (rows_within whole row shift range) v a u ≡ rows_within whole (added row v a) shift range u
+within_added whole row shift range v a u =
+    elim (cases_eq v u) [
+      | inl same ↦ subst (λ k. added_if (in_range shift range v) (rows_within whole row shift range) v a k ≡ rows_within whole (added row v a) shift range k) same (rw (eq-eqb v v refl) (grind (arith, nat_tests)))
+      | inr other ↦ rw (ne_eqb v u other) (grind (arith, nat_tests, append-nil))
+    ]
+
+within_here : (whole row : ℕ → List Arc) (shift range v : ℕ) → in_range shift range v ≡ true → rows_within whole row shift range v ≡ row v
+within_here whole row shift range v is = grind (arith, nat_tests)
+
+within_few : (edges : List Edge) (row : ℕ → List Arc) (shift range : ℕ) → ((u : ℕ) → length (row u) ≤ length (arcs_at edges u)) → (u : ℕ) → length (rows_within (arcs_at edges) row shift range u) ≤ length (arcs_at edges u)
+within_few edges row shift range few u = let most = few u in grind (arith, nat_tests)
+
+-- one more arc, if its node is in the range
+IsPlaced-within : (edges : List Edge) (row : ℕ → List Arc) (arcs : List Arc) (next : List ℕ) (shift range v : ℕ) (a : Arc) → IsPlaced edges (rows_within (arcs_at edges) row shift range) arcs next → v < length next → length (row v) < length (arcs_at edges v) → ((u : ℕ) → length (row u) ≤ length (arcs_at edges u)) → IsPlaced edges (rows_within (arcs_at edges) (added row v a) shift range) (if v / 2 ^ shift == range then set arcs (slice_index next v) a else arcs) (if v / 2 ^ shift == range then set next v (slice_index next v + 1) else next)
+IsPlaced-within edges row arcs next shift range v a placed lt less few =
+    let whole = arcs_at edges in
+    let rows = rows_within whole row shift range in
+    IsPlaced-same edges (added_if (in_range shift range v) rows v a) (rows_within whole (added row v a) shift range) _ _ (λ u _. within_added whole row shift range v a u)
+    (IsPlaced-if edges rows arcs next v a (in_range shift range v) placed lt (λ is. omega (arith, ap length (within_here whole row shift range v is), less)) (within_few edges row shift range few))
+
+-- there is room for one more arc of a node in the range
+pub room_within : (edges : List Edge) (row : ℕ → List Arc) (arcs : List Arc) (next : List ℕ) (shift range v : ℕ) → IsPlaced edges (rows_within (arcs_at edges) row shift range) arcs next → v < length next → length (row v) < length (arcs_at edges v) → (v / 2 ^ shift == range) ≡ true → slice_index next v < length arcs
+room_within edges row arcs next shift range v placed lt less is =
+    placed_room edges (rows_within (arcs_at edges) row shift range) arcs next v placed lt (omega (arith, ap length (within_here (arcs_at edges) row shift range v is), less))
+
+-- a range begins with the rows before it
+pub IsPlaced-begun : (edges : List Edge) (arcs : List Arc) (next : List ℕ) (shift range : ℕ) → IsPlaced edges (rows_before (arcs_at edges) shift range) arcs next → IsPlaced edges (rows_within (arcs_at edges) (arcs_at []) shift range) arcs next
+IsPlaced-begun edges arcs next shift range placed =
+    IsPlaced-same edges (rows_before (arcs_at edges) shift range) (rows_within (arcs_at edges) (arcs_at []) shift range) arcs next (λ u _. grind (arith, nat_tests)) placed
+
+-- and ends with those before the next one
+pub IsPlaced-ended : (edges : List Edge) (arcs : List Arc) (next : List ℕ) (shift range : ℕ) → IsPlaced edges (rows_within (arcs_at edges) (arcs_at edges) shift range) arcs next → IsPlaced edges (rows_before (arcs_at edges) shift (range + 1)) arcs next
+IsPlaced-ended edges arcs next shift range placed =
+    IsPlaced-same edges (rows_within (arcs_at edges) (arcs_at edges) shift range) (rows_before (arcs_at edges) shift (range + 1)) arcs next (λ u _. grind (arith, nat_tests)) placed
+
+-- behind the last range all rows are whole
+pub IsPlaced-all : (edges : List Edge) (arcs : List Arc) (next : List ℕ) (shift range : ℕ) → length next / 2 ^ shift < range → IsPlaced edges (rows_before (arcs_at edges) shift range) arcs next → IsPlaced edges (arcs_at edges) arcs next
+IsPlaced-all edges arcs next shift range past placed =
+    IsPlaced-same edges (rows_before (arcs_at edges) shift range) (arcs_at edges) arcs next (λ u lt. let low = shr_mono {a = u} {b = length next} shift (omega arith) in let before : u / 2 ^ shift < range = omega (arith, low, past) in grind (arith, nat_tests)) placed
+
+none_before : (row : ℕ → List Arc) (shift v : ℕ) → rows_before row shift 0 v ≡ []
+none_before row shift v = grind (arith, nat_tests)
+
 -- no arc stands yet
-pub IsPlaced-none : (edges : List Edge) (arcs : List Arc) (next : List ℕ) → 2 * length edges ≤ length arcs → ((v : ℕ) → v < length next → slice_index next v ≡ arcs_before edges v) → IsPlaced edges (arcs_at []) arcs next
-IsPlaced-none edges arcs next room starts =
+pub IsPlaced-none : (edges : List Edge) (arcs : List Arc) (next : List ℕ) (shift : ℕ) → 2 * length edges ≤ length arcs → ((v : ℕ) → v < length next → slice_index next v ≡ arcs_before edges v) → IsPlaced edges (rows_before (arcs_at edges) shift 0) arcs next
+IsPlaced-none edges arcs next shift room starts =
     let none : (a : ℕ) → slice_range arcs a a ≡ [] =
     λ a.
     let nothing : a - a ≡ 0 = omega arith in
     ap (λ n. take n (drop a arcs)) nothing in
+    let empty : IsPlaced edges (λ _. []) arcs next =
     record {
       room = omega (arith, arcs_before_most edges (length next));
       ends = λ v lt. omega (arith, starts v lt);
       rows = λ v lt. ap (slice_range arcs (arcs_before edges v)) (starts v lt) ∙ none (arcs_before edges v);
-    }
+    } in
+    IsPlaced-same edges (λ _. []) (rows_before (arcs_at edges) shift 0) arcs next (λ u _. sym (none_before (arcs_at edges) shift u)) empty
 
 -- an edge as it leaves its first end, and its second
 abbrev pub first_arc : Edge → Arc
@@ -174,17 +237,17 @@ second_fits edges i d lt =
     let e = get_or edges i d in
     omega (arith, both_fit edges i d e.v lt, added_here (added (arcs_at (take i edges)) e.u (first_arc e)) e.v (second_arc e))
 
-pub IsPlaced-first : (edges : List Edge) (i : ℕ) (d : Edge) (arcs : List Arc) (next : List ℕ) → i < length edges → (get_or edges i d).u < length next → IsPlaced edges (arcs_at (take i edges)) arcs next → IsPlaced edges (added (arcs_at (take i edges)) (get_or edges i d).u (first_arc (get_or edges i d))) (set arcs (slice_index next (get_or edges i d).u) (first_arc (get_or edges i d))) (set next (get_or edges i d).u (slice_index next (get_or edges i d).u + 1))
-IsPlaced-first edges i d arcs next lt within placed =
+pub IsPlaced-first : (edges : List Edge) (i : ℕ) (d : Edge) (arcs : List Arc) (next : List ℕ) (shift range : ℕ) → i < length edges → (get_or edges i d).u < length next → IsPlaced edges (rows_within (arcs_at edges) (arcs_at (take i edges)) shift range) arcs next → IsPlaced edges (rows_within (arcs_at edges) (added (arcs_at (take i edges)) (get_or edges i d).u (first_arc (get_or edges i d))) shift range) (if (get_or edges i d).u / 2 ^ shift == range then set arcs (slice_index next (get_or edges i d).u) (first_arc (get_or edges i d)) else arcs) (if (get_or edges i d).u / 2 ^ shift == range then set next (get_or edges i d).u (slice_index next (get_or edges i d).u + 1) else next)
+IsPlaced-first edges i d arcs next shift range lt within placed =
     let e = get_or edges i d in
-    IsPlaced-more edges (arcs_at (take i edges)) arcs next e.u (first_arc e) placed within (first_fits edges i d lt) (degree_of_first edges i)
+    IsPlaced-within edges (arcs_at (take i edges)) arcs next shift range e.u (first_arc e) placed within (first_fits edges i d lt) (degree_of_first edges i)
 
-pub IsPlaced-second : (edges : List Edge) (i : ℕ) (d : Edge) (arcs : List Arc) (next : List ℕ) → i < length edges → (get_or edges i d).v < length next → IsPlaced edges (added (arcs_at (take i edges)) (get_or edges i d).u (first_arc (get_or edges i d))) arcs next → IsPlaced edges (arcs_at (take (i + 1) edges)) (set arcs (slice_index next (get_or edges i d).v) (second_arc (get_or edges i d))) (set next (get_or edges i d).v (slice_index next (get_or edges i d).v + 1))
-IsPlaced-second edges i d arcs next lt within placed =
+pub IsPlaced-second : (edges : List Edge) (i : ℕ) (d : Edge) (arcs : List Arc) (next : List ℕ) (shift range : ℕ) → i < length edges → (get_or edges i d).v < length next → IsPlaced edges (rows_within (arcs_at edges) (added (arcs_at (take i edges)) (get_or edges i d).u (first_arc (get_or edges i d))) shift range) arcs next → IsPlaced edges (rows_within (arcs_at edges) (arcs_at (take (i + 1) edges)) shift range) (if (get_or edges i d).v / 2 ^ shift == range then set arcs (slice_index next (get_or edges i d).v) (second_arc (get_or edges i d)) else arcs) (if (get_or edges i d).v / 2 ^ shift == range then set next (get_or edges i d).v (slice_index next (get_or edges i d).v + 1) else next)
+IsPlaced-second edges i d arcs next shift range lt within placed =
     let e = get_or edges i d in
     let row = added (arcs_at (take i edges)) e.u (first_arc e) in
     let few : (u : ℕ) → length (row u) ≤ length (arcs_at edges u) = λ u. omega (arith, both_fit edges i d u lt, added_more row e.v (second_arc e) u) in
-    IsPlaced-same edges (added row e.v (second_arc e)) (arcs_at (take (i + 1) edges)) _ _ (λ u. arcs_at_more edges i d u lt) (IsPlaced-more edges row arcs next e.v (second_arc e) placed within (second_fits edges i d lt) few)
+    IsPlaced-same edges (rows_within (arcs_at edges) (added row e.v (second_arc e)) shift range) (rows_within (arcs_at edges) (arcs_at (take (i + 1) edges)) shift range) _ _ (λ u _. rw (← arcs_at_more edges i d u lt) refl) (IsPlaced-within edges row arcs next shift range e.v (second_arc e) placed within (second_fits edges i d lt) few)
 
 -- no node has more arcs than two for each edge
 pub degree_most : (edges : List Edge) (v : ℕ) → length (arcs_at edges v) ≤ 2 * length edges

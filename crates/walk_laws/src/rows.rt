@@ -1,10 +1,13 @@
-ghost use Rattle.std.specs.Prelude.{◌≡◌, ℕ, ◌-◌, ◌*◌, ◌<◌, ◌+◌, ◌^◌, ◌≤◌, All, IfOk, OnOk, length, slice_index, slice_range, vec_len, set};
+ghost use Rattle.std.specs.Prelude.{◌≡◌, ℕ, true, ◌-◌, ◌*◌, ◌<◌, ◌+◌, ◌^◌, ◌≤◌, All, IfOk, OnOk, length, slice_index, slice_range, vec_len, set, if◌then◌else◌};
 ghost use Rattle.std.specs.List.Sorted.{IsNonDecreasing};
 ghost use Rattle.walk_laws.specs.Graph.{IsRowOf, arcs_at};
-ghost use Rattle.walk_laws.specs.Rows.{AreWithin, IsPlaced, arcs_before};
+ghost use Rattle.walk_laws.specs.Rows.{AreWithin, IsPlaced, arcs_before, rows_before};
 
 use crate::graph::{Arc, Edge};
 use std::alloc::{AllocError, Global};
+
+/// Up to so many nodes are swept in ranges of 2^16, and more in at most 16 ranges.
+const LEAST_SWEPT: usize = 1 << 19;
 
 /// How many arcs each node has, from node 0, which has none, up to the last one that an edge names.
 /// The only error is that memory ran out.
@@ -61,7 +64,8 @@ pub fn place_arcs(alloc: Global, edges: &[Edge], next: &mut [usize]) -> Result<V
     Ok(arcs)
 }
 
-/// Puts both arcs of each edge where the next one of its node is to stand.
+/// Puts both arcs of each edge where the next one of its node is to stand. The nodes are taken in ranges of `2 ^ shift`, and
+/// each range in a sweep over all edges, so that the places that are written in a sweep fit into a cache.
 fn place_each(edges: &[Edge], arcs: &mut [Arc], next: &mut [usize])
     requires room { 2 * length edges.now ≤ length arcs.old }
     requires nodes { AreWithin edges.now (length next.old) }
@@ -69,22 +73,41 @@ fn place_each(edges: &[Edge], arcs: &mut [Arc], next: &mut [usize])
     ensures placed { IsPlaced edges.now (arcs_at edges.now) arcs.new next.new }
     ensures len { length next.new ≡ length next.old }
 {
-    for e in edges {
-        place(arcs, next, e.u as usize, Arc { to: e.v, w: e.w });
-        place(arcs, next, e.v as usize, Arc { to: e.u, w: e.w });
+    let shift = next.len().max(LEAST_SWEPT).ilog2().saturating_sub(3);
+    for range in 0..(next.len() >> shift) + 1 {
+        place_range(edges, arcs, next, shift, range);
     }
 }
 
-/// Puts an arc of the node `v` where its next one is to stand.
-fn place(arcs: &mut [Arc], next: &mut [usize], v: usize, arc: Arc)
-    requires node { v < length next.old }
-    requires room { slice_index next.old v < length arcs.old }
-    ensures arcs { arcs.new ≡ set arcs.old (slice_index next.old v) arc }
-    ensures next { next.new ≡ set next.old v (slice_index next.old v + 1) }
+/// Puts the arcs of the nodes of one range, where those of the ranges before it stand.
+fn place_range(edges: &[Edge], arcs: &mut [Arc], next: &mut [usize], shift: u32, range: usize)
+    requires shift { shift < 64 }
+    requires nodes { AreWithin edges.now (length next.old) }
+    requires placed { IsPlaced edges.now (rows_before (arcs_at edges.now) shift range) arcs.old next.old }
+    ensures placed { IsPlaced edges.now (rows_before (arcs_at edges.now) shift (range + 1)) arcs.new next.new }
+    ensures len { length next.new ≡ length next.old }
 {
-    let at = next[v];
-    arcs[at] = arc;
-    next[v] = at + 1;
+    for e in edges {
+        let u = e.u as usize;
+        let v = e.v as usize;
+        place_if(u >> shift == range, arcs, next, u, Arc { to: e.v, w: e.w });
+        place_if(v >> shift == range, arcs, next, v, Arc { to: e.u, w: e.w });
+    }
+}
+
+/// Puts an arc of the node `v` where its next one is to stand, if it is to be placed now.
+fn place_if(is_now: bool, arcs: &mut [Arc], next: &mut [usize], v: usize, arc: Arc)
+    requires node { v < length next.old }
+    requires room { is_now ≡ true → slice_index next.old v < length arcs.old }
+    ensures arcs { arcs.new ≡ (if is_now then set arcs.old (slice_index next.old v) arc else arcs.old) }
+    ensures next { next.new ≡ (if is_now then set next.old v (slice_index next.old v + 1) else next.old) }
+    ensures len { length next.new ≡ length next.old }
+{
+    if is_now {
+        let at = next[v];
+        arcs[at] = arc;
+        next[v] = at + 1;
+    }
 }
 
 /// Sorts the arcs of each node by rising neighbour; ties keep their order. Those of `v` lie between `ends[v - 1]` and
