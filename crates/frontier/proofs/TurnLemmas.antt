@@ -15,6 +15,7 @@ use Rattle.frontier.specs.declared.reach.Reach.{Reach}
 use Rattle.frontier.specs.declared.reach.Reach.TheVariants.{Unreached, Queued, Settled}
 use Rattle.frontier.specs.declared.turn.Turn.{Turn}
 use Rattle.frontier.specs.Reaches.{reach_at, settled}
+use Rattle.frontier.specs.Touched.{touched_with}
 use Rattle.frontier.specs.TurnOf.{turn_of}
 use Rattle.frontier.specs.Turns.{HasTurns}
 
@@ -64,6 +65,17 @@ module _ {C : Type 0} where
     reached = λ x is. rw more (Contains-append_left touched (node ∷ []) x (has.reached x is));
     nodes = rw more (All-push (λ x. x < length reaches) touched node has.nodes inside);
   }
+
+  -- an offer to a node touches it
+  pub HasTurns-touched_with : (reaches : List (Reach C)) (turns : List Turn) (touched now : List ℕ) (node : ℕ) (reach : Reach C) → HasTurns reaches turns touched → node < length reaches → now ≡ touched_with touched node reach → HasTurns reaches turns now
+  HasTurns-touched_with reaches turns touched now node Unreached has inside more = HasTurns-touched reaches turns touched now node has inside more
+  HasTurns-touched_with reaches turns touched now node (Queued f) has inside more = rw more has
+  HasTurns-touched_with reaches turns touched now node (Settled f) has inside more = rw more has
+
+  pub touched_then : (reaches : List (Reach C)) (turns : List Turn) (touched now : List ℕ) (node : ℕ) (reach : Reach C) → HasTurns reaches turns touched → reach_at reaches node ≡ reach → now ≡ touched_with touched node reach → Contains now node
+  touched_then reaches turns touched now node Unreached has was more = rw more (Contains-append_right touched (node ∷ []) node (first_of node []))
+  touched_then reaches turns touched now node (Queued f) has was more = rw more (has.reached node (λ none. let both : Unreached ≡ Queued f = sym none ∙ was in cc))
+  touched_then reaches turns touched now node (Settled f) has was more = rw more (has.reached node (λ none. let both : Unreached ≡ Settled f = sym none ∙ was in cc))
 
   -- a node that was touched is queued, and gets a turn
   pub HasTurns-queued : (reaches : List (Reach C)) (turns now : List Turn) (touched : List ℕ) (node : ℕ) (f : Found C) → HasTurns reaches turns touched → node < length reaches → Contains touched node → IsPermutation (turn_of node f.dist ∷ turns) now → IsHeap nearness now → HasTurns (set reaches node (Queued f)) now touched

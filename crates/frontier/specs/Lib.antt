@@ -1,4 +1,5 @@
 pub mod Places
 pub mod Reaches
+pub mod Touched
 pub mod TurnOf
 pub mod Turns

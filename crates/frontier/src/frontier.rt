@@ -1,5 +1,6 @@
-ghost use Rattle.std.specs.Prelude.{◌≡◌, ◌≢◌, ℕ, ◌+◌, ◌<◌, ◌≤◌, length, replicate, IfOk, OnOk, OnErr, IfSome, IfNone};
+ghost use Rattle.std.specs.Prelude.{◌≡◌, ◌≢◌, ℕ, ◌+◌, ◌<◌, ◌≤◌, length, replicate, slice_set, IfOk, OnOk, OnErr, IfSome, IfNone};
 ghost use Rattle.frontier.specs.Reaches.{reach_at, with_offer, settled};
+ghost use Rattle.frontier.specs.Touched.{touched_with};
 ghost use Rattle.frontier.specs.declared.reach.Found.{Found};
 ghost use Rattle.frontier.specs.declared.reach.Reach.TheVariants.{Unreached, Queued};
 
@@ -68,6 +69,7 @@ impl<C: Carry> Frontier<C> {
 
     /// The same [`offer`](Frontier::offer), by one who knows how far the search has come with the node. It answers how far
     /// the search has come with it then.
+    #[inline(always)]
     pub fn offer_from(
         &mut self,
         node: u32,
@@ -81,29 +83,34 @@ impl<C: Carry> Frontier<C> {
         ensures reach { IfOk result (λ after. after ≡ reach_at self.new node) }
         ensures err { OnErr result (self.new ≡ self.old) }
     {
-        let offer = Found { dist, carried };
         match reach {
-            Reach::Unreached => {
-                self.touched.push(node)?;
-                self.turns.push(Turn::of(node, dist))?;
-                let after = Reach::Queued(offer);
-                self.reaches.set(node, after);
-                Ok(after)
-            }
-            Reach::Queued(best) if dist < best.dist => {
-                self.turns.push(Turn::of(node, dist))?;
-                let after = Reach::Queued(offer);
-                self.reaches.set(node, after);
-                Ok(after)
-            }
-            Reach::Queued(best) if dist == best.dist => {
+            Reach::Settled(_) => Ok(reach),
+            Reach::Queued(best) if best.dist < dist => Ok(Reach::Queued(best)),
+            Reach::Queued(best) if best.dist == dist => {
                 let carried = best.carried.combine(carried);
                 let after = Reach::Queued(Found { dist, carried });
                 self.reaches.set(node, after);
                 Ok(after)
             }
-            _ => Ok(reach),
+            _ => self.queue(node, reach, Found { dist, carried }),
         }
+    }
+
+    /// Queues a node with what was found of it, and answers that. The only error is that memory ran out, and then nothing
+    /// has changed.
+    #[inline(always)]
+    fn queue(&mut self, node: u32, reach: Reach<C>, found: Found<C>) -> Result<Reach<C>, AllocError>
+        requires node { node < length self.old }
+        requires reach { reach ≡ reach_at self.old node }
+        ensures ok { OnOk result (self.new ≡ slice_set self.old node (Queued found)) }
+        ensures queued { IfOk result (λ after. after ≡ Queued found) }
+        ensures err { OnErr result (self.new ≡ self.old) }
+    {
+        touch(&mut self.touched, node, reach)?;
+        self.turns.push(Turn::of(node, found.dist))?;
+        let after = Reach::Queued(found);
+        self.reaches.set(node, after);
+        Ok(after)
     }
 
     /// Settles a queued node of least distance, and answers it with what was found of it; None where no node is queued.
@@ -135,4 +142,16 @@ impl<C: Carry> Frontier<C> {
         }
         self.turns.clear();
     }
+}
+
+/// Adds a node to the touched ones, unless it was reached before. The only error is that memory ran out.
+#[inline(always)]
+fn touch<C: Copy>(touched: &mut Vec<u32>, node: u32, reach: Reach<C>) -> Result<(), AllocError>
+    ensures ok { OnOk result (touched.new.items ≡ touched_with touched.old.items node reach) }
+    ensures err { OnErr result (touched.new.items ≡ touched.old.items) }
+{
+    if let Reach::Unreached = reach {
+        touched.push(node)?;
+    }
+    Ok(())
 }
