@@ -1,5 +1,5 @@
 -- What a frontier keeps of its nodes stays true through its steps.
-use Rattle.std.proofs.Common.{◌≡◌, ◌≢◌, ℕ, zero, suc, ◌<◌, ◌≤◌, false, inl, inr, List, [], ◌∷◌, ◌++◌, All, Contains, length, get_or, replicate, get_or-set_other, get_or-set_same, refl, sym, ap, subst, ◌∙◌, arith}
+use Rattle.std.proofs.Common.{◌≡◌, ◌≢◌, ℕ, zero, suc, ◌<◌, ◌≤◌, false, inl, inr, List, [], ◌∷◌, ◌++◌, Contains, length, get_or, replicate, get_or-set_other, get_or-set_same, refl, sym, ap, subst, ◌∙◌, arith}
 use Rattle.std.specs.declared.cmp.Ordering.{Ordering}
 use Rattle.std.specs.Ordering.{nat_cmp, is_lt}
 use Rattle.std.specs.BinaryHeap.{IsHeap, IsUpperBound}
@@ -7,8 +7,8 @@ use Rattle.std.specs.List.Sorted.{IsPermutation}
 use Rattle.std.proofs.Math.ListN.{set, length-set, get_or-eq_default}
 use Rattle.std.proofs.lemmas.Bool.{cases_eq, cases_lt}
 use Rattle.std.proofs.lemmas.Bool.Decides.{nat_tests}
-use Rattle.std.proofs.lemmas.List.{ext_get_or, get_or-replicate, length-replicate, get_or_append_left, length-append}
-use Rattle.std.proofs.lemmas.List.Elements.{All-cons, All-tail, All-contains, All-push, Contains-append_left, Contains-append_right, Contains-append_cases, All-from_recursion}
+use Rattle.std.proofs.lemmas.List.{ext_get_or, get_or-replicate, length-replicate}
+use Rattle.std.proofs.lemmas.List.Elements.{All-cons, All-tail, All-contains, All-push, Contains-append_left, Contains-append_right, All-from_recursion}
 use Rattle.std.proofs.lemmas.List.Sorted.{All-permutation, Contains-permutation, IsPermutation-sym}
 use Rattle.frontier.specs.declared.reach.Found.{Found}
 use Rattle.frontier.specs.declared.reach.Reach.{Reach}
@@ -184,22 +184,3 @@ module _ {C : Type 0} where
   pub replicated : (reaches : List (Reach C)) (n : ℕ) → length reaches ≡ n → ((x : ℕ) → reach_at reaches x ≡ Unreached) → reaches ≡ replicate n Unreached
   replicated reaches n size none =
       ext_get_or Unreached reaches (replicate n Unreached) (size ∙ sym (length-replicate n Unreached)) (λ i lt. none i ∙ sym (nothing_reached n i))
-
-  -- the last node of those to come is forgotten
-  pub forgotten : (reaches : List (Reach C)) (touched rest : List ℕ) (node x : ℕ) → ((y : ℕ) → reach_at reaches y ≢ Unreached → Contains touched y) → touched ≡ rest ++ node ∷ [] → node < length reaches → reach_at (set reaches node Unreached) x ≢ Unreached → Contains rest x
-  forgotten reaches touched rest node x reached ends inside is = elim (cases_eq x node) [
-    | inl here ↦ absurd (is (ap (λ y. reach_at (set reaches node Unreached) y) here ∙ get_or-set_same reaches node Unreached Unreached inside))
-    | inr other ↦ elim (Contains-append_cases rest (node ∷ []) x (subst (λ nodes. Contains nodes x) ends (reached x (λ none_yet. is (get_or-set_other reaches node x Unreached Unreached other ∙ none_yet))))) [
-      | inl before ↦ before
-      | inr last ↦ absurd (other (sym (only node x last)))
-    ]
-  ]
-    where
-      only : (y z : ℕ) → Contains (y ∷ []) z → y ≡ z
-      only y z (zero, lt, same) = same
-      only y z (suc k, lt, same) = absurd (omega arith)
-
--- a front of a list
-pub All-front : {X : Type 0} (P : X → Type 0) (xs ys zs : List X) → xs ≡ ys ++ zs → All P xs → All P ys
-All-front P xs ys zs is all k d lt =
-    rw (← get_or_append_left ys zs d k lt) (subst (λ l. P (get_or l k d)) is (all k d (omega (arith, ap length is, length-append ys zs))))

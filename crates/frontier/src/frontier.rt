@@ -137,9 +137,10 @@ impl<C: Carry> Frontier<C> {
     pub fn clear(&mut self)
         ensures { self.new ≡ replicate (length self.old) Unreached }
     {
-        while let Some(node) = self.touched.pop() {
-            self.reaches.set(node, Reach::Unreached);
+        for node in self.touched.as_slice() {
+            self.reaches.set(*node, Reach::Unreached);
         }
+        self.touched.clear();
         self.turns.clear();
     }
 }

@@ -1,4 +1,4 @@
-use Rattle.std.proofs.Common.{◌≡◌, ◌≢◌, ℕ, ◌<◌, All, Contains, length, vec_len}
+use Rattle.std.proofs.Common.{◌≡◌, ◌≢◌, ℕ, ◌<◌, All, Contains, drop, length}
 use Rattle.frontier.specs.declared.reach.Reach.TheVariants.{Unreached}
 use Rattle.frontier.specs.Reaches.{reach_at}
 use Rattle.frontier.proofs.frontier.Frontier.clear.Given as goal
@@ -6,10 +6,7 @@ use Rattle.frontier.proofs.frontier.Frontier.clear.Given as goal
 -- each node that is still reached is to come
 abbrev pub invariant-loop-node : goal.invariant-loop-node
 invariant-loop-node g l = record {
-  size : length l.self-inside.reaches ≡ length l.initial.self-inside.reaches;
-  reached : (x : ℕ) → reach_at l.self-inside.reaches x ≢ Unreached → Contains l.self-inside.touched.items x;
-  nodes : All (λ x. x < length l.self-inside.reaches) l.self-inside.touched.items;
+  size : length l.self-inside.1.0 ≡ length l.initial.self-inside.1.0;
+  reached : (x : ℕ) → reach_at l.self-inside.1.0 x ≢ Unreached → Contains (drop l.node-index l.node-items) x;
+  nodes : All (λ x. x < length l.self-inside.1.0) l.node-items;
 }
-
-abbrev pub decreases-loop-node : goal.decreases-loop-node
-decreases-loop-node g l = vec_len l.self-inside.touched
