@@ -106,7 +106,7 @@ module _ {R V F : Type 0} (refused : R → List ℕ → Option F) (comes_to : R 
   none_yet first last (p ∷ ps) fresh taken = ap (refused first) (sym (append-nil (concat (p ∷ ps)))) ∙ sym (fed first last (p ∷ ps) taken []).0 ∙ at_no_fault first last p ps taken
 
   -- what the reader comes to in the end is what all its bytes come to
-  pub came : (first last : R) (old new : Option Contents) (value : V) → HandsOnAll gives first last old new → comes_to last [] ≡ Ok value → (bytes : List ℕ) × (comes_to first bytes ≡ Ok value)
+  pub came : (first last : R) (old new : Option Contents) (value : V) → HandsOnAll gives input_limit first last old new → comes_to last [] ≡ Ok value → (bytes : List ℕ) × (comes_to first bytes ≡ Ok value)
   came first last old new value all comes = (concat all.pieces ++ [], sym (fed first last all.pieces all.taken []).1 ∙ comes)
 
   module _ (stop : F → Stop) (want : stop no_memory ≡ stops.NoMemory) (name : List ℕ) (first last : R) (fresh : refused first [] ≡ None) where
@@ -141,7 +141,7 @@ module _ {R V F : Type 0} (refused : R → List ℕ → Option F) (comes_to : R 
 
     module _ (old mid new : Option Contents) (opens : Tells old mid (Opens name)) where
       -- all bytes of the input went to the reader, which then came to a value
-      pub read_value : (value : V) → HandsOnAll gives first last mid new → comes_to last [] ≡ Ok value → Tells old new (Went (reading the_input) (Ok value))
+      pub read_value : (value : V) → HandsOnAll gives input_limit first last mid new → comes_to last [] ≡ Ok value → Tells old new (Went (reading the_input) (Ok value))
       read_value value all comes = chained old mid new opens all.read (λ a b c o r. inr (
         value,
         ap (value_of the_input) (o.0 ∙ ap Some r.0) ∙ within_limit the_input (concat all.pieces) all.within ∙ ap (judged stop) (sym (comes_of_all all.pieces all.taken) ∙ comes),
@@ -149,7 +149,7 @@ module _ {R V F : Type 0} (refused : R → List ℕ → Option F) (comes_to : R 
       ))
 
       -- or to a fault
-      pub read_fault : (fault : F) → HandsOnAll gives first last mid new → (fault ≡ no_memory) ⊎ (comes_to last [] ≡ Err fault) → Tells old new (Went (reading the_input) (Err (stop fault)))
+      pub read_fault : (fault : F) → HandsOnAll gives input_limit first last mid new → (fault ≡ no_memory) ⊎ (comes_to last [] ≡ Err fault) → Tells old new (Went (reading the_input) (Err (stop fault)))
       read_fault fault all why = chained old mid new opens all.read (λ a b c o r. inl (
         stop fault,
         refl,
@@ -165,8 +165,8 @@ module _ {R V F : Type 0} (refused : R → List ℕ → Option F) (comes_to : R 
       ))
 
       -- what a reading that ends before the input's end says of it
-      pub read_end : (end : ReadEnd F) → OnTooLong {T = Unit {0}} (Err end) (PassesLimit gives first last mid new) → IfRefused {T = Unit {0}} (Err end) (λ fault. HandsOnUntil gives fault first last mid new) →
-          OnFailed {T = Unit {0}} (Err end) (HandsOn gives first last mid new) → OnNoMemory {T = Unit {0}} (Err end) (HandsOn gives first last mid new) → (IsSteady mid → OnFailed {T = Unit {0}} (Err end) ⊥) →
+      pub read_end : (end : ReadEnd F) → OnTooLong {T = Unit {0}} (Err end) (PassesLimit gives input_limit first last mid new) → IfRefused {T = Unit {0}} (Err end) (λ fault. HandsOnUntil gives input_limit fault first last mid new) →
+          OnFailed {T = Unit {0}} (Err end) (HandsOn gives input_limit first last mid new) → OnNoMemory {T = Unit {0}} (Err end) (HandsOn gives input_limit first last mid new) → (IsSteady mid → OnFailed {T = Unit {0}} (Err end) ⊥) →
           Tells old new (Went (reading the_input) (Err (end_stop stop end)))
       read_end Failed long refusal failed memory steady = failed_end old mid new opens failed.read steady
         where

@@ -6,7 +6,7 @@ use Rattle.std.proofs.lemmas.List.{append-nil}
 use Rattle.desk_io.specs.Contents.{Contents, Tells}
 use Rattle.desk_io.specs.Feed.{TakesAll}
 use Rattle.desk_io.specs.HandOn.{Moves, RefusesNext}
-use Rattle.desk_io.specs.Reading.{input_limit, piece_limit, Reads, ReadsToEnd, HandsOn, HandsOnAll, HandsOnUntil, OnFailed, OnNoMemory, IfRefused}
+use Rattle.desk_io.specs.Reading.{piece_limit, Reads, ReadsToEnd, HandsOn, HandsOnAll, HandsOnUntil, OnFailed, OnNoMemory, IfRefused}
 use Rattle.desk_io.specs.declared.read_all.ReadEnd.{ReadEnd}
 use Rattle.desk_io.specs.declared.read_all.ReadEnd.TheVariants.{Failed, TooLong, NoMemory, Refused}
 
@@ -74,16 +74,16 @@ module _ {F E : Type 0} (gives : F → List ℕ → Result (Unit {0}) E → F �
   }
 
   -- what moved is within the limit
-  pub HandsOn-from_moves : (f l : F) (old new : Option Contents) (size : ℕ) → Moves gives f l old new size → size ≤ input_limit → HandsOn gives f l old new
-  HandsOn-from_moves f l old new size moved within = record { pieces = moved.pieces; taken = moved.taken; within = subst (λ n. n ≤ input_limit) (sym moved.size_is) within; read = moved.read }
+  pub HandsOn-from_moves : (limit : ℕ) (f l : F) (old new : Option Contents) (size : ℕ) → Moves gives f l old new size → size ≤ limit → HandsOn gives limit f l old new
+  HandsOn-from_moves limit f l old new size moved within = record { pieces = moved.pieces; taken = moved.taken; within = subst (λ n. n ≤ limit) (sym moved.size_is) within; read = moved.read }
 
   -- and nothing is left
-  pub HandsOnAll-from_moves : (f l : F) (old new : Option Contents) (size : ℕ) → Moves gives f l old new size → size ≤ input_limit → IfSome new (λ b. b.rest ≡ []) → HandsOnAll gives f l old new
-  HandsOnAll-from_moves f l old new size moved within end = record { pieces = moved.pieces; taken = moved.taken; within = subst (λ n. n ≤ input_limit) (sym moved.size_is) within; read = told_at_end (concat moved.pieces) old new moved.read end }
+  pub HandsOnAll-from_moves : (limit : ℕ) (f l : F) (old new : Option Contents) (size : ℕ) → Moves gives f l old new size → size ≤ limit → IfSome new (λ b. b.rest ≡ []) → HandsOnAll gives limit f l old new
+  HandsOnAll-from_moves limit f l old new size moved within end = record { pieces = moved.pieces; taken = moved.taken; within = subst (λ n. n ≤ limit) (sym moved.size_is) within; read = told_at_end (concat moved.pieces) old new moved.read end }
 
   -- and the feed refused the next piece
-  pub HandsOnUntil-from_moves : (fault : E) (f m l : F) (old mid new : Option Contents) (size room : ℕ) → Moves gives f m old mid size → size + room ≤ input_limit → room ≤ piece_limit → RefusesNext gives fault m l mid new room → HandsOnUntil gives fault f l old new
-  HandsOnUntil-from_moves fault f m l old mid new size room moved within short next = record {
+  pub HandsOnUntil-from_moves : (limit : ℕ) (fault : E) (f m l : F) (old mid new : Option Contents) (size room : ℕ) → Moves gives f m old mid size → size + room ≤ limit → room ≤ piece_limit → RefusesNext gives fault m l mid new room → HandsOnUntil gives limit fault f l old new
+  HandsOnUntil-from_moves limit fault f m l old mid new size room moved within short next = record {
     pieces = moved.pieces;
     last = next.piece;
     middle = m;

@@ -7,7 +7,7 @@ use Rattle.desk_io.specs.Feed.{TakesAll}
 use Rattle.desk_io.specs.declared.read_all.ReadEnd.{ReadEnd}
 use Rattle.desk_io.specs.declared.read_all.ReadEnd.TheVariants.{Failed, TooLong, NoMemory, Refused}
 
--- the most bytes that a reading hands on
+-- the most bytes that the reading of an input hands on
 abbrev pub input_limit : ℕ
 input_limit = 2 ^ 48
 
@@ -23,26 +23,26 @@ Reads bytes a b = (a.rest ≡ bytes ++ b.rest) × (b ≡ record a { rest = b.res
 abbrev pub ReadsToEnd : List ℕ → Contents → Contents → Type 0
 ReadsToEnd bytes a b = (a.rest ≡ bytes) × (b ≡ record a { rest = [] })
 
-module _ {F E : Type 0} (gives : F → List ℕ → Result (Unit {0}) E → F → Type 0) where
+module _ {F E : Type 0} (gives : F → List ℕ → Result (Unit {0}) E → F → Type 0) (limit : ℕ) where
   -- the feed took these pieces, which were read off the input in this order and are at most the limit
   pub record HandsOn (before after : F) (old new : Option Contents) : Type 0 where
     pub pieces : List (List ℕ)
     pub taken : TakesAll gives before pieces after
-    pub within : length (concat pieces) ≤ input_limit
+    pub within : length (concat pieces) ≤ limit
     pub read : Tells old new (Reads (concat pieces))
 
   -- the same, and these were the whole input
   pub record HandsOnAll (before after : F) (old new : Option Contents) : Type 0 where
     pub pieces : List (List ℕ)
     pub taken : TakesAll gives before pieces after
-    pub within : length (concat pieces) ≤ input_limit
+    pub within : length (concat pieces) ≤ limit
     pub read : Tells old new (ReadsToEnd (concat pieces))
 
   -- the feed took pieces that fill the limit, and after them one byte more was read off the input
   pub record PassesLimit (before after : F) (old new : Option Contents) : Type 0 where
     pub pieces : List (List ℕ)
     pub taken : TakesAll gives before pieces after
-    pub full : length (concat pieces) ≡ input_limit
+    pub full : length (concat pieces) ≡ limit
     pub further : ℕ
     pub read : Tells old new (Reads (concat pieces ++ further ∷ []))
 
@@ -55,7 +55,7 @@ module _ {F E : Type 0} (gives : F → List ℕ → Result (Unit {0}) E → F �
     pub refused : gives middle last (Err fault) after
     pub nonempty : 0 < length last
     pub short : length last ≤ piece_limit
-    pub within : length (concat pieces ++ last) ≤ input_limit
+    pub within : length (concat pieces ++ last) ≤ limit
     pub read : Tells old new (Reads (concat pieces ++ last))
 
 module _ {T E : Type 0} where

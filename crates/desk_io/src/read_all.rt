@@ -1,7 +1,7 @@
 ghost use Rattle.std.specs.Prelude.{◌≡◌, ℕ, ◌<◌, ◌≤◌, [], ◌∷◌, length, IsTrue, OnOk, IfOk, IfSome};
 ghost use Rattle.desk_io.specs.Contents.{Tells, IsSteady};
 ghost use Rattle.desk_io.specs.HandOn.{Moves, RefusesNext};
-ghost use Rattle.desk_io.specs.Reading.{Reads, ReadsToEnd, HandsOn, HandsOnAll, PassesLimit, HandsOnUntil, OnFailed, OnTooLong, OnNoMemory, IfRefused, CountsReadFailure};
+ghost use Rattle.desk_io.specs.Reading.{Reads, ReadsToEnd, HandsOn, HandsOnAll, PassesLimit, HandsOnUntil, OnFailed, OnTooLong, OnNoMemory, IfRefused, CountsReadFailure, input_limit};
 
 use crate::desk::{Desk, DeskFault};
 use crate::feed::Feed;
@@ -17,7 +17,7 @@ const BUFFER_LEN: u64 = 1 << 13;
 pub enum ReadEnd<F> {
     /// The desk failed.
     Failed,
-    /// The input has more than [`INPUT_LIMIT`] bytes.
+    /// The input has more bytes than the limit.
     TooLong,
     /// The desk had no memory.
     NoMemory,
@@ -25,24 +25,47 @@ pub enum ReadEnd<F> {
     Refused(F),
 }
 
-/// Reads the input to its end, and hands each piece to the feed, in order. It gives the feed at most
-/// [`INPUT_LIMIT`] bytes, and then reads one byte more, to see whether there is one.
+/// Reads the input to its end, and hands each piece to the feed, in order: [`read_at_most`] with [`INPUT_LIMIT`].
 pub fn read_all_into<D: Desk, F: Feed>(desk: &mut D, feed: &mut F) -> Result<(), ReadEnd<F::Fault>>
     requires { IsTrue (D.is_open desk.old) }
     ensures open { IsTrue (D.is_open desk.new) }
     ensures created { D.is_created desk.new ≡ D.is_created desk.old }
-    ensures ok { OnOk result (HandsOnAll F.feed_gives feed.old feed.new (D.told desk.old) (D.told desk.new)) }
-    ensures too_long { OnTooLong result (PassesLimit F.feed_gives feed.old feed.new (D.told desk.old) (D.told desk.new)) }
+    ensures ok { OnOk result (HandsOnAll F.feed_gives input_limit feed.old feed.new (D.told desk.old) (D.told desk.new)) }
+    ensures too_long { OnTooLong result (PassesLimit F.feed_gives input_limit feed.old feed.new (D.told desk.old) (D.told desk.new)) }
     ensures refused { IfRefused result (λ fault.
-        HandsOnUntil F.feed_gives fault feed.old feed.new (D.told desk.old) (D.told desk.new)) }
-    ensures failed { OnFailed result (HandsOn F.feed_gives feed.old feed.new (D.told desk.old) (D.told desk.new)) }
-    ensures no_memory { OnNoMemory result (HandsOn F.feed_gives feed.old feed.new (D.told desk.old) (D.told desk.new)) }
+        HandsOnUntil F.feed_gives input_limit fault feed.old feed.new (D.told desk.old) (D.told desk.new)) }
+    ensures failed { OnFailed result (HandsOn F.feed_gives input_limit feed.old feed.new (D.told desk.old) (D.told desk.new)) }
+    ensures no_memory { OnNoMemory result (HandsOn F.feed_gives input_limit feed.old feed.new (D.told desk.old) (D.told desk.new)) }
+    ensures steady { IsSteady (D.told desk.old) → OnFailed result ⊥ }
+    ensures input_count { CountsReadFailure result (D.input_faults desk.old) (D.input_faults desk.new) }
+    ensures output_count { D.output_faults desk.new ≡ D.output_faults desk.old }
+{
+    read_at_most(desk, feed, INPUT_LIMIT)
+}
+
+/// Reads the input to its end, and hands each piece to the feed, in order. It gives the feed at most `limit` bytes,
+/// and then reads one byte more, to see whether there is one: that there is one is the error [`ReadEnd::TooLong`].
+/// What the feed refuses comes first, and leaves the rest unread.
+pub fn read_at_most<D: Desk, F: Feed>(
+    desk: &mut D,
+    feed: &mut F,
+    limit: u64,
+) -> Result<(), ReadEnd<F::Fault>>
+    requires { IsTrue (D.is_open desk.old) }
+    ensures open { IsTrue (D.is_open desk.new) }
+    ensures created { D.is_created desk.new ≡ D.is_created desk.old }
+    ensures ok { OnOk result (HandsOnAll F.feed_gives limit feed.old feed.new (D.told desk.old) (D.told desk.new)) }
+    ensures too_long { OnTooLong result (PassesLimit F.feed_gives limit feed.old feed.new (D.told desk.old) (D.told desk.new)) }
+    ensures refused { IfRefused result (λ fault.
+        HandsOnUntil F.feed_gives limit fault feed.old feed.new (D.told desk.old) (D.told desk.new)) }
+    ensures failed { OnFailed result (HandsOn F.feed_gives limit feed.old feed.new (D.told desk.old) (D.told desk.new)) }
+    ensures no_memory { OnNoMemory result (HandsOn F.feed_gives limit feed.old feed.new (D.told desk.old) (D.told desk.new)) }
     ensures steady { IsSteady (D.told desk.old) → OnFailed result ⊥ }
     ensures input_count { CountsReadFailure result (D.input_faults desk.old) (D.input_faults desk.new) }
     ensures output_count { D.output_faults desk.new ≡ D.output_faults desk.old }
 {
     let mut buf = [0; BUFFER_LEN as usize];
-    let mut room = INPUT_LIMIT;
+    let mut room = limit;
     while room > 0 {
         let want = room.min(BUFFER_LEN) as usize;
         let count = hand_on(desk, feed, &mut buf[..want])?;

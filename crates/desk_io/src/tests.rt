@@ -70,6 +70,32 @@ fn a_desk_in_memory_bites_and_fails(rt: HostRuntime) -> Result<(), Fail> {
 }
 
 #[test]
+fn a_byte_past_the_limit_is_too_long(rt: HostRuntime) -> Result<(), Fail> {
+    let alloc = rt.alloc();
+    let mut desk = MemDesk::new(alloc, 2, Vec::new(alloc))?;
+    desk.put_file("six", b"planet")?;
+    let mut kept = Kept {
+        bytes: Vec::new(alloc),
+    };
+    desk.open_in("six")?;
+    assert_eq!(rt;
+        read_at_most(&mut desk, &mut kept, 5),
+        Err(ReadEnd::TooLong)
+    );
+    assert_eq!(rt; kept.bytes.as_slice(), b"plane".as_slice());
+    desk.open_in("six")?;
+    assert_eq!(rt; read_at_most(&mut desk, &mut kept, 6), Ok(()));
+    assert_eq!(rt; kept.bytes.as_slice(), b"planeplanet".as_slice());
+    desk.open_in("six")?;
+    assert_eq!(rt;
+        read_at_most(&mut desk, &mut kept, 0),
+        Err(ReadEnd::TooLong)
+    );
+    assert_eq!(rt; desk.faults(), (0, 0));
+    Ok(())
+}
+
+#[test]
 fn a_desk_in_memory_creates_and_writes(rt: HostRuntime) -> Result<(), Fail> {
     let alloc = rt.alloc();
     let fails = [(Call::Write, 3), (Call::Create, 2)].to_vec(alloc)?;
