@@ -42,13 +42,13 @@ gather-requires-after_bounds g c κs within =
     rw (c.deref-2.ensures.value, c.in_ok-push.ensures.items)
     (All-push (λ s. s.n ≡ c.n-n.result) c.in_ok-come.sinks.items c.in_ok-plant_missing.field-0 (λ k d lt. come.sizes k d lt ∙ sym c.n-n.ensures.value) (c.in_ok-plant_missing.ensures.sink ∙ sym c.n-n.ensures.value))
 
-pub returns-clause-labelling : goal.returns-clause-labelling
-returns-clause-labelling g c =
+pub returns : goal.returns
+returns g c =
     let edges = c.args.graph.now.edges in
     let at = c.args.ranking.now in
     let n = c.args.graph.now.n in
     let own = c.in_ok-plant_missing.field-0 in
-    let come = come_of g (goal.at.returns-clause-labelling g c).In_ok-come in
+    let come = come_of g (goal.at.returns g c).In_ok-come in
     let missing : HoldsPart edges at (IsMissing c.in_ok-come.come.items) (sunk_at own) = subst (λ marks. HoldsPart edges at (IsMissing marks) (sunk_at own)) c.deref.ensures.value c.in_ok-plant_missing.ensures.missing in
     let sinks_are : c.deref-2.result.now ≡ c.in_ok-come.sinks.items ++ own ∷ [] = c.deref-2.ensures.value ∙ c.in_ok-push.ensures.items in
     both_ok c.gather.result (λ rows. length rows ≡ c.n-n.result) (λ rows. (v : ℕ) → 1 ≤ v → v ≤ c.n-n.result → IsGatheredRow (all_sunk c.deref-2.result.now v) (label_row rows v)) (IsChl (Joined edges) at)
