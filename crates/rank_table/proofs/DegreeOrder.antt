@@ -1,15 +1,16 @@
 -- The ranking by degree: what a sort by degree and node gives is one, one exists, and there is no other.
-use Rattle.std.proofs.Common.{◌≡◌, ℕ, zero, suc, ◌+◌, ◌<◌, ◌≤◌, Bool, false, eqb, List, [], ◌∷◌, length, map, get_or, refl, ap, ◌∙◌, arith, inl, inr, subst}
+use Rattle.std.proofs.Common.{◌≡◌, ℕ, zero, suc, ◌+◌, ◌<◌, ◌≤◌, Bool, true, false, eqb, ltb, List, [], ◌∷◌, length, map, get_or, refl, ap, ◌∙◌, arith, inl, inr, subst}
 use Rattle.std.specs.List.{All, AllByRecursion, IsDistinct, range_with_len}
-use Rattle.std.specs.List.Sorted.{IsPermutation, IsSortedBy}
+use Rattle.std.specs.List.Sorted.{IsPermutation, IsSortedBy, IsStableBy, ties}
 use Rattle.std.specs.Ordering.{nat_cmp, ordering_then, is_lt}
 use Rattle.std.specs.declared.cmp.Ordering.TheVariants.{Less}
 use Rattle.std.specs.Cmp.{IsTotalOrder, IsStrictWeakOrder}
+use Rattle.std.proofs.lemmas.Bool.{cases_eq}
 use Rattle.std.proofs.lemmas.Bool.Decides.{nat_tests, eqb_tells}
 use Rattle.std.proofs.lemmas.Cmp.{then_total, on_total, back_total, nat_cmp_total, nat_eq_equiv}
 use Rattle.std.proofs.lemmas.List.{get_or-map, length-map}
 use Rattle.std.proofs.lemmas.List.FromFn.{length-range_with_len, get_or-range_with_len}
-use Rattle.std.proofs.lemmas.List.Sorted.{length_permutation, IsPermutation-map, All-permutation, ranks_by}
+use Rattle.std.proofs.lemmas.List.Sorted.{length_permutation, IsPermutation-map, All-permutation, ranks_by, ties_stay_sorted, IsStrictWeakOrder-by_number}
 use Rattle.std.proofs.lemmas.Map.Keys.{IsDistinct-IsPermutation, apart_from_distinct, sorted_from_all_adjacent}
 use Rattle.walk_laws.specs.declared.graph.Edge.{Edge}
 use Rattle.walk_laws.specs.Graph.{WeightedGraph}
@@ -53,13 +54,50 @@ ranking_from_range n at moved =
 abbrev degree_at : List Edge → ℕ → DegreeOf
 degree_at edges v = record { node = v; degree = degree edges v }
 
--- the order of the sort's keys
+-- by falling degree, and where degrees are the same by rising node
 abbrev pub key_before : DegreeOf → DegreeOf → Bool
 key_before x y = is_lt (ordering_then (nat_cmp y.degree x.degree) (nat_cmp x.node y.node))
 
 pub key_order : IsStrictWeakOrder key_before
 key_order =
     ranks_by (then_total (back_total (on_total (λ (d : DegreeOf). d.degree) nat_cmp_total)) (on_total (λ (d : DegreeOf). d.node) nat_cmp_total)) (λ (d : DegreeOf). d)
+
+-- the order of the sort, and that in which the nodes stand before it
+abbrev pub degree_before : DegreeOf → DegreeOf → Bool
+degree_before x y = is_lt (nat_cmp y.degree x.degree)
+
+pub degree_order : IsStrictWeakOrder degree_before
+degree_order = ranks_by (back_total (on_total (λ (d : DegreeOf). d.degree) nat_cmp_total)) (λ (d : DegreeOf). d)
+
+abbrev node_before : DegreeOf → DegreeOf → Bool
+node_before x y = ltb x.node y.node
+
+nodes_rise : (edges : List Edge) (n : ℕ) → IsSortedBy node_before (map (degree_at edges) (range_with_len 1 n))
+nodes_rise edges n k d low high =
+    let vs = range_with_len 1 n in
+    let long = length-map vs (degree_at edges) in
+    let many = length-range_with_len 1 n in
+    let first : (get_or (map (degree_at edges) vs) k d).node ≡ 1 + k = ap (λ (x : DegreeOf). x.node) (get_or-map (degree_at edges) vs k 0 d (omega arith)) ∙ get_or-range_with_len 1 n k 0 (omega arith) in
+    let second : (get_or (map (degree_at edges) vs) (k + 1) d).node ≡ 1 + (k + 1) = ap (λ (x : DegreeOf). x.node) (get_or-map (degree_at edges) vs (k + 1) 0 d (omega arith)) ∙ get_or-range_with_len 1 n (k + 1) 0 (omega arith) in
+    rw (first, second) (grind (arith, nat_tests))
+
+tie_degrees : (x y : DegreeOf) → x.degree ≡ y.degree → ties degree_before x y ≡ true
+tie_degrees x y same = grind (arith, nat_tests)
+
+not_before : (dx dy x y : ℕ) → is_lt (nat_cmp dx dy) ≡ false → (dx ≡ dy → ltb y x ≡ false) → is_lt (ordering_then (nat_cmp dx dy) (nat_cmp y x)) ≡ false
+not_before dx dy x y falls rises =
+    elim (cases_eq dx dy) [
+      | inl same ↦ let up = rises same in grind (arith, nat_tests)
+      | inr other ↦ grind (arith, nat_tests)
+    ]
+
+-- a stable sort by degree of the nodes by rising number is a sort by degree and node
+pub key_sorted : (edges : List Edge) (n : ℕ) (degrees : List DegreeOf) → IsSortedBy degree_before degrees → IsStableBy degree_before (map (degree_at edges) (range_with_len 1 n)) degrees → IsSortedBy key_before degrees
+key_sorted edges n degrees sorted stable k d low high =
+    let x = get_or degrees k d in
+    let y = get_or degrees (k + 1) d in
+    not_before x.degree y.degree x.node y.node (sorted k d low high)
+    (λ same. ties_stay_sorted node_before degree_before (IsStrictWeakOrder-by_number (λ (e : DegreeOf). e.node)) degree_order (map (degree_at edges) (range_with_len 1 n)) degrees (nodes_rise edges n) stable k d (omega arith) (tie_degrees x y same))
 
 comes_first : (dx dy x y : ℕ) → is_lt (ordering_then (nat_cmp dx dy) (nat_cmp y x)) ≡ false → eqb x y ≡ false → ordering_then (nat_cmp dy dx) (nat_cmp x y) ≡ Less
 comes_first dx dy x y sorted apart = grind (arith, nat_tests)

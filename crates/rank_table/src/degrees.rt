@@ -28,7 +28,8 @@ fn nodes_by_degree(alloc: Global, graph: &Graph) -> Result<Vec<u32>, AllocError>
     ensures { IfOk result (λ nodes. IsByDegree graph.now nodes.items) }
 {
     let mut degrees = degrees_of(alloc, graph)?;
-    degrees.sort_unstable_by(|a, b| b.degree.cmp(&a.degree).then(a.node.cmp(&b.node)));
+    // Ties keep their order, which is by rising number. A stable sort is fast where few degrees differ.
+    degrees.sort_by(|a, b| b.degree.cmp(&a.degree))?;
     nodes_of(alloc, &degrees)
 }
 
