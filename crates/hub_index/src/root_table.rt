@@ -103,8 +103,8 @@ impl RootTable {
         }
     }
 
-    /// Whether the entry covers one at the position `pos` with the distance `dist`. An entry that is too far leaves 0 for
-    /// the root, so that one comparison refuses almost all entries, and no branch has to be guessed.
+    /// Whether the entry covers one at the position `pos` with the distance `dist`. One comparison refuses almost all
+    /// entries, and no branch has to be guessed: no distance counts there as the greatest one, and so does a greater sum.
     pub fn covers(&self, entry: Entry, pos: u32, dist: u64) -> bool
         requires { pos ≤ length self.now }
         ensures { IsTrue result ↔ IsCover self.now pos dist entry }
@@ -113,8 +113,13 @@ impl RootTable {
             return false;
         }
         let place = entry.pos as usize;
-        let root = self.nearest[place];
-        root <= dist.saturating_sub(entry.dist) && entry.dist <= dist && self.dists[place].is_some()
+        if self.nearest[place].saturating_add(entry.dist) > dist {
+            return false;
+        }
+        match self.dists[place] {
+            Some(root) => root <= dist && entry.dist <= dist - root,
+            None => false,
+        }
     }
 }
 
