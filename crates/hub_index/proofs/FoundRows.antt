@@ -1,8 +1,62 @@
--- What was seen of a row still stands in the row that is found.
-use Rattle.std.proofs.Common.{List, Contains, sym, subst}
-use Rattle.std.proofs.lemmas.List.Elements.{Contains-append_left}
+-- Lists that stand in rows: what was seen of a row still stands in the row that is found.
+use Rattle.std.proofs.Common.{◌≡◌, inl, inr, List, [], ◌∷◌, ◌++◌, All, Contains, refl, sym, subst}
+use Rattle.std.proofs.lemmas.List.{append-nil}
+use Rattle.std.proofs.lemmas.List.Elements.{All-nil, All-cons, All-head, All-tail, All-contains, All-contains_itself, All-weaker, Contains-append_left}
 use Rattle.walk_laws.specs.declared.entry.Entry.{Entry}
-use Rattle.hub_index.specs.Views.{GoesOnFrom}
+use Rattle.hub_index.specs.declared.row_view.Offer.{Offer}
+use Rattle.hub_index.specs.declared.row_view.Offer.TheVariants.{Put, Covered, NoMemory}
+use Rattle.hub_index.specs.Views.{StandsIn, IsFound, GoesOnFrom, IsFoundOnward, IsSeenAfter, with_put}
 
-pub GoesOnFrom-still : (before row : List Entry) (e : Entry) → GoesOnFrom before row → Contains before e → Contains row e
-GoesOnFrom-still before row e goes_on there = subst (λ xs. Contains xs e) (sym goes_on.grown) (Contains-append_left before goes_on.more e there)
+-- behind one more entry, or in front of more
+pub StandsIn-later : (x : Entry) (list row : List Entry) → StandsIn list row → StandsIn list (x ∷ row)
+StandsIn-later x [] row stands = tt
+StandsIn-later x (e ∷ es) row stands = inr stands
+
+pub StandsIn-behind : (front list row : List Entry) → StandsIn list row → StandsIn list (front ++ row)
+StandsIn-behind [] list row stands = stands
+StandsIn-behind (x ∷ front) list row stands = StandsIn-later x list (front ++ row) (StandsIn-behind front list row stands)
+
+-- two lists, each in its own part
+pub StandsIn-both : (list row more part : List Entry) → StandsIn list row → StandsIn more part → StandsIn (list ++ more) (row ++ part)
+StandsIn-both [] row more part stands other = StandsIn-behind row more part other
+StandsIn-both (e ∷ es) [] more part stands other = absurd stands
+StandsIn-both (e ∷ es) (x ∷ row) more part (inl here) other = inl (here.0, StandsIn-both es row more part here.1 other)
+StandsIn-both (e ∷ es) (x ∷ row) more part (inr later) other = inr (StandsIn-both (e ∷ es) row more part later other)
+
+pub StandsIn-self : (list : List Entry) → StandsIn list list
+StandsIn-self [] = tt
+StandsIn-self (e ∷ es) = inl (refl, StandsIn-self es)
+
+pub StandsIn-front : (list more : List Entry) → StandsIn list (list ++ more)
+StandsIn-front list more = subst (λ xs. StandsIn xs (list ++ more)) (append-nil list) (StandsIn-both list list [] more (StandsIn-self list) tt)
+
+-- what each entry of the row keeps, each of the list does
+pub StandsIn-all : (P : Entry → Type 0) (list row : List Entry) → StandsIn list row → All P row → All P list
+StandsIn-all P [] row stands all = All-nil P
+StandsIn-all P (e ∷ es) [] stands all = absurd stands
+StandsIn-all P (e ∷ es) (x ∷ row) (inl here) all = All-cons P e es (subst P here.0 (All-head P x row all)) (StandsIn-all P es row here.1 (All-tail P x row all))
+StandsIn-all P (e ∷ es) (x ∷ row) (inr later) all = StandsIn-all P (e ∷ es) row later (All-tail P x row all)
+
+pub StandsIn-still : (list row : List Entry) (e : Entry) → StandsIn list row → Contains list e → Contains row e
+StandsIn-still list row e stands there = All-contains (Contains row) list e (StandsIn-all (Contains row) list row stands (All-contains_itself row)) there
+
+pub StandsIn-of_front : (before row : List Entry) → GoesOnFrom before row → StandsIn before row
+StandsIn-of_front before row goes_on = subst (StandsIn before) (sym goes_on.grown) (StandsIn-front before goes_on.more)
+
+pub IsFound-onward : (fact : Entry → Type 0) (before row : List Entry) → IsFoundOnward fact before row → IsFound fact before row
+IsFound-onward fact before row found = record { still = StandsIn-of_front before row found.goes_on; met = found.met }
+
+pub IsFound-weaker : (P Q : Entry → Type 0) (before row : List Entry) → ((e : Entry) → P e → Q e) → IsFound P before row → IsFound Q before row
+IsFound-weaker P Q before row weaker found = record { still = found.still; met = All-weaker P Q weaker row found.met }
+
+-- the list seen after an offer, where it is the row with the entry behind it where that was put
+pub IsSeenAfter-with_put : (row : List Entry) (e : Entry) (answer : Offer) (seen : List Entry) → seen ≡ with_put row e answer → IsSeenAfter row e answer seen
+IsSeenAfter-with_put row e Put seen is = subst (StandsIn (row ++ e ∷ [])) (sym is) (StandsIn-self (row ++ e ∷ []))
+IsSeenAfter-with_put row e (Covered pos dist) seen is = is
+IsSeenAfter-with_put row e NoMemory seen is = is
+
+-- the row that was found still stands after the answer
+pub IsSeenAfter-still : (row : List Entry) (e : Entry) (answer : Offer) (seen : List Entry) → IsSeenAfter row e answer seen → (x : Entry) → Contains row x → Contains seen x
+IsSeenAfter-still row e Put seen after x there = StandsIn-still (row ++ e ∷ []) seen x after (Contains-append_left row (e ∷ []) x there)
+IsSeenAfter-still row e (Covered pos dist) seen after x there = subst (λ xs. Contains xs x) (sym after) there
+IsSeenAfter-still row e NoMemory seen after x there = subst (λ xs. Contains xs x) (sym after) there

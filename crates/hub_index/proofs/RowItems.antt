@@ -8,11 +8,15 @@ use Rattle.walk_laws.specs.declared.entry.Entry.{Entry}
 abbrev pub items_of : List (Vec Entry Global) → List (List Entry)
 items_of rows = map (λ row. row.items) rows
 
+-- what a row has is what stands at its place
+pub items_of-at : (rows : List (Vec Entry Global)) (i : ℕ) (row : Vec Entry Global) → i < length rows → row ≡ get_or rows i row → row.items ≡ get_or (items_of rows) i []
+items_of-at rows i row within is = ap (λ (r : Vec Entry Global). r.items) is ∙ sym (get_or-map (λ (r : Vec Entry Global). r.items) rows i row [] within)
+
 -- a row gives way to one that has gained an entry
 pub items_of-gain : (rows : List (Vec Entry Global)) (i : ℕ) (old row : Vec Entry Global) (e : Entry) → i < length rows → old ≡ get_or rows i old → row.items ≡ old.items ++ e ∷ [] → items_of (set rows i row) ≡ set (items_of rows) i (get_or (items_of rows) i [] ++ e ∷ [])
 items_of-gain rows i old row e within is gains =
     map-set (λ (r : Vec Entry Global). r.items) rows i row
-    ∙ ap (set (items_of rows) i) (gains ∙ ap (λ es. es ++ e ∷ []) (ap (λ (r : Vec Entry Global). r.items) is ∙ sym (get_or-map (λ (r : Vec Entry Global). r.items) rows i old [] within)))
+    ∙ ap (set (items_of rows) i) (gains ∙ ap (λ es. es ++ e ∷ []) (items_of-at rows i old within is))
 
 -- and to one with the same entries
 pub items_of-same : (rows : List (Vec Entry Global)) (i : ℕ) (old row : Vec Entry Global) → old ≡ get_or rows i old → row.items ≡ old.items → items_of (set rows i row) ≡ items_of rows

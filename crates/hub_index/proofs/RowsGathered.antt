@@ -13,7 +13,7 @@ use Rattle.walk_laws.specs.Joined.{Joined}
 use Rattle.walk_laws.specs.Labelling.{EntryFits, label_row}
 use Rattle.hub_index.specs.HubIndex.{with_entry}
 use Rattle.hub_index.specs.PlainRows.{IsGathered}
-use Rattle.hub_index.specs.Views.{IsNode, IsFound}
+use Rattle.hub_index.specs.Views.{IsNode, IsFoundOnward}
 
 pub row_gains : (rows : List (List Entry)) (v : ℕ) (e : Entry) → 1 ≤ v → v ≤ length rows → label_row (with_entry rows v e) v ≡ label_row rows v ++ e ∷ []
 row_gains rows v e from_one within = get_or-set_same rows (v - 1) _ [] (omega arith)
@@ -22,10 +22,10 @@ pub row_stays : (rows : List (List Entry)) (v x : ℕ) (e : Entry) → 1 ≤ v �
 row_stays rows v x e from_one x_from_one other = get_or-set_other rows (v - 1) (x - 1) _ [] (λ same. other (omega (arith, same)))
 
 -- each node's row is found as it is
-pub IsFound-gathered : (edges : List Edge) (order : List ℕ) (rows : List (List Entry)) (v : ℕ) → IsGathered edges order rows → IsNode (length order) v → IsFound (Joined edges) order v (label_row rows v) (label_row rows v)
-IsFound-gathered edges order rows v gathered node = record {
+pub found-gathered : (edges : List Edge) (order : List ℕ) (rows : List (List Entry)) (v : ℕ) → IsGathered edges order rows → IsNode (length order) v → IsFoundOnward (EntryFits (Joined edges) order v) (label_row rows v) (label_row rows v)
+found-gathered edges order rows v gathered node = record {
   goes_on = record { more = []; grown = sym (append-nil (label_row rows v)) };
-  fit = gathered.fit v node.from_one node.up_to_n;
+  met = gathered.fit v node.from_one node.up_to_n;
 }
 
 pub IsGathered-gains : (edges : List Edge) (order : List ℕ) (rows : List (List Entry)) (v : ℕ) (e : Entry) → IsGathered edges order rows → IsNode (length order) v → EntryFits (Joined edges) order v e → IsGathered edges order (with_entry rows v e)

@@ -1,7 +1,6 @@
 -- What those who grow trees see of rows that others may write at the same time (Planting Trees, PVLDB 2019).
-use Rattle.std.specs.Prelude.{◌≡◌, ℕ, ◌≤◌, List, [], ◌∷◌, ◌++◌, Option, All, Contains}
+use Rattle.std.specs.Prelude.{◌≡◌, ◌⊎◌, ℕ, ◌≤◌, List, [], ◌∷◌, ◌++◌, Option, All, Contains}
 use Rattle.walk_laws.specs.declared.entry.Entry.{Entry}
-use Rattle.walk_laws.specs.Labelling.{EntryFits}
 use Rattle.hub_index.specs.declared.row_view.Offer.{Offer}
 use Rattle.hub_index.specs.declared.row_view.Offer.TheVariants.{Put, Covered, NoMemory}
 use Rattle.hub_index.specs.RootDistances.{IsCover}
@@ -11,15 +10,26 @@ pub record IsNode (n v : ℕ) : Type 0 where
   pub from_one : 1 ≤ v
   pub up_to_n : v ≤ n
 
--- what was seen of a row still stands in the row that is found: the list seen before is its front
+-- the list stands in the row: its entries are there in the same order, and others may stand between them
+abbrev pub StandsIn : List Entry → List Entry → Type 0
+StandsIn [] row = Unit {0}
+StandsIn (e ∷ es) [] = ⊥
+StandsIn (e ∷ es) (x ∷ row) = ((x ≡ e) × StandsIn es row) ⊎ StandsIn (e ∷ es) row
+
+-- a row that a call may find, of which a list was seen before: that list stands in it, and each of its entries keeps the fact
+pub record IsFound (fact : Entry → Type 0) (before row : List Entry) : Type 0 where
+  pub still : StandsIn before row
+  pub met : All fact row
+
+-- the row goes on from the list: that is its front
 pub record GoesOnFrom (before row : List Entry) : Type 0 where
   pub more : List Entry
   pub grown : row ≡ before ++ more
 
--- a row that a call may find at the node v, of which a list was seen before: that list still stands in it, and each of its entries may stand in the row of v
-pub record IsFound (J : ℕ → ℕ → ℕ → Type 0) (at : List ℕ) (v : ℕ) (before row : List Entry) : Type 0 where
+-- a row that is found where entries are put only at the ends of rows: the list seen before is its front, and each of its entries keeps the fact
+pub record IsFoundOnward (fact : Entry → Type 0) (before row : List Entry) : Type 0 where
   pub goes_on : GoesOnFrom before row
-  pub fit : All (EntryFits J at v) row
+  pub met : All fact row
 
 -- whether the answer to an offer of the entry is right of the row that was found: an entry of the row that covers it, or there is none
 abbrev pub IsAnswerOf : List (Option ℕ) → List Entry → Entry → Offer → Type 0
@@ -32,3 +42,9 @@ abbrev pub with_put : List Entry → Entry → Offer → List Entry
 with_put entries e Put = entries ++ e ∷ []
 with_put entries e (Covered pos dist) = entries
 with_put entries e NoMemory = entries
+
+-- the list seen after the answer to an offer: the row that was found; where the entry was put, that row stands in it with the entry behind, and what others put meanwhile may stand between
+abbrev pub IsSeenAfter : List Entry → Entry → Offer → List Entry → Type 0
+IsSeenAfter row e Put seen = StandsIn (row ++ e ∷ []) seen
+IsSeenAfter row e (Covered pos dist) seen = seen ≡ row
+IsSeenAfter row e NoMemory seen = seen ≡ row

@@ -1,7 +1,11 @@
-ghost use Rattle.std.specs.Prelude.{◌≡◌, ℕ, [], length, replicate, IfOk};
+ghost use Rattle.std.specs.Prelude.{◌≡◌, ◌≢◌, ℕ, ◌≤◌, [], length, replicate, IfOk};
+ghost use Rattle.walk_laws.specs.Joined.{Joined};
+ghost use Rattle.walk_laws.specs.Labelling.{EntryFits, label_row};
 ghost use Rattle.hub_index.specs.PlainRows.{IsGathered};
+ghost use Rattle.hub_index.specs.RootDistances.{HoldsRow};
+ghost use Rattle.hub_index.specs.Views.{IsNode, IsFoundOnward, IsAnswerOf, with_put};
 
-use crate::root_table::{RootTable, covered};
+use crate::root_table::RootTable;
 use crate::row_list::RowList;
 use crate::row_view::{Offer, RowView};
 use rank_table::Ranking;
@@ -58,13 +62,17 @@ impl PlainRows {
     }
 }
 
-/// The rows themselves are what was last seen of them, and all that was put.
+/// The rows themselves are what was last seen of them, and all that was put: the row that a call finds is the list seen
+/// before, and after a put the list seen is that row with the entry behind it.
 impl RowView for PlainRows {
-    ghost use Rattle.walk_laws.specs.Labelling.{label_row};
+    ghost use Rattle.walk_laws.specs.Joined.{Joined};
+    ghost use Rattle.walk_laws.specs.Labelling.{EntryFits, label_row};
 
     ghost edges = { λ view. view.edges };
 
     ghost order = { λ view. view.order };
+
+    ghost fact = { λ view v e. EntryFits (Joined view.edges) view.order v e };
 
     ghost seen = { λ view v. label_row view.rows v };
 
@@ -74,20 +82,30 @@ impl RowView for PlainRows {
 
     ghost kept = { λ _. tt };
 
-    fn load_root(&mut self, h: u32, table: &mut RootTable) {
+    ghost fact_fits = { λ view v e. (λ fits. fits, λ fits. fits) };
+
+    fn load_root(&mut self, h: u32, table: &mut RootTable)
+        requires node { IsNode (length self.old.order) h }
+        requires size { length table.old ≡ length self.old.order }
+        ensures same { self.new ≡ self.old }
+        ensures found { IsFoundOnward (EntryFits (Joined self.old.edges) self.old.order h) (label_row self.old.rows h) (label_row self.new.rows h) }
+        ensures held { HoldsRow table.new (label_row self.new.rows h) }
+        ensures size { length table.new ≡ length table.old }
+    {
         table.load(self.rows.row(h));
     }
 
-    fn offer(&mut self, v: u32, entry: Entry, table: &RootTable) -> Offer {
-        if let Some(cover) = covered(self.rows.row(v), table, entry.pos, entry.dist) {
-            return Offer::Covered {
-                pos: cover.pos,
-                dist: cover.dist,
-            };
-        }
-        if self.rows.push(v, entry).is_err() {
-            return Offer::NoMemory;
-        }
-        Offer::Put
+    fn offer(&mut self, v: u32, entry: Entry, table: &RootTable) -> Offer
+        requires node { IsNode (length self.old.order) v }
+        requires size { length table.now ≡ length self.old.order }
+        requires fits { EntryFits (Joined self.old.edges) self.old.order v entry }
+        ensures edges { self.new.edges ≡ self.old.edges }
+        ensures order { self.new.order ≡ self.old.order }
+        ensures found { IsFoundOnward (EntryFits (Joined self.old.edges) self.old.order v) (label_row self.old.rows v) (label_row self.old.rows v) }
+        ensures answer { IsAnswerOf table.now (label_row self.old.rows v) entry result }
+        ensures row { label_row self.new.rows v ≡ with_put (label_row self.old.rows v) entry result }
+        ensures others { (x : ℕ) → 1 ≤ x → x ≢ v → label_row self.new.rows x ≡ label_row self.old.rows x }
+    {
+        self.rows.offer(v, entry, table)
     }
 }

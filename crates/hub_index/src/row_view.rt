@@ -13,22 +13,26 @@ pub enum Offer {
 }
 
 /// The rows of a graph's nodes as one worker sees them, while others may put entries in them, too. A call finds the row of
-/// its node as it is then: what was seen of it before still stands there, and each of its entries is the length of a walk
-/// to a hub ranked no lower than the node.
+/// its node as it is then: what was seen of it before still stands there in the same order, maybe with other entries
+/// between, and each of its entries keeps the view's fact, which is that it is the length of a walk to a hub ranked no
+/// lower than the node. These are the facts that a tree needs; a view may say more of its own rows.
 pub trait RowView {
-    ghost use Rattle.std.specs.Prelude.{◌≡◌, ◌≢◌, ℕ, ◌≤◌, List, length};
+    ghost use Rattle.std.specs.Prelude.{◌≡◌, ◌≢◌, ◌↔◌, ℕ, ◌≤◌, List, length};
     ghost use Rattle.walk_laws.specs.declared.graph.Edge.{Edge};
     ghost use Rattle.walk_laws.specs.declared.entry.Entry.{Entry};
     ghost use Rattle.walk_laws.specs.Joined.{Joined};
     ghost use Rattle.walk_laws.specs.Labelling.{EntryFits};
     ghost use Rattle.hub_index.specs.RootDistances.{HoldsRow};
-    ghost use Rattle.hub_index.specs.Views.{IsNode, IsFound, IsAnswerOf, with_put};
+    ghost use Rattle.hub_index.specs.Views.{IsNode, IsFound, IsAnswerOf, IsSeenAfter, with_put};
 
     /// The edges of the graph.
     ghost edges: { Self → List Edge };
 
     /// The nodes, highest rank first.
     ghost order: { Self → List ℕ };
+
+    /// The fact that the entries of a node's row keep.
+    ghost fact: { Self → ℕ → Entry → Type 0 };
 
     /// The list that was last seen of a node's row.
     ghost seen: { Self → ℕ → List Entry };
@@ -49,25 +53,28 @@ pub trait RowView {
         ensures edges { edges self.new ≡ edges self.old }
         ensures order { order self.new ≡ order self.old }
         ensures kept { kept self.new ≡ kept self.old }
-        ensures found { IsFound (Joined (edges self.old)) (order self.old) h (seen self.old h) (seen self.new h) }
+        ensures found { IsFound (fact self.old h) (seen self.old h) (seen self.new h) }
         ensures held { HoldsRow table.new (seen self.new h) }
         ensures size { length table.new ≡ length table.old }
         ensures others { (x : ℕ) → 1 ≤ x → x ≢ h → seen self.new x ≡ seen self.old x }
         ensures puts { (x : ℕ) → puts self.new x ≡ puts self.old x };
 
-    /// Finds the row of the node `v`, a number from 1, and puts the entry behind it unless an entry of the row covers it by
-    /// way of the root's hubs in the table. The list seen of `v` is then the row, with the entry where it was put. No memory
-    /// is taken where an entry covers.
+    /// Finds the row of the node `v`, a number from 1, and puts the entry there unless an entry of the row covers it by way
+    /// of the root's hubs in the table. The list seen of `v` is then the row; where the entry was put, it has the row and
+    /// behind it the entry. No memory is taken where an entry covers.
     fn offer(&mut self, v: u32, entry: Entry, table: &RootTable) -> Offer
         requires node { IsNode (length (order self.old)) v }
         requires size { length table.now ≡ length (order self.old) }
-        requires fits { EntryFits (Joined (edges self.old)) (order self.old) v entry }
+        requires fits { fact self.old v entry }
         ensures edges { edges self.new ≡ edges self.old }
         ensures order { order self.new ≡ order self.old }
         ensures kept { kept self.new ≡ kept self.old }
-        ensures found { (row : List Entry) × IsFound (Joined (edges self.old)) (order self.old) v (seen self.old v) row
-            × IsAnswerOf table.now row entry result × (seen self.new v ≡ with_put row entry result) }
+        ensures found { (row : List Entry) × IsFound (fact self.old v) (seen self.old v) row
+            × IsAnswerOf table.now row entry result × IsSeenAfter row entry result (seen self.new v) }
         ensures puts { puts self.new v ≡ with_put (puts self.old v) entry result }
         ensures others_seen { (x : ℕ) → 1 ≤ x → x ≢ v → seen self.new x ≡ seen self.old x }
         ensures others_puts { (x : ℕ) → 1 ≤ x → x ≢ v → puts self.new x ≡ puts self.old x };
+
+    /// An entry keeps the fact exactly where it may stand in the row of its node.
+    ghost fact_fits: { (view : Self) (v : ℕ) (e : Entry) → fact view v e ↔ EntryFits (Joined (edges view)) (order view) v e };
 }

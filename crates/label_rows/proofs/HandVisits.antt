@@ -1,5 +1,5 @@
 -- A take and a give are one visit of the seat.
-use Rattle.std.proofs.Common.{◌≡◌, ℕ, List, [], ◌++◌, All, ap, subst, ◌∙◌}
+use Rattle.std.proofs.Common.{◌≡◌, ℕ, List, [], ◌++◌, All, refl, ap, subst, ◌∙◌}
 use Rattle.std.specs.Prelude.{Option}
 use Rattle.std.proofs.lemmas.List.Elements.{All-cons, All-nil}
 use Rattle.atomic_table.specs.Seated.{TableId}
@@ -9,7 +9,7 @@ use Rattle.walk_laws.specs.Joined.{Joined}
 use Rattle.walk_laws.specs.Labelling.{EntryFits}
 use Rattle.hub_index.specs.declared.row_view.Offer.{Offer}
 use Rattle.hub_index.specs.declared.row_view.Offer.TheVariants.{Put, Covered, NoMemory}
-use Rattle.hub_index.specs.Views.{IsFound, GoesOnFrom}
+use Rattle.hub_index.specs.Views.{IsFoundOnward, GoesOnFrom}
 use Rattle.label_rows.specs.declared.rule.Visit.{Visit}
 use Rattle.table_seats.specs.declared.seat_view.SeatView.{SeatView}
 use Rattle.label_rows.specs.declared.rule.View.{View}
@@ -17,6 +17,7 @@ use Rattle.label_rows.specs.Seats.{Seated, rows_id, with_visit}
 use Rattle.label_rows.specs.Visits.{put_list, put_by, visit_of, seen_of}
 use Rattle.label_rows.specs.Lawful.{Holds, gave}
 use Rattle.label_rows.proofs.Gives.{gave-is}
+use Rattle.label_rows.proofs.SeenRows.{seen-here, goes_on-further}
 
 -- a seat as contracts see it
 abbrev pub seated : TableId → ℕ → SeatView View → Seated
@@ -31,11 +32,17 @@ one_visit id id' left taken given v found row put before is holds same after gro
 
 -- the row that a take found is a row of its node
 pub row_found : (edges : List Edge) (order : List ℕ) (visits : List Visit) (v : ℕ) (found : List Entry) (before : Seated) → edges ≡ before.rows.edges → order ≡ before.rows.order → visits ≡ before.visits
-    → GoesOnFrom (seen_of visits v) found → All (EntryFits (Joined edges) order v) found → IsFound (Joined before.rows.edges) before.rows.order v (seen_of before.visits v) found
+    → GoesOnFrom (seen_of visits v) found → All (EntryFits (Joined edges) order v) found → IsFoundOnward (EntryFits (Joined before.rows.edges) before.rows.order v) (seen_of before.visits v) found
 row_found edges order visits v found before same_edges same_order same_visits goes_on fit = record {
   goes_on = subst (λ xs. GoesOnFrom (seen_of xs v) found) same_visits goes_on;
-  fit = subst (λ (t : List Edge × List ℕ). All (EntryFits (Joined t.0) t.1 v) found) (λ k. (same_edges k, same_order k)) fit;
+  met = subst (λ (t : List Edge × List ℕ). All (EntryFits (Joined t.0) t.1 v) found) (λ k. (same_edges k, same_order k)) fit;
 }
+
+-- the list seen after a visit is the row as it left it
+pub seen_after : (before now : Seated) (v : ℕ) (found : List Entry) (put : Option Entry) → now ≡ with_visit before (visit_of v found put) → GoesOnFrom (seen_of before.visits v) found → seen_of now.visits v ≡ found ++ put_list put
+seen_after before now v found put is goes_on =
+    ap (λ (seat : Seated). seen_of seat.visits v) is
+    ∙ seen-here before.visits (visit_of v found put) v refl (goes_on-further (seen_of before.visits v) found (put_list put) goes_on)
 
 -- an entry that may stand in a row may be put there
 pub put-fits : (edges : List Edge) (order : List ℕ) (v : ℕ) (e : Entry) (answer : Offer) → EntryFits (Joined edges) order v e → All (EntryFits (Joined edges) order v) (put_list (put_by e answer))

@@ -3,7 +3,7 @@ ghost use Rattle.walk_laws.specs.declared.entry.Entry.{Entry as AnEntry};
 ghost use Rattle.walk_laws.specs.Joined.{Joined};
 ghost use Rattle.walk_laws.specs.Labelling.{EntryFits};
 ghost use Rattle.hub_index.specs.RootDistances.{HoldsRow};
-ghost use Rattle.hub_index.specs.Views.{IsNode, IsFound, IsAnswerOf};
+ghost use Rattle.hub_index.specs.Views.{IsNode, IsFoundOnward, IsAnswerOf, with_put};
 ghost use Rattle.label_rows.specs.Seats.{IsSeatOf, with_visit};
 ghost use Rattle.label_rows.specs.Visits.{seen_of, puts_of, put_by, visit_of};
 
@@ -56,13 +56,18 @@ impl<'a, R: Wait> RowHand<'a, R> {
 }
 
 /// The list seen of a node's row is the longest that a visit left. Each call takes the turn of its node once, waits while
-/// another seat has it, and is one visit of the seat: the row that it found, and the entry that it put, or none.
+/// another seat has it, and is one visit of the seat: the row that it found, and the entry that it put, or none. What was
+/// seen before is the front of that row, and after a put the list seen is the row with the entry behind it.
 impl<'a, R: Wait> RowView for RowHand<'a, R> {
+    ghost use Rattle.walk_laws.specs.Joined.{Joined};
+    ghost use Rattle.walk_laws.specs.Labelling.{EntryFits};
     ghost use Rattle.label_rows.specs.Seats.{HandKept, hand_kept};
 
     ghost edges = { λ hand. hand.rows.edges };
 
     ghost order = { λ hand. hand.rows.order };
+
+    ghost fact = { λ hand v e. EntryFits (Joined hand.rows.edges) hand.rows.order v e };
 
     ghost seen = { λ hand v. seen_of hand.visits v };
 
@@ -72,11 +77,13 @@ impl<'a, R: Wait> RowView for RowHand<'a, R> {
 
     ghost kept = { λ hand. hand_kept hand };
 
+    ghost fact_fits = { λ hand v e. (λ fits. fits, λ fits. fits) };
+
     fn load_root(&mut self, h: u32, table: &mut RootTable)
         requires node { IsNode (length self.old.rows.order) h }
         requires size { length table.old ≡ length self.old.rows.order }
-        ensures visit { (row : List AnEntry) × IsFound (Joined self.old.rows.edges) self.old.rows.order h (seen_of self.old.visits h) row
-            × HoldsRow table.new row × (self.new ≡ with_visit self.old (visit_of h row None)) }
+        ensures visit { (row : List AnEntry) × IsFoundOnward (EntryFits (Joined self.old.rows.edges) self.old.rows.order h) (seen_of self.old.visits h) row
+            × HoldsRow table.new row × (self.new ≡ with_visit self.old (visit_of h row None)) × (seen_of self.new.visits h ≡ row) }
         ensures size { length table.new ≡ length table.old }
     {
         let rows = self.rows;
@@ -90,8 +97,8 @@ impl<'a, R: Wait> RowView for RowHand<'a, R> {
         requires node { IsNode (length self.old.rows.order) v }
         requires size { length table.now ≡ length self.old.rows.order }
         requires fits { EntryFits (Joined self.old.rows.edges) self.old.rows.order v entry }
-        ensures visit { (row : List AnEntry) × IsFound (Joined self.old.rows.edges) self.old.rows.order v (seen_of self.old.visits v) row
-            × IsAnswerOf table.now row entry result × (self.new ≡ with_visit self.old (visit_of v row (put_by entry result))) }
+        ensures visit { (row : List AnEntry) × IsFoundOnward (EntryFits (Joined self.old.rows.edges) self.old.rows.order v) (seen_of self.old.visits v) row
+            × IsAnswerOf table.now row entry result × (self.new ≡ with_visit self.old (visit_of v row (put_by entry result))) × (seen_of self.new.visits v ≡ with_put row entry result) }
     {
         let rows = self.rows;
         let turns = &rows.table.shared;

@@ -6,9 +6,9 @@ ghost use Rattle.label_rows.specs.declared.rule.About.{About as AboutRows};
 ghost use Rattle.label_rows.specs.Lawful.{IsLawful, Sitter, Table as RowTable};
 ghost use Rattle.label_rows.specs.Laws.{HoldsAtFirst, TakesKeep, GivesKeep, SplitsKeep, JoinsKeep, FreeRowsFit, NothingIsLost};
 
-use crate::row::Row;
 use crate::rule::{About, Handing, Law, Takes, View};
 use atomic_table::{Play, TableRule};
+use hub_index::Row;
 use table_seats::{Looks, SeatView};
 
 /// The rule holds of new rows, and each step of a seat keeps it, whatever the other seats have done before. Of a free row it

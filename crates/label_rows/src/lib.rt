@@ -8,7 +8,6 @@
 
 mod hand;
 pub mod laws;
-mod row;
 mod rows;
 mod rule;
 mod seat;

@@ -6,11 +6,10 @@ ghost use Rattle.hub_index.specs.Views.{IsNode, GoesOnFrom};
 ghost use Rattle.label_rows.specs.Seats.{IsSeatOf};
 ghost use Rattle.label_rows.specs.Visits.{left_by, puts_of, seen_of, visits_of};
 
-use crate::row::Row;
 use crate::rule::{About, Handing, Law, View};
 use crate::seat::RowSeat;
 use atomic_table::{Closed, Table};
-use hub_index::RowList;
+use hub_index::{Row, RowList};
 use rank_table::Ranking;
 use std::alloc::{AllocError, Global};
 use std::marker::Model;

@@ -1,6 +1,6 @@
 //! The rule of the rows: what a seat knows, and what its steps change. The definitions stand in `specs/Lawful`.
-use crate::row::Row;
 use atomic_table::{Play, TableRule};
+use hub_index::Row;
 use rank_table::Ranking;
 use std::collections::LinkedList;
 use std::snapshot::Snapshot;

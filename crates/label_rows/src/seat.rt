@@ -1,8 +1,8 @@
 ghost use Rattle.std.specs.Prelude.{◌≡◌};
 
-use crate::row::Row;
 use crate::rule::View;
 use atomic_table::Seat;
+use hub_index::Row;
 use std::marker::Model;
 use table_seats::SeatView;
 

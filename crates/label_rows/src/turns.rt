@@ -6,9 +6,9 @@ ghost use Rattle.hub_index.specs.Views.{IsNode, GoesOnFrom};
 ghost use Rattle.label_rows.specs.Lawful.{took, gave, MayGive};
 ghost use Rattle.label_rows.specs.Visits.{seen_of};
 
-use crate::row::Row;
 use crate::rule::{About, Gives, Law, Takes, View};
 use atomic_table::{Seat, Shared};
+use hub_index::Row;
 use std::alloc::Global;
 use std::hint::spin_loop;
 use std::sync::Wait;

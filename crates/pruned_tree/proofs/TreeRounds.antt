@@ -3,7 +3,6 @@ use Rattle.std.proofs.Common.{◌≡◌, ◌≢◌, ◌↔◌, inl, inr, ℕ, �
 use Rattle.std.specs.Prelude.{Some, slice_get}
 use Rattle.std.proofs.lemmas.Bool.{cases_eq}
 use Rattle.std.proofs.lemmas.Option.{slice_get_within, get_or_from_slice_get}
-use Rattle.std.proofs.lemmas.List.Elements.{Contains-append_left}
 use Rattle.walk_laws.specs.declared.entry.Entry.{Entry}
 use Rattle.walk_laws.specs.declared.graph.Arc.{Arc}
 use Rattle.walk_laws.specs.declared.graph.Edge.{Edge}
@@ -22,8 +21,8 @@ use Rattle.frontier.specs.declared.reach.Reach.{Reach}
 use Rattle.frontier.specs.declared.reach.Reach.TheVariants.{Unreached, Queued}
 use Rattle.frontier.specs.Reaches.{reach_at, settled, with_offer}
 use Rattle.hub_index.specs.RootDistances.{IsCover}
-use Rattle.hub_index.specs.Views.{IsFound, GoesOnFrom}
-use Rattle.hub_index.proofs.FoundRows.{GoesOnFrom-still}
+use Rattle.hub_index.specs.Views.{IsFound, StandsIn}
+use Rattle.hub_index.proofs.FoundRows.{StandsIn-still}
 use Rattle.pruned_tree.specs.declared.bare.Bare.{Bare}
 use Rattle.pruned_tree.specs.Grown.{Gains, HoldsHigher}
 use Rattle.pruned_tree.specs.Loaded.{IsRootTable}
@@ -57,14 +56,17 @@ abbrev pub StillStand : (ℕ → List Entry) → (ℕ → List Entry) → Type 0
 StillStand rows seen = (x : ℕ) (e : Entry) → 1 ≤ x → Contains (rows x) e → Contains (seen x) e
 
 -- after the row of a node was found, and perhaps gained an entry
-pub StillStand-found : (rows seen now : ℕ → List Entry) (v : ℕ) (row more : List Entry) → StillStand rows seen → GoesOnFrom (seen v) row → now v ≡ row ++ more → ((x : ℕ) → 1 ≤ x → x ≢ v → now x ≡ seen x) → StillStand rows now
-StillStand-found rows seen now v row more stand goes_on is same x e from_one there = elim (cases_eq x v) [
+pub StillStand-found : (rows seen now : ℕ → List Entry) (v : ℕ) (row : List Entry) → StillStand rows seen → StandsIn (seen v) row → ((e : Entry) → Contains row e → Contains (now v) e) → ((x : ℕ) → 1 ≤ x → x ≢ v → now x ≡ seen x) → StillStand rows now
+StillStand-found rows seen now v row stand still has same x e from_one there = elim (cases_eq x v) [
   | inl here ↦
       let was : Contains (seen v) e = subst (λ z. Contains (seen z) e) here (stand x e from_one there) in
-      let then : Contains (row ++ more) e = Contains-append_left row more e (GoesOnFrom-still (seen v) row e goes_on was) in
-      subst (λ z. Contains (now z) e) (sym here) (subst (λ xs. Contains xs e) (sym is) then)
+      subst (λ z. Contains (now z) e) (sym here) (has e (StandsIn-still (seen v) row e still was))
   | inr other ↦ subst (λ xs. Contains xs e) (sym (same x from_one other)) (stand x e from_one there)
 ]
+
+-- an entry may stand in a row whichever way the edges and the ranking are told
+pub fits_by : (edges others : List Edge) (at order : List ℕ) (v : ℕ) (e : Entry) → edges ≡ others → at ≡ order → EntryFits (Joined edges) at v e → EntryFits (Joined others) order v e
+fits_by edges others at order v e same_edges same_order fits = subst (λ es. EntryFits (Joined es) order v e) same_edges (subst (λ xs. EntryFits (Joined edges) xs v e) same_order fits)
 
 module _ (n : ℕ) (edges : List Edge) (at : List ℕ) (h p : ℕ) (graph : IsGraph n edges) (size : length at ≡ n) (ranking : IsRanking at) (root : slice_get at p ≡ Some h) (before rows : ℕ → List Entry) where
   positive : (x y w : ℕ) → Joined edges x y w → 1 ≤ w
@@ -122,11 +124,11 @@ module _ (n : ℕ) (edges : List Edge) (at : List ℕ) (h p : ℕ) (graph : IsGr
     none_yet : puts v ≡ before v
     none_yet = queued_gains_none (Joined edges) at h p before nodes puts growth v f (growth.from_one v f.dist there) queued
 
-    module _ (row : List Entry) (found : IsFound (Joined edges) at v (seen v) row) (others : ℕ → List Entry) where
+    module _ (row : List Entry) (found : IsFound (EntryFits (Joined edges) at v) (seen v) row) (others : ℕ → List Entry) where
       -- where an entry of the row covers it, the root is no hub of the node
       no_hub : (e : Entry) → Contains row e → IsCover table p f.dist e → (c : ℕ) → IsCanonical (Joined edges) at h v c → ⊥
       no_hub e stands cover c hub =
-          no_cover (Joined edges) at h p ranking root (root_position at h p ranking root) table (rows h) loaded.held (Joined-sym edges) loaded.fit v c row e found.fit hub stands (subst (λ d. IsCover table p d e) (least_next c hub) cover)
+          no_cover (Joined edges) at h p ranking root (root_position at h p ranking root) table (rows h) loaded.held (Joined-sym edges) loaded.fit v c row e found.met hub stands (subst (λ d. IsCover table p d e) (least_next c hub) cover)
 
       -- where none does, and all higher hubs are there, it is
       hub_here : ((e : Entry) → Contains row e → ¬ IsCover table p f.dist e) → HoldsHigher (Joined edges) at p rows → IsCanonical (Joined edges) at h v f.dist
@@ -137,7 +139,7 @@ module _ (n : ℕ) (edges : List Edge) (at : List ℕ) (h p : ℕ) (graph : IsGr
             | inl hub ↦ subst (IsCanonical (Joined edges) at h v) (sym (least_next hub.0 hub.2)) hub.2
             | inr cover ↦
                 let at_hub = cover_found (Joined edges) at h p ranking root (root_position at h p ranking root) table (rows h) loaded.held rows higher node.0 (λ e here. here) v f.dist row v_from_one
-                (λ e here. GoesOnFrom-still (seen v) row e found.goes_on (stand v e v_from_one here)) cover in
+                (λ e here. StandsIn-still (seen v) row e found.still (stand v e v_from_one here)) cover in
                 absurd (uncovered at_hub.0 at_hub.1 at_hub.2)
           ]
 

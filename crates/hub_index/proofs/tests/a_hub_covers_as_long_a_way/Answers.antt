@@ -1,4 +1,4 @@
-use Rattle.std.proofs.Common.{◌∙◌, sym, subst}
+use Rattle.std.proofs.Common.{◌∙◌, ap, sym, subst}
 use Rattle.walk_laws.specs.Ranking.{IsRanking}
 use Rattle.hub_index.proofs.SquareEntries.{first_four_ranked, fits_two, fits_three, fits_four, fits_four_too, fits_three_too}
 use Rattle.hub_index.proofs.tests.a_hub_covers_as_long_a_way.Goals as goal
@@ -9,29 +9,29 @@ new-requires-2 g c = subst IsRanking (sym c.in_ok-from_array.ensures.items) firs
 pub offer-requires-clause-fits : goal.offer-requires-clause-fits
 offer-requires-clause-fits g c =
     fits_two _ _
-    (c.load_root.ensures.edges ∙ c.in_ok-view.ensures.edges ∙ c.in_ok-graph.ensures.edges ∙ c.in_ok-edges.ensures.items)
-    (c.load_root.ensures.order ∙ c.in_ok-view.ensures.order ∙ c.in_ok-ranking.ensures ∙ c.in_ok-from_array.ensures.items)
+    (ap (λ rows. rows.edges) c.load_root.ensures.same ∙ c.in_ok-view.ensures.edges ∙ c.in_ok-graph.ensures.edges ∙ c.in_ok-edges.ensures.items)
+    (ap (λ rows. rows.order) c.load_root.ensures.same ∙ c.in_ok-view.ensures.order ∙ c.in_ok-ranking.ensures ∙ c.in_ok-from_array.ensures.items)
 
 pub offer-requires-2-clause-fits : goal.offer-requires-2-clause-fits
 offer-requires-2-clause-fits g c =
     fits_four _ _
-    (c.offer.ensures.edges ∙ c.load_root.ensures.edges ∙ c.in_ok-view.ensures.edges ∙ c.in_ok-graph.ensures.edges ∙ c.in_ok-edges.ensures.items)
-    (c.offer.ensures.order ∙ c.load_root.ensures.order ∙ c.in_ok-view.ensures.order ∙ c.in_ok-ranking.ensures ∙ c.in_ok-from_array.ensures.items)
+    (c.offer.ensures.edges ∙ ap (λ rows. rows.edges) c.load_root.ensures.same ∙ c.in_ok-view.ensures.edges ∙ c.in_ok-graph.ensures.edges ∙ c.in_ok-edges.ensures.items)
+    (c.offer.ensures.order ∙ ap (λ rows. rows.order) c.load_root.ensures.same ∙ c.in_ok-view.ensures.order ∙ c.in_ok-ranking.ensures ∙ c.in_ok-from_array.ensures.items)
 
 pub offer-requires-3-clause-fits : goal.offer-requires-3-clause-fits
 offer-requires-3-clause-fits g c =
     fits_three _ _
-    (c.offer-2.ensures.edges ∙ c.offer.ensures.edges ∙ c.load_root.ensures.edges ∙ c.in_ok-view.ensures.edges ∙ c.in_ok-graph.ensures.edges ∙ c.in_ok-edges.ensures.items)
-    (c.offer-2.ensures.order ∙ c.offer.ensures.order ∙ c.load_root.ensures.order ∙ c.in_ok-view.ensures.order ∙ c.in_ok-ranking.ensures ∙ c.in_ok-from_array.ensures.items)
+    (c.offer-2.ensures.edges ∙ c.offer.ensures.edges ∙ ap (λ rows. rows.edges) c.load_root.ensures.same ∙ c.in_ok-view.ensures.edges ∙ c.in_ok-graph.ensures.edges ∙ c.in_ok-edges.ensures.items)
+    (c.offer-2.ensures.order ∙ c.offer.ensures.order ∙ ap (λ rows. rows.order) c.load_root.ensures.same ∙ c.in_ok-view.ensures.order ∙ c.in_ok-ranking.ensures ∙ c.in_ok-from_array.ensures.items)
 
 pub offer-requires-4-clause-fits : goal.offer-requires-4-clause-fits
 offer-requires-4-clause-fits g c =
     fits_four_too _ _
-    (c.load_root-2.ensures.edges ∙ c.offer-3.ensures.edges ∙ c.offer-2.ensures.edges ∙ c.offer.ensures.edges ∙ c.load_root.ensures.edges ∙ c.in_ok-view.ensures.edges ∙ c.in_ok-graph.ensures.edges ∙ c.in_ok-edges.ensures.items)
-    (c.load_root-2.ensures.order ∙ c.offer-3.ensures.order ∙ c.offer-2.ensures.order ∙ c.offer.ensures.order ∙ c.load_root.ensures.order ∙ c.in_ok-view.ensures.order ∙ c.in_ok-ranking.ensures ∙ c.in_ok-from_array.ensures.items)
+    (ap (λ rows. rows.edges) c.load_root-2.ensures.same ∙ c.offer-3.ensures.edges ∙ c.offer-2.ensures.edges ∙ c.offer.ensures.edges ∙ ap (λ rows. rows.edges) c.load_root.ensures.same ∙ c.in_ok-view.ensures.edges ∙ c.in_ok-graph.ensures.edges ∙ c.in_ok-edges.ensures.items)
+    (ap (λ rows. rows.order) c.load_root-2.ensures.same ∙ c.offer-3.ensures.order ∙ c.offer-2.ensures.order ∙ c.offer.ensures.order ∙ ap (λ rows. rows.order) c.load_root.ensures.same ∙ c.in_ok-view.ensures.order ∙ c.in_ok-ranking.ensures ∙ c.in_ok-from_array.ensures.items)
 
 pub offer-requires-5-clause-fits : goal.offer-requires-5-clause-fits
 offer-requires-5-clause-fits g c =
     fits_three_too _ _
-    (c.offer-4.ensures.edges ∙ c.load_root-2.ensures.edges ∙ c.offer-3.ensures.edges ∙ c.offer-2.ensures.edges ∙ c.offer.ensures.edges ∙ c.load_root.ensures.edges ∙ c.in_ok-view.ensures.edges ∙ c.in_ok-graph.ensures.edges ∙ c.in_ok-edges.ensures.items)
-    (c.offer-4.ensures.order ∙ c.load_root-2.ensures.order ∙ c.offer-3.ensures.order ∙ c.offer-2.ensures.order ∙ c.offer.ensures.order ∙ c.load_root.ensures.order ∙ c.in_ok-view.ensures.order ∙ c.in_ok-ranking.ensures ∙ c.in_ok-from_array.ensures.items)
+    (c.offer-4.ensures.edges ∙ ap (λ rows. rows.edges) c.load_root-2.ensures.same ∙ c.offer-3.ensures.edges ∙ c.offer-2.ensures.edges ∙ c.offer.ensures.edges ∙ ap (λ rows. rows.edges) c.load_root.ensures.same ∙ c.in_ok-view.ensures.edges ∙ c.in_ok-graph.ensures.edges ∙ c.in_ok-edges.ensures.items)
+    (c.offer-4.ensures.order ∙ ap (λ rows. rows.order) c.load_root-2.ensures.same ∙ c.offer-3.ensures.order ∙ c.offer-2.ensures.order ∙ c.offer.ensures.order ∙ ap (λ rows. rows.order) c.load_root.ensures.same ∙ c.in_ok-view.ensures.order ∙ c.in_ok-ranking.ensures ∙ c.in_ok-from_array.ensures.items)

@@ -1,13 +1,14 @@
 use Rattle.std.proofs.Common.{◌≡◌, ℕ, ◌≤◌, List, [], sym, subst, ◌∙◌}
 use Rattle.std.specs.Prelude.{Some, slice_get, Result, Ok, Err, IfOk}
-use Rattle.std.proofs.lemmas.List.{append-nil}
 use Rattle.walk_laws.specs.declared.entry.Entry.{Entry}
 use Rattle.walk_laws.specs.Canonical.{IsCanonical}
 use Rattle.walk_laws.specs.Joined.{Joined}
+use Rattle.walk_laws.specs.Labelling.{EntryFits}
 use Rattle.hub_index.specs.Views.{IsFound}
+use Rattle.hub_index.proofs.FoundRows.{IsFound-weaker}
 use Rattle.pruned_tree.specs.Grown.{Gains, HoldsHigher, IsGrown}
 use Rattle.pruned_tree.specs.Loaded.{IsRootTable}
-use Rattle.pruned_tree.proofs.TreeRounds.{StillStand, StillStand-found}
+use Rattle.pruned_tree.proofs.TreeRounds.{StillStand, StillStand-found, fits_by}
 use Rattle.pruned_tree.proofs.growing.grow.Given as given
 use Rattle.pruned_tree.proofs.growing.grow.Goals as goal
 use Rattle.pruned_tree.proofs.growing.grow.Goals.{After-load_root}
@@ -17,10 +18,10 @@ if_ok_then (Ok x) P Q then h = then x h
 if_ok_then (Err e) P Q then h = tt
 
 -- the row of the root that is found, of this graph and ranking
-root_found : (g : given.Over) (c : After-load_root g) → IsFound (Joined c.args.graph.now.edges) c.args.ranking.now c.at.result (g.R.RowView.seen c.args.view.now c.at.result) (g.R.RowView.seen c.load_root.new.self c.at.result)
+root_found : (g : given.Over) (c : After-load_root g) → IsFound (EntryFits (Joined c.args.graph.now.edges) c.args.ranking.now c.at.result) (g.R.RowView.seen c.args.view.now c.at.result) (g.R.RowView.seen c.load_root.new.self c.at.result)
 root_found g c =
-    subst (λ es. IsFound (Joined es) c.args.ranking.now c.at.result (g.R.RowView.seen c.args.view.now c.at.result) (g.R.RowView.seen c.load_root.new.self c.at.result)) c.requires.edges
-    (subst (λ at. IsFound (Joined (g.R.RowView.edges c.args.view.now)) at c.at.result (g.R.RowView.seen c.args.view.now c.at.result) (g.R.RowView.seen c.load_root.new.self c.at.result)) c.requires.order c.load_root.ensures.found)
+    IsFound-weaker (g.R.RowView.fact c.args.view.now c.at.result) (EntryFits (Joined c.args.graph.now.edges) c.args.ranking.now c.at.result) (g.R.RowView.seen c.args.view.now c.at.result) (g.R.RowView.seen c.load_root.new.self c.at.result)
+    (λ e keeps. fits_by _ _ _ _ c.at.result e c.requires.edges c.requires.order ((g.met.R.RowView.fact_fits c.args.view.now c.at.result e).0 keeps)) c.load_root.ensures.found
 
 -- loading the root puts nothing, and what was seen still stands
 same_puts : (g : given.Over) (c : After-load_root g) → g.R.RowView.puts c.load_root.new.self ≡ g.R.RowView.puts c.args.view.now
@@ -28,14 +29,14 @@ same_puts g c = λ i x. c.load_root.ensures.puts x i
 
 stand : (g : given.Over) (c : After-load_root g) → StillStand (g.R.RowView.seen c.args.view.now) (g.R.RowView.seen c.load_root.new.self)
 stand g c =
-    StillStand-found (g.R.RowView.seen c.args.view.now) (g.R.RowView.seen c.args.view.now) (g.R.RowView.seen c.load_root.new.self) c.at.result (g.R.RowView.seen c.load_root.new.self c.at.result) []
-    (λ x e from_one there. there) (root_found g c).goes_on (sym (append-nil (g.R.RowView.seen c.load_root.new.self c.at.result))) c.load_root.ensures.others
+    StillStand-found (g.R.RowView.seen c.args.view.now) (g.R.RowView.seen c.args.view.now) (g.R.RowView.seen c.load_root.new.self) c.at.result (g.R.RowView.seen c.load_root.new.self c.at.result)
+    (λ x e from_one there. there) (root_found g c).still (λ e there. there) c.load_root.ensures.others
 
 pub grow_from-requires-clause-root : goal.grow_from-requires-clause-root
 grow_from-requires-clause-root g c = λ h root.
     let up = (goal.at.grow_from-requires-clause-root g c).After-load_root in
     let same : c.at.result ≡ h = let both : Some c.at.result ≡ Some h = sym c.at.ensures.value ∙ root in cc in
-    let loaded : IsRootTable (Joined c.args.graph.now.edges) c.args.ranking.now c.at.result (g.R.RowView.seen c.load_root.new.self c.at.result) c.load_root.new.table = record { fit = (root_found g up).fit; held = c.load_root.ensures.held } in
+    let loaded : IsRootTable (Joined c.args.graph.now.edges) c.args.ranking.now c.at.result (g.R.RowView.seen c.load_root.new.self c.at.result) c.load_root.new.table = record { fit = (root_found g up).met; held = c.load_root.ensures.held } in
     subst (λ x. IsRootTable (Joined c.args.graph.now.edges) c.args.ranking.now x (g.R.RowView.seen c.load_root.new.self x) c.load_root.new.table) same loaded
 
 pub returns-clause-grown : goal.returns-clause-grown

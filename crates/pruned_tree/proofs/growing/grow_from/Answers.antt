@@ -1,7 +1,7 @@
-use Rattle.std.proofs.Common.{refl, ◌≡◌, ◌≢◌, ℕ, ◌+◌, ◌*◌, ◌<◌, ◌≤◌, List, [], ◌∷◌, ◌++◌, length, replicate, sym, ap, subst, ◌∙◌, arith}
+use Rattle.std.proofs.Common.{refl, ◌≡◌, ◌≢◌, ℕ, ◌+◌, ◌*◌, ◌<◌, ◌≤◌, List, [], ◌∷◌, ◌++◌, Contains, length, replicate, sym, ap, subst, ◌∙◌, arith}
 use Rattle.std.specs.Prelude.{Some, slice_get}
 use Rattle.std.proofs.Math.ListN.{length-set}
-use Rattle.std.proofs.lemmas.List.{length-replicate, append-nil}
+use Rattle.std.proofs.lemmas.List.{length-replicate}
 use Rattle.std.proofs.lemmas.Result.{IfOk-from_err}
 use Rattle.walk_laws.specs.declared.entry.Entry.{Entry}
 use Rattle.walk_laws.specs.Graph.{greatest_weight}
@@ -10,14 +10,16 @@ use Rattle.walk_laws.specs.Labelling.{EntryFits}
 use Rattle.frontier.specs.declared.reach.Reach.{Reach}
 use Rattle.frontier.specs.declared.reach.Reach.TheVariants.{Unreached}
 use Rattle.frontier.specs.Reaches.{settled, with_offer}
+use Rattle.hub_index.specs.declared.row_view.Offer.TheVariants.{Put}
 use Rattle.hub_index.specs.Views.{IsFound}
+use Rattle.hub_index.proofs.FoundRows.{IsFound-weaker, IsSeenAfter-still}
 use Rattle.pruned_tree.specs.declared.bare.Bare.{Bare}
 use Rattle.pruned_tree.specs.Relaxed.{IsRelaxed}
 use Rattle.pruned_tree.proofs.CompleteTrees.{IsComplete, all_gained}
 use Rattle.pruned_tree.proofs.GrownRows.{IsGrowth, IsPruned-from_growth}
 use Rattle.pruned_tree.proofs.OfferedNodes.{node_inside, queued_distance}
 use Rattle.pruned_tree.proofs.TreeCounts.{unsettled, unsettled-le, unsettled-settled, unsettled-same, IsBounded, IsBounded-start, IsBounded-settled, IsBounded-relaxed, room_of_next, fits_64, arcs_of_row, entries-put, entries-kept}
-use Rattle.pruned_tree.proofs.TreeRounds.{first_come, started, same_at_all, weights_positive, only_root, IsGrowth-start, IsComplete-start, offer_fits, StillStand-found, root_position, IsGrowth-round_over, IsComplete-round_over, IsGrowth-round_put, IsGrowth-round, IsComplete-round}
+use Rattle.pruned_tree.proofs.TreeRounds.{first_come, started, same_at_all, weights_positive, only_root, IsGrowth-start, IsComplete-start, offer_fits, StillStand-found, fits_by, root_position, IsGrowth-round_over, IsComplete-round_over, IsGrowth-round_put, IsGrowth-round, IsComplete-round}
 use Rattle.pruned_tree.proofs.growing.grow_from.Given as given
 use Rattle.pruned_tree.proofs.growing.grow_from.Goals as goal
 use Rattle.pruned_tree.proofs.growing.grow_from.Goals.{In_ok-offer, In-Some, In-Put}
@@ -86,8 +88,8 @@ offer-requires-in-Some-clause-node g c =
 pub offer-requires-in-Some-clause-fits : goal.offer-requires-in-Some-clause-fits
 offer-requires-in-Some-clause-fits g c =
     let t = taken g (goal.at.offer-requires-in-Some-clause-fits g c).In-Some in
-    subst (λ es. EntryFits (Joined es) (g.R.RowView.order c.loop-v.view) c.in-Some.v (record { pos = c.args.p; dist = c.in-Some.found.dist })) (sym c.loop-v.invariant.edges)
-    (subst (λ at. EntryFits (Joined c.args.graph.now.edges) at c.in-Some.v (record { pos = c.args.p; dist = c.in-Some.found.dist })) (sym c.loop-v.invariant.order) t.fits)
+    (g.met.R.RowView.fact_fits c.loop-v.view c.in-Some.v (record { pos = c.args.p; dist = c.in-Some.found.dist })).1
+    (fits_by _ _ _ _ c.in-Some.v (record { pos = c.args.p; dist = c.in-Some.found.dist }) (sym c.loop-v.invariant.edges) (sym c.loop-v.invariant.order) t.fits)
 
 pub arcs-requires-clause-node : goal.arcs-requires-clause-node
 arcs-requires-clause-node g c = (taken g (goal.at.arcs-requires-clause-node g c).In-Some).from_one
@@ -114,20 +116,20 @@ loop-v-smaller g c =
     omega (arith, ap unsettled c.in-Some.ensures.settles, unsettled-settled c.loop-v.frontier c.in-Some.v c.in-Some.found c.in-Some.ensures.queued, unsettled-same c.relax.new.frontier c.take.new.self relaxed.size relaxed.settled)
 
 -- a row that the view finds is one of this graph and ranking
-found_here : (g : given.Over) (c : In-Some g) (row : List Entry) → IsFound (Joined (g.R.RowView.edges c.loop-v.view)) (g.R.RowView.order c.loop-v.view) c.in-Some.v (g.R.RowView.seen c.loop-v.view c.in-Some.v) row → IsFound (Joined c.args.graph.now.edges) c.args.ranking.now c.in-Some.v (g.R.RowView.seen c.loop-v.view c.in-Some.v) row
+found_here : (g : given.Over) (c : In-Some g) (row : List Entry) → IsFound (g.R.RowView.fact c.loop-v.view c.in-Some.v) (g.R.RowView.seen c.loop-v.view c.in-Some.v) row → IsFound (EntryFits (Joined c.args.graph.now.edges) c.args.ranking.now c.in-Some.v) (g.R.RowView.seen c.loop-v.view c.in-Some.v) row
 found_here g c row found =
-    subst (λ es. IsFound (Joined es) c.args.ranking.now c.in-Some.v (g.R.RowView.seen c.loop-v.view c.in-Some.v) row) c.loop-v.invariant.edges
-    (subst (λ at. IsFound (Joined (g.R.RowView.edges c.loop-v.view)) at c.in-Some.v (g.R.RowView.seen c.loop-v.view c.in-Some.v) row) c.loop-v.invariant.order found)
+    IsFound-weaker (g.R.RowView.fact c.loop-v.view c.in-Some.v) (EntryFits (Joined c.args.graph.now.edges) c.args.ranking.now c.in-Some.v) (g.R.RowView.seen c.loop-v.view c.in-Some.v) row
+    (λ e keeps. fits_by _ _ _ _ c.in-Some.v e c.loop-v.invariant.edges c.loop-v.invariant.order ((g.met.R.RowView.fact_fits c.loop-v.view c.in-Some.v e).0 keeps)) found
 
 -- the growth where nothing is put
-growth_over : (g : given.Over) (c : In-Some g) (row : List Entry) (now : ℕ → List Entry) → IsFound (Joined c.args.graph.now.edges) c.args.ranking.now c.in-Some.v (g.R.RowView.seen c.loop-v.view c.in-Some.v) row → ((x : ℕ) → 1 ≤ x → now x ≡ g.R.RowView.puts c.loop-v.view x) → (h : ℕ) → slice_get c.args.ranking.now c.args.p ≡ Some h → IsGrowth (Joined c.args.graph.now.edges) c.args.ranking.now h c.args.p (g.R.RowView.puts c.args.view.now) (settled c.loop-v.frontier c.in-Some.v c.in-Some.found) now
+growth_over : (g : given.Over) (c : In-Some g) (row : List Entry) (now : ℕ → List Entry) → IsFound (EntryFits (Joined c.args.graph.now.edges) c.args.ranking.now c.in-Some.v) (g.R.RowView.seen c.loop-v.view c.in-Some.v) row → ((x : ℕ) → 1 ≤ x → now x ≡ g.R.RowView.puts c.loop-v.view x) → (h : ℕ) → slice_get c.args.ranking.now c.args.p ≡ Some h → IsGrowth (Joined c.args.graph.now.edges) c.args.ranking.now h c.args.p (g.R.RowView.puts c.args.view.now) (settled c.loop-v.frontier c.in-Some.v c.in-Some.found) now
 growth_over g c row now found same h root =
     IsGrowth-round_over c.args.graph.now.n c.args.graph.now.edges c.args.ranking.now h c.args.p c.requires.graph c.requires.ranked c.requires.ranking root (g.R.RowView.puts c.args.view.now) (g.R.RowView.seen c.args.view.now)
     c.loop-v.frontier (g.R.RowView.puts c.loop-v.view) (g.R.RowView.seen c.loop-v.view) c.args.table.now (c.requires.root h root) (c.loop-v.invariant.growth h root) (c.loop-v.invariant.complete h root) c.loop-v.invariant.seen c.in-Some.v c.in-Some.found c.in-Some.ensures.queued c.in-Some.ensures.nearest
     row found now same
 
 -- and where the entry is
-growth_put : (g : given.Over) (c : In-Some g) (row : List Entry) (now : ℕ → List Entry) → IsFound (Joined c.args.graph.now.edges) c.args.ranking.now c.in-Some.v (g.R.RowView.seen c.loop-v.view c.in-Some.v) row → now c.in-Some.v ≡ g.R.RowView.puts c.loop-v.view c.in-Some.v ++ record { pos = c.args.p; dist = c.in-Some.found.dist } ∷ [] → ((x : ℕ) → 1 ≤ x → x ≢ c.in-Some.v → now x ≡ g.R.RowView.puts c.loop-v.view x) → (h : ℕ) → slice_get c.args.ranking.now c.args.p ≡ Some h → IsGrowth (Joined c.args.graph.now.edges) c.args.ranking.now h c.args.p (g.R.RowView.puts c.args.view.now) (settled c.loop-v.frontier c.in-Some.v c.in-Some.found) now
+growth_put : (g : given.Over) (c : In-Some g) (row : List Entry) (now : ℕ → List Entry) → IsFound (EntryFits (Joined c.args.graph.now.edges) c.args.ranking.now c.in-Some.v) (g.R.RowView.seen c.loop-v.view c.in-Some.v) row → now c.in-Some.v ≡ g.R.RowView.puts c.loop-v.view c.in-Some.v ++ record { pos = c.args.p; dist = c.in-Some.found.dist } ∷ [] → ((x : ℕ) → 1 ≤ x → x ≢ c.in-Some.v → now x ≡ g.R.RowView.puts c.loop-v.view x) → (h : ℕ) → slice_get c.args.ranking.now c.args.p ≡ Some h → IsGrowth (Joined c.args.graph.now.edges) c.args.ranking.now h c.args.p (g.R.RowView.puts c.args.view.now) (settled c.loop-v.frontier c.in-Some.v c.in-Some.found) now
 growth_put g c row now found put same h root =
     IsGrowth-round_put c.args.graph.now.n c.args.graph.now.edges c.args.ranking.now h c.args.p c.requires.graph c.requires.ranked c.requires.ranking root (g.R.RowView.puts c.args.view.now) (g.R.RowView.seen c.args.view.now)
     c.loop-v.frontier (g.R.RowView.puts c.loop-v.view) (g.R.RowView.seen c.loop-v.view) c.args.table.now (c.requires.root h root) (c.loop-v.invariant.growth h root) (c.loop-v.invariant.complete h root) c.loop-v.invariant.seen c.in-Some.v c.in-Some.found c.in-Some.ensures.queued c.in-Some.ensures.nearest
@@ -152,7 +154,7 @@ loop-v-preserved-in-Covered g c =
           (IsComplete-round_over c.args.graph.now.n c.args.graph.now.edges c.args.ranking.now h c.args.p c.requires.graph c.requires.ranked c.requires.ranking root (g.R.RowView.puts c.args.view.now) (g.R.RowView.seen c.args.view.now)
           c.loop-v.frontier (g.R.RowView.puts c.loop-v.view) (g.R.RowView.seen c.loop-v.view) c.args.table.now (c.requires.root h root) (inv.growth h root) (inv.complete h root) inv.seen c.in-Some.v c.in-Some.found c.in-Some.ensures.queued c.in-Some.ensures.nearest
           offered.found.0 found (g.R.RowView.puts c.offer-in-Some.new.self) (record { pos = c.in-Covered.pos; dist = c.in-Covered.dist }) offered.found.2.0 offered.found.2.1 same);
-      seen = StillStand-found (g.R.RowView.seen c.args.view.now) (g.R.RowView.seen c.loop-v.view) (g.R.RowView.seen c.offer-in-Some.new.self) c.in-Some.v offered.found.0 [] inv.seen found.goes_on (offered.found.3 ∙ sym (append-nil offered.found.0)) offered.others_seen;
+      seen = StillStand-found (g.R.RowView.seen c.args.view.now) (g.R.RowView.seen c.loop-v.view) (g.R.RowView.seen c.offer-in-Some.new.self) c.in-Some.v offered.found.0 inv.seen found.still (λ e there. subst (λ xs. Contains xs e) (sym offered.found.3) there) offered.others_seen;
       counted = entries-kept c.args.ranking.now (g.R.RowView.puts c.loop-v.view) (g.R.RowView.puts c.offer-in-Some.new.self) c.requires.ranking same ∙ inv.counted;
       few = omega (arith, ap unsettled now, unsettled-settled c.loop-v.frontier c.in-Some.v c.in-Some.found c.in-Some.ensures.queued, inv.few);
     }
@@ -184,7 +186,8 @@ loop-v-preserved g c =
           IsComplete-round c.args.graph.now.n c.args.graph.now.edges c.args.ranking.now h c.args.p c.requires.graph c.requires.ranked c.requires.ranking root (g.R.RowView.puts c.args.view.now) (g.R.RowView.seen c.args.view.now)
           c.loop-v.frontier (g.R.RowView.puts c.loop-v.view) (g.R.RowView.seen c.loop-v.view) c.args.table.now (c.requires.root h root) (inv.growth h root) (inv.complete h root) inv.seen c.in-Some.v c.in-Some.found c.in-Some.ensures.queued c.in-Some.ensures.nearest
           offered.found.0 found (g.R.RowView.puts c.offer-in-Some.new.self) offered.puts offered.others_puts c.arcs.result.now c.arcs.ensures.joined c.relax.new.frontier relaxed offered.found.2;
-      seen = StillStand-found (g.R.RowView.seen c.args.view.now) (g.R.RowView.seen c.loop-v.view) (g.R.RowView.seen c.offer-in-Some.new.self) c.in-Some.v offered.found.0 (record { pos = c.args.p; dist = c.in-Some.found.dist } ∷ []) inv.seen found.goes_on offered.found.3 offered.others_seen;
+      seen = StillStand-found (g.R.RowView.seen c.args.view.now) (g.R.RowView.seen c.loop-v.view) (g.R.RowView.seen c.offer-in-Some.new.self) c.in-Some.v offered.found.0 inv.seen found.still
+          (IsSeenAfter-still offered.found.0 (record { pos = c.args.p; dist = c.in-Some.found.dist }) Put (g.R.RowView.seen c.offer-in-Some.new.self c.in-Some.v) offered.found.3) offered.others_seen;
       counted = omega (arith, inv.counted, entries-put c.args.ranking.now (g.R.RowView.puts c.loop-v.view) (g.R.RowView.puts c.offer-in-Some.new.self) c.in-Some.v (record { pos = c.args.p; dist = c.in-Some.found.dist }) c.requires.ranking t.from_one (omega (arith, t.up_to_n, c.requires.ranked)) offered.puts offered.others_puts);
       few = omega (arith, unsettled-same c.relax.new.frontier (settled c.loop-v.frontier c.in-Some.v c.in-Some.found) relaxed.size relaxed.settled, unsettled-settled c.loop-v.frontier c.in-Some.v c.in-Some.found c.in-Some.ensures.queued, inv.few);
     }

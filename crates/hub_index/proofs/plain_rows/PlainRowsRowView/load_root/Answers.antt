@@ -2,7 +2,7 @@ use Rattle.std.proofs.Common.{◌≡◌, ◌<◌, All, length, sym, ap, subst, �
 use Rattle.walk_laws.specs.Labelling.{label_row}
 use Rattle.hub_index.specs.PlainRows.{IsGathered}
 use Rattle.hub_index.specs.RootDistances.{HoldsRow}
-use Rattle.hub_index.proofs.RowsGathered.{IsFound-gathered, positions-found}
+use Rattle.hub_index.proofs.RowsGathered.{found-gathered, positions-found}
 use Rattle.hub_index.proofs.plain_rows.PlainRowsRowView.load_root.Goals as goal
 use Rattle.hub_index.proofs.plain_rows.PlainRowsRowView.load_root.Goals.{After-row}
 
@@ -20,7 +20,7 @@ load-requires c =
     (subst (λ n. All (λ e. e.pos < n) (label_row c.args.self.now.rows c.args.h)) (sym c.requires.size) found)
 
 pub returns-clause-found : goal.returns-clause-found
-returns-clause-found c = IsFound-gathered c.args.self.now.edges c.args.self.now.order c.args.self.now.rows c.args.h (gathered_of (goal.at.returns-clause-found c).After-row) c.requires.node
+returns-clause-found c = found-gathered c.args.self.now.edges c.args.self.now.order c.args.self.now.rows c.args.h (gathered_of (goal.at.returns-clause-found c).After-row) c.requires.node
 
 pub returns-clause-held : goal.returns-clause-held
 returns-clause-held c = subst (HoldsRow c.load.new.self) (row_of (goal.at.returns-clause-held c).After-row) c.load.ensures.held

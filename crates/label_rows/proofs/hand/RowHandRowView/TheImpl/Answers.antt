@@ -1,16 +1,18 @@
 -- The calls of a hand keep what a view of rows promises.
-use Rattle.std.proofs.Common.{[], refl, sym, ap, subst, ◌∙◌}
+use Rattle.std.proofs.Common.{refl, sym, ap, subst, ◌∙◌}
 use Rattle.std.specs.Prelude.{None}
 use Rattle.std.proofs.lemmas.List.{append-nil}
 use mathlib.Core.Logic.{dite}
 use native.Mathlib.Decide.{ℕ_discrete}
 use Rattle.walk_laws.specs.Joined.{Joined}
+use Rattle.walk_laws.specs.Labelling.{EntryFits}
 use Rattle.hub_index.specs.RootDistances.{HoldsRow}
 use Rattle.hub_index.specs.Views.{IsFound}
+use Rattle.hub_index.proofs.FoundRows.{IsFound-onward, IsSeenAfter-with_put}
 use Rattle.label_rows.specs.declared.rule.Visit.{Visit}
 use Rattle.label_rows.specs.Seats.{Seated, hand_kept}
-use Rattle.label_rows.specs.Visits.{seen_of, puts_of, put_by, put_list, visit_of}
-use Rattle.label_rows.proofs.SeenRows.{goes_on-further, seen-here, seen-else, puts-here, puts-else, put-behind}
+use Rattle.label_rows.specs.Visits.{seen_of, puts_of, put_by, visit_of}
+use Rattle.label_rows.proofs.SeenRows.{seen-else, puts-here, puts-else, put-behind}
 use Rattle.label_rows.proofs.hand.RowHandRowView.TheImpl.Goals as goal
 
 pub load_root-tells : goal.load_root-tells
@@ -19,13 +21,13 @@ load_root-tells g c =
     let old = c.args.self.now.visits in
     let made : Visit = visit_of c.args.h visit.0 None in
     let visits = ap (λ (seat : Seated). seat.visits) visit.3 in
-    let seen = ap (λ xs. seen_of xs c.args.h) visits ∙ seen-here old made c.args.h refl (goes_on-further _ visit.0 [] visit.1.goes_on) ∙ append-nil visit.0 in
+    let fact = EntryFits (Joined c.args.self.now.rows.edges) c.args.self.now.rows.order c.args.h in
     record {
       edges = ap (λ (seat : Seated). seat.rows.edges) visit.3;
       order = ap (λ (seat : Seated). seat.rows.order) visit.3;
       kept = ap hand_kept visit.3;
-      found = subst (IsFound (Joined c.args.self.now.rows.edges) c.args.self.now.rows.order c.args.h (seen_of old c.args.h)) (sym seen) visit.1;
-      held = subst (HoldsRow c.new.table.now) (sym seen) visit.2;
+      found = subst (IsFound fact (seen_of old c.args.h)) (sym visit.4) (IsFound-onward fact (seen_of old c.args.h) visit.0 visit.1);
+      held = subst (HoldsRow c.new.table.now) (sym visit.4) visit.2;
       size = c.ensures.size;
       others = λ u _ other. ap (λ xs. seen_of xs u) visits ∙ seen-else old made u (λ is. other (sym is));
       puts = λ u. ap (λ xs. puts_of xs u) visits ∙ dite (ℕ_discrete c.args.h u) (λ here. puts-here old made u here ∙ append-nil (puts_of old u)) (λ other. puts-else old made u other);
@@ -43,9 +45,9 @@ offer-tells g c =
       kept = ap hand_kept visit.3;
       found = (
         visit.0,
-        visit.1,
+        IsFound-onward (EntryFits (Joined c.args.self.now.rows.edges) c.args.self.now.rows.order c.args.v) (seen_of old c.args.v) visit.0 visit.1,
         visit.2,
-        ap (λ xs. seen_of xs c.args.v) visits ∙ seen-here old made c.args.v refl (goes_on-further _ visit.0 (put_list (put_by c.args.entry c.result)) visit.1.goes_on) ∙ put-behind visit.0 c.args.entry c.result,
+        IsSeenAfter-with_put visit.0 c.args.entry c.result (seen_of c.new.self.now.visits c.args.v) visit.4,
       );
       puts = ap (λ xs. puts_of xs c.args.v) visits ∙ puts-here old made c.args.v refl ∙ put-behind (puts_of old c.args.v) c.args.entry c.result;
       others_seen = λ u _ other. ap (λ xs. seen_of xs u) visits ∙ seen-else old made u (λ is. other (sym is));

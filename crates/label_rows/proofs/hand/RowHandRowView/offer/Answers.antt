@@ -4,7 +4,7 @@ use Rattle.walk_laws.specs.Joined.{Joined}
 use Rattle.walk_laws.specs.Labelling.{EntryFits}
 use Rattle.label_rows.specs.Lawful.{Sitter}
 use Rattle.label_rows.specs.Visits.{put_by}
-use Rattle.label_rows.proofs.HandVisits.{seated, one_visit, row_found, put-fits}
+use Rattle.label_rows.proofs.HandVisits.{seated, one_visit, row_found, seen_after, put-fits}
 use Rattle.label_rows.proofs.SeenRows.{put-behind}
 use Rattle.label_rows.proofs.hand.RowHandRowView.offer.Goals as goal
 
@@ -29,12 +29,15 @@ returns g c =
     let row = c.take-row.result in
     let took = ap (λ (me : Sitter). me.0) c.take-row.ensures.took in
     let taken = ap (seated _ _) took ∙ before in
+    let found = row_found _ _ _ c.args.v row c.args.self.now (ap (λ seat. seat.rows.edges) before) (ap (λ seat. seat.rows.order) before) (ap (λ seat. seat.visits) before) c.take-row.ensures.goes_on c.take-row.ensures.fit in
+    let now = one_visit _ _ _ c.take-row.new.seat.me.0 _ c.args.v row c.offer-answer.new.self (put_by c.args.entry c.offer-answer.result) c.args.self.now taken (ap (λ view. view.knows.hold) took) (c.give.ensures.same.0 ∙ c.take-row.ensures.same.0) (ap (λ (me : Sitter). me.0) c.give.ensures.gave)
+    (c.offer-answer.ensures.row ∙ sym (put-behind row c.args.entry c.offer-answer.result)) in
     record {
       visit = (
         row,
-        row_found _ _ _ c.args.v row c.args.self.now (ap (λ seat. seat.rows.edges) before) (ap (λ seat. seat.rows.order) before) (ap (λ seat. seat.visits) before) c.take-row.ensures.goes_on c.take-row.ensures.fit,
+        found,
         c.offer-answer.ensures.answer,
-        one_visit _ _ _ c.take-row.new.seat.me.0 _ c.args.v row c.offer-answer.new.self (put_by c.args.entry c.offer-answer.result) c.args.self.now taken (ap (λ view. view.knows.hold) took) (c.give.ensures.same.0 ∙ c.take-row.ensures.same.0) (ap (λ (me : Sitter). me.0) c.give.ensures.gave)
-            (c.offer-answer.ensures.row ∙ sym (put-behind row c.args.entry c.offer-answer.result)),
+        now,
+        seen_after c.args.self.now _ c.args.v row (put_by c.args.entry c.offer-answer.result) now found.goes_on ∙ put-behind row c.args.entry c.offer-answer.result,
       );
     }

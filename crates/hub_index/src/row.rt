@@ -1,13 +1,14 @@
 ghost use Rattle.std.specs.Prelude.{◌≡◌, ◌≤◌, [], length};
 ghost use Rattle.hub_index.specs.Views.{IsAnswerOf, with_put};
 
-use hub_index::{Offer, RootTable, covered};
+use crate::root_table::{RootTable, covered};
+use crate::row_view::Offer;
 use std::alloc::Global;
 use std::marker::Model;
 use walk_laws::Entry;
 
-/// The row of a node, as it lies in its slot. Contracts see the list of its entries.
-#[derive(Drop)]
+/// The row of a node. Contracts see the list of its entries.
+#[derive(Debug, Drop)]
 pub struct Row {
     pub entries: Vec<Entry>,
 }
@@ -38,15 +39,24 @@ impl Row {
         ensures answer { IsAnswerOf table.now self.old entry result }
         ensures row { self.new ≡ with_put self.old entry result }
     {
-        if let Some(cover) = covered(self.entries.as_slice(), table, entry.pos, entry.dist) {
-            return Offer::Covered {
-                pos: cover.pos,
-                dist: cover.dist,
-            };
-        }
-        if self.entries.push(entry).is_err() {
-            return Offer::NoMemory;
-        }
-        Offer::Put
+        offer_to(&mut self.entries, entry, table)
     }
+}
+
+/// The offer of an entry to a row whose entries are these.
+pub(crate) fn offer_to(entries: &mut Vec<Entry>, entry: Entry, table: &RootTable) -> Offer
+    requires { entry.pos ≤ length table.now }
+    ensures answer { IsAnswerOf table.now entries.old.items entry result }
+    ensures row { entries.new.items ≡ with_put entries.old.items entry result }
+{
+    if let Some(cover) = covered(entries, table, entry.pos, entry.dist) {
+        return Offer::Covered {
+            pos: cover.pos,
+            dist: cover.dist,
+        };
+    }
+    if entries.push(entry).is_err() {
+        return Offer::NoMemory;
+    }
+    Offer::Put
 }
