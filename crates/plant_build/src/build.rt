@@ -42,15 +42,7 @@ pub fn build_plant<R: Threads + Wait + Sync, G: Gate + Sync>(
     ensures labelling { IfOk result (λ index. IsChl (Joined graph.now.edges) ranking.now index.rows) }
 {
     let copy = WorkingCopy::new(alloc, graph, ranking)?;
-    let rows = planted_rows(
-        rt,
-        alloc,
-        &copy.graph,
-        &copy.ranking,
-        workers,
-        cut,
-        gate,
-    )?;
+    let rows = planted_rows(rt, alloc, &copy.graph, &copy.ranking, workers, cut, gate)?;
     copy.index(alloc, graph, ranking, rows)
 }
 

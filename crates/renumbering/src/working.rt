@@ -26,11 +26,7 @@ pub struct WorkingCopy {
 impl WorkingCopy {
     /// The copy that a build of this graph and this ranking works on, in O(n log n + m log d) for n nodes and m edges, with
     /// at most d at a node. The only error is that memory ran out.
-    pub fn new(
-        alloc: Global,
-        graph: &Graph,
-        ranking: &Ranking,
-    ) -> Result<WorkingCopy, AllocError>
+    pub fn new(alloc: Global, graph: &Graph, ranking: &Ranking) -> Result<WorkingCopy, AllocError>
         requires { length ranking.now ≡ graph.now.n }
         ensures copy { IfOk result (λ copy. IsCopyOf graph.now ranking.now copy) }
         ensures nodes { IfOk result (λ copy. length copy.ranking ≡ copy.graph.n) }

@@ -16,8 +16,8 @@ labelled c =
     let n = c.args.graph.now.n in
     let is = c.requires.copy in
     let chl : IsChl (Joined (renumbered_edges copy.tour is.kept)) (renumbered copy.tour c.args.ranking.now) c.args.rows =
-      subst (λ edges. IsChl (Joined edges) (renumbered copy.tour c.args.ranking.now) c.args.rows) is.edges
-      (subst (λ at. IsChl (Joined copy.graph.edges) at c.args.rows) is.ranking c.requires.labelling) in
+    subst (λ edges. IsChl (Joined edges) (renumbered copy.tour c.args.ranking.now) c.args.rows) is.edges
+    (subst (λ at. IsChl (Joined copy.graph.edges) at c.args.rows) is.ranking c.requires.labelling) in
     (IsChl-lightest c.args.graph.now.edges is.kept is.lightest c.args.ranking.now c.in_ok-back.back).1
     (comes_back n is.kept copy.tour c.args.ranking.now c.args.rows c.in_ok-back.back is.known c.n-toured.ensures.ranking is.size c.n-ranked.ensures.ranking c.requires.nodes chl
     (c.in_ok-back.ensures.size ∙ is.size) (λ v low high. c.in_ok-back.ensures.rows v low (omega (arith, high, is.size))))
