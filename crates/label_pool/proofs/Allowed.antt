@@ -20,15 +20,15 @@ use Rattle.label_pool.specs.declared.rule.Linked.{Linked}
 use Rattle.label_pool.specs.declared.rule.Look.{Look}
 use Rattle.label_pool.specs.declared.rule.View.{View}
 use Rattle.label_pool.specs.Chains.{named, first_cell, IsChain, IsWithin, IsTailOf}
-use Rattle.label_pool.specs.Fillings.{linked_of, with_next, with_pos, with_dist}
-use Rattle.label_pool.specs.Layout.{head_at, next_at, pos_at, dist_at}
+use Rattle.label_pool.specs.Fillings.{linked_of, with_next, with_dist}
+use Rattle.label_pool.specs.Layout.{head_at, next_at, dist_at, name_in, pos_in}
 use Rattle.label_pool.specs.Lawful.{Table, Sitter, IsSeated, IsChainOf, IsLawful, drawn_by, is_past, given, both, nothing}
 use Rattle.label_pool.specs.Seats.{IsMet}
-use Rattle.label_pool.specs.Steps.{Drew, FilledNext, FilledPos, FilledDist, Found, LinkedTo, Read, SeesNothing, TellsCell, IsFound, IsLink, with_drawn, with_look}
+use Rattle.label_pool.specs.Steps.{Drew, FilledNext, FilledDist, Found, LinkedTo, Read, SeesNothing, TellsCell, IsFound, IsLink, with_drawn, with_look}
 use Rattle.label_pool.proofs.Cells.{chain-most}
 use Rattle.label_pool.proofs.Seats as seats
 use Rattle.label_pool.proofs.Steps as steps
-use Rattle.label_pool.proofs.Tails.{named-small, seen-still, tail-further, cell-at, all-at, all-behind}
+use Rattle.label_pool.proofs.Tails.{named-small, seen-still, tail-further, cell-at, all-behind}
 
 module _ {F : Type 0} (fact : F → ℕ → Entry → Type 0) (about : About F) (slots id : ℕ) where
   module _ (me : Sitter F) (live : 1 ≤ me.0.seats) where
@@ -63,16 +63,6 @@ module _ {F : Type 0} (fact : F → ℕ → Entry → Type 0) (about : About F) 
             tt,
             subst (λ k. IsLawful fact about (record { words = set s.words (next_at k f.cell) x; homes = s.homes; views = set s.views id (knowing me.0 (record me.0.knows { filling = Some (record f { next = Some x }) })) })) (sym n) (steps.fills_next fact about s id me.0 at lawful live f is x),
             (ap (λ o. knowing me.0 (record me.0.knows { filling = with_next (Some x) o })) (sym is), refl),
-          )
-
-      pub fills_pos : (x : ℕ) → x < 2 ^ 32 → Allows (IsLawful fact about) slots id me (pos_at me.0.knows.n f.cell) (λ _. x) (λ _. FilledPos (step slots (pos_at me.0.knows.n f.cell) x 0 none) me x)
-      fills_pos x small s lawful _ at _ =
-          let n = (steps.seated_here fact about s id me.0 at lawful live).n in (
-            knowing me.0 (record me.0.knows { filling = Some (record f { pos = Some x }) }),
-            keeps,
-            tt,
-            subst (λ k. IsLawful fact about (record { words = set s.words (pos_at k f.cell) x; homes = s.homes; views = set s.views id (knowing me.0 (record me.0.knows { filling = Some (record f { pos = Some x }) })) })) (sym n) (steps.fills_pos fact about s id me.0 at lawful live f is x small),
-            (ap (λ o. knowing me.0 (record me.0.knows { filling = with_pos x o })) (sym is), refl),
           )
 
       pub fills_dist : (x : ℕ) → Allows (IsLawful fact about) slots id me (dist_at me.0.knows.n f.cell) (λ _. x) (λ _. FilledDist (step slots (dist_at me.0.knows.n f.cell) x 0 none) me x)
@@ -135,21 +125,17 @@ module _ {F : Type 0} (fact : F → ℕ → Entry → Type 0) (about : About F) 
             let still = All-contains (λ x. x.node ≡ look.node → IsTailOf x.found chain) me.0.knows.looks look (old.found id me.0 at) there refl in
             let whole = tail-further (l ∷ ls) look.found chain tail still in
             let holds = cell-at about.n s.words whole.front l ls (subst (IsChain about.n s.words) whole.parted old.linked) in
-            let within = subst (All (IsWithin about.cells)) whole.parted old.within in
-            let here = all-at (IsWithin about.cells) whole.front l ls within in
             let rest = named-small about.cells ls (all-behind (IsWithin about.cells) (whole.front ++ l ∷ []) ls (subst (All (IsWithin about.cells)) (whole.parted ∙ sym (append_assoc whole.front (l ∷ []) ls)) old.within)) in
             record {
               next = λ is.
-                  let same = ap (slice_index s.words) (is ∙ ap (λ k. next_at k l.cell) n) ∙ holds.next in
-                  (same, omega (arith, same, rest, lawful.limits));
-              pos = λ is.
-                  let same = ap (slice_index s.words) (is ∙ ap (λ k. pos_at k l.cell) n) ∙ holds.pos in
-                  (same, omega (arith, same, here.pos));
+                  let read = ap (slice_index s.words) (is ∙ ap (λ k. next_at k l.cell) n) in
+                  let same = ap name_in read ∙ holds.next in
+                  (same, omega (arith, same, rest, lawful.limits), ap pos_in read ∙ holds.pos);
               dist = λ is. ap (slice_index s.words) (is ∙ ap (λ k. dist_at k l.cell) n) ∙ holds.dist;
             }
 
     -- the open cell is linked where the head is the expected one
-    module _ (v : ℕ) (node : IsNode me.0.knows.n v) (cell p d head : ℕ) (is : me.0.knows.filling ≡ Some (record { cell = cell; next = Some head; pos = Some p; dist = Some d })) (met : IsMet fact me.0.knows.fact v (record { pos = p; dist = d })) where
+    module _ (v : ℕ) (node : IsNode me.0.knows.n v) (cell next dist head : ℕ) (is : me.0.knows.filling ≡ Some (record { cell = cell; next = Some next; dist = Some dist })) (names : name_in next ≡ head % 2 ^ 32) (met : IsMet fact me.0.knows.fact v (record { pos = pos_in next; dist = dist })) where
       abbrev Goes : Table F → ℕ → ℕ → Type 0
       Goes s found x = (w : SeatView (View F)) × (a : Act (Unit {0})) × Valid s.homes me.1 a × IsLawful fact about (stepped s (head_at v) x id me.1 w a) × LinkedTo (step slots (head_at v) head (cell + 1) none) me found (w, carried_after me.1 a)
 
@@ -160,15 +146,16 @@ module _ {F : Type 0} (fact : F → ℕ → Entry → Type 0) (about : About F) 
           let chain = (lawful.chains v here).0 in
           let old = (lawful.chains v here).1 in
           let head_is : head ≡ named (first_cell chain) = sym same ∙ old.head in
-          let open_is = is ∙ ap (λ h. Some (record { cell = cell; next = Some h; pos = Some p; dist = Some d })) head_is in
-          let fact_here : fact about.fact v (record { pos = p; dist = d }) = subst (λ value. IsMet fact value v (record { pos = p; dist = d })) seated.fact met in (
-            knowing me.0 (steps.linked fact about s id me.0 at lawful live v here cell p d open_is fact_here),
+          let small = named-small about.cells chain old.within in
+          let name_is : name_in next ≡ named (first_cell chain) = omega (arith, names, head_is, small, lawful.limits) in
+          let fact_here : fact about.fact v (record { pos = pos_in next; dist = dist }) = subst (λ value. IsMet fact value v (record { pos = pos_in next; dist = dist })) seated.fact met in (
+            knowing me.0 (steps.linked fact about s id me.0 at lawful live v here cell next dist is name_is fact_here),
             keeps,
             tt,
-            steps.links fact about s id me.0 at lawful live v here cell p d open_is fact_here,
+            steps.links fact about s id me.0 at lawful live v here cell next dist is name_is fact_here,
             λ u word.
                 let u_is : u ≡ v = omega (arith, word) in (
-                  λ _. subst (λ x. IsLink me x (knowing me.0 (steps.linked fact about s id me.0 at lawful live v here cell p d open_is fact_here), me.1)) (sym u_is)
+                  λ _. subst (λ x. IsLink me x (knowing me.0 (steps.linked fact about s id me.0 at lawful live v here cell next dist is name_is fact_here), me.1)) (sym u_is)
                       (record {
                         behind = chain;
                         goes_on = seen-still v chain me.0.knows.marks (old.seen id me.0 at);

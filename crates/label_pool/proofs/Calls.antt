@@ -14,14 +14,10 @@ use Rattle.label_pool.specs.Fillings.{drawn, linked_of, with_next}
 use Rattle.label_pool.specs.Seats.{PoolId, Seated, seated, IsMet, HasFound, HasPut}
 use Rattle.label_pool.specs.Steps.{with_drawn, with_filling, with_look, with_link}
 
--- the name of a next cell that was stored before counts no more, and is no part of the entry
+-- the name of a next cell that was stored before counts no more
 pub next-again : (x y : Option ℕ) (o : Option Filling) → with_next x (with_next y o) ≡ with_next x o
 next-again x y None = refl
 next-again x y (Some f) = refl
-
-pub linked-next : (x : Option ℕ) (o : Option Filling) → linked_of (with_next x o) ≡ linked_of o
-linked-next x None = refl
-linked-next x (Some f) = refl
 
 module _ {F : Type 0} where
   -- a number below the cells was drawn, or one past them

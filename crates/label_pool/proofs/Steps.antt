@@ -28,13 +28,13 @@ use Rattle.label_pool.specs.declared.rule.Put.{Put}
 use Rattle.label_pool.specs.declared.rule.View.{View}
 use Rattle.label_pool.specs.Chains.{named, first_cell, IsChain, IsWithin, IsTailOf, puts_at}
 use Rattle.label_pool.specs.Fillings.{HoldsFilling, HoldsOpen, open_cell}
-use Rattle.label_pool.specs.Layout.{head_at, next_at, pos_at, dist_at, word_count}
+use Rattle.label_pool.specs.Layout.{head_at, next_at, dist_at, name_in, pos_in, word_count}
 use Rattle.label_pool.specs.Lawful.{Table, IsSeated, IsChainOf, IsLawful, StillIn, drawn_by, is_past, nothing}
 use Rattle.label_pool.specs.Steps.{with_drawn, with_look}
 use Rattle.label_pool.proofs.Cells.{open-unlinked, open-alone}
 use Rattle.label_pool.proofs.Puts.{puts-here, puts-else}
 use Rattle.label_pool.proofs.Tails.{tail-self, tail-under}
-use Rattle.label_pool.proofs.Words.{IsApart, low-apart, next-apart, pos-apart, dist-apart, chain-else, open-else, filled-else}
+use Rattle.label_pool.proofs.Words.{IsApart, low-apart, next-apart, dist-apart, chain-else, open-else, filled-else}
 
 module _ {F : Type 0} (fact : F → ℕ → Entry → Type 0) (about : About F) (s : Table F) (id : ℕ) (me : SeatView (View F)) (at : get_elem? s.views id ≡ some me) (lawful : IsLawful fact about s) (live : 1 ≤ me.seats) where
   abbrev Next : List ℕ → View F → Table F
@@ -110,12 +110,12 @@ module _ {F : Type 0} (fact : F → ℕ → Entry → Type 0) (about : About F) 
     pub draws : IsLawful fact about (Next (set s.words 0 (counter + 1)) (with_drawn me.knows counter))
     draws =
         let seated = seated_here in
-        let becomes : Bool → View F = λ b. if b then record me.knows { filling = Some (record { cell = counter; next = None; pos = None; dist = None }) } else record me.knows { past = Some counter } in
+        let becomes : Bool → View F = λ b. if b then record me.knows { filling = Some (record { cell = counter; next = None; dist = None }) } else record me.knows { past = Some counter } in
         dite (dec_lt counter about.cells)
         (λ below.
         let yes : nat_lt counter me.knows.cells ≡ true = lt-ltb counter me.knows.cells (omega (arith, seated.cells, below)) in
         subst (λ (b : Bool). IsLawful fact about (Next (set s.words 0 (counter + 1)) (becomes b))) (sym yes)
-        (after_draw (becomes true) (record { n = seated.n; cells = seated.cells; all = seated.all; fact = seated.fact }) refl refl refl (record { below = below; next = tt; pos = tt; dist = tt; small = tt })
+        (after_draw (becomes true) (record { n = seated.n; cells = seated.cells; all = seated.all; fact = seated.fact }) refl refl refl (record { below = below; next = tt; dist = tt })
         (drawing.draws_number drawn_by is_past 0 about.cells about.seats counter s.views id me lawful.drawn at (knowing me (becomes true)) refl still_on still_on (ap (λ cs. cs ++ counter ∷ []) (sym drawn-now)) below)))
         (λ above.
         let no : nat_lt counter me.knows.cells ≡ false = le-ltb counter me.knows.cells (omega (arith, seated.cells, above)) in
@@ -162,7 +162,7 @@ module _ {F : Type 0} (fact : F → ℕ → Entry → Type 0) (about : About F) 
             (λ (t : (j ≢ id) × (get_elem? s.views j ≡ some seat)). others_at word x apart j seat t.0 t.1)
             (at_set s.views id j (knowing me w) seat there)
 
-    inside : (word : ℕ) → word < about.n + 35 + 3 * f.cell → word < length s.words
+    inside : (word : ℕ) → word < word_count about.n (f.cell + 1) → word < length s.words
     inside word low = omega (arith, low, filling_holds.below, lawful.words)
 
     pub fills_next : (x : ℕ) → IsLawful fact about (Next (set s.words (next_at about.n f.cell) x) (record me.knows { filling = Some (record f { next = Some x }) }))
@@ -171,20 +171,7 @@ module _ {F : Type 0} (fact : F → ℕ → Entry → Type 0) (about : About F) 
         fills word x (record f { next = Some x }) refl (omega arith) (λ cell other. next-apart about.n f.cell cell other) (record {
           below = filling_holds.below;
           next = get_or-set_same s.words word x 0 (inside word (omega arith));
-          pos = filled-else about.n s.words word x f.pos (pos_at about.n f.cell) (λ e. omega (arith, e)) filling_holds.pos;
           dist = filled-else about.n s.words word x f.dist (dist_at about.n f.cell) (λ e. omega (arith, e)) filling_holds.dist;
-          small = filling_holds.small;
-        })
-
-    pub fills_pos : (x : ℕ) → x < 2 ^ 32 → IsLawful fact about (Next (set s.words (pos_at about.n f.cell) x) (record me.knows { filling = Some (record f { pos = Some x }) }))
-    fills_pos x small =
-        let word : ℕ = pos_at about.n f.cell in
-        fills word x (record f { pos = Some x }) refl (omega arith) (λ cell other. pos-apart about.n f.cell cell other) (record {
-          below = filling_holds.below;
-          next = filled-else about.n s.words word x f.next (next_at about.n f.cell) (λ e. omega (arith, e)) filling_holds.next;
-          pos = get_or-set_same s.words word x 0 (inside word (omega arith));
-          dist = filled-else about.n s.words word x f.dist (dist_at about.n f.cell) (λ e. omega (arith, e)) filling_holds.dist;
-          small = small;
         })
 
     pub fills_dist : (x : ℕ) → IsLawful fact about (Next (set s.words (dist_at about.n f.cell) x) (record me.knows { filling = Some (record f { dist = Some x }) }))
@@ -193,9 +180,7 @@ module _ {F : Type 0} (fact : F → ℕ → Entry → Type 0) (about : About F) 
         fills word x (record f { dist = Some x }) refl (omega arith) (λ cell other. dist-apart about.n f.cell cell other) (record {
           below = filling_holds.below;
           next = filled-else about.n s.words word x f.next (next_at about.n f.cell) (λ e. omega (arith, e)) filling_holds.next;
-          pos = filled-else about.n s.words word x f.pos (pos_at about.n f.cell) (λ e. omega (arith, e)) filling_holds.pos;
           dist = get_or-set_same s.words word x 0 (inside word (omega arith));
-          small = filling_holds.small;
         })
 
   module _ (v : ℕ) (node : IsNode about.n v) where
@@ -234,9 +219,9 @@ module _ {F : Type 0} (fact : F → ℕ → Entry → Type 0) (about : About F) 
               ));
         }
 
-    module _ (cell p d : ℕ) (is : me.knows.filling ≡ Some (record { cell = cell; next = Some (named (first_cell chain)); pos = Some p; dist = Some d })) (met : fact about.fact v (record { pos = p; dist = d })) where
+    module _ (cell next dist : ℕ) (is : me.knows.filling ≡ Some (record { cell = cell; next = Some next; dist = Some dist })) (named_next : name_in next ≡ named (first_cell chain)) (met : fact about.fact v (record { pos = pos_in next; dist = dist })) where
       abbrev mine : Linked
-      mine = record { cell = cell; entry = record { pos = p; dist = d } }
+      mine = record { cell = cell; entry = record { pos = pos_in next; dist = dist } }
 
       abbrev pub linked : View F
       linked = record me.knows { filling = None; puts = me.knows.puts ++ record { node = v; linked = mine } ∷ []; marks = record { node = v; found = mine ∷ chain } ∷ me.knows.marks }
@@ -244,7 +229,7 @@ module _ {F : Type 0} (fact : F → ℕ → Entry → Type 0) (about : About F) 
       abbrev After : List ℕ
       After = set s.words (head_at v) (cell + 1)
 
-      holds_mine : HoldsFilling about.n about.cells s.words (record { cell = cell; next = Some (named (first_cell chain)); pos = Some p; dist = Some d })
+      holds_mine : HoldsFilling about.n about.cells s.words (record { cell = cell; next = Some next; dist = Some dist })
       holds_mine = filling_holds _ is
 
       low : head_at v < about.n + 32
@@ -255,8 +240,8 @@ module _ {F : Type 0} (fact : F → ℕ → Entry → Type 0) (about : About F) 
         head = get_or-set_same s.words (head_at v) (cell + 1) 0 (omega (arith, low, lawful.words));
         linked = chain-else about.n s.words (head_at v) (cell + 1) (mine ∷ chain)
             (All-cons (λ l. IsApart about.n (head_at v) l.cell) mine chain (low-apart about.n (head_at v) cell low) (All-weaker (IsWithin about.cells) (λ l. IsApart about.n (head_at v) l.cell) (λ l _. low-apart about.n (head_at v) l.cell low) chain old.within))
-            (record { next = holds_mine.next; pos = holds_mine.pos; dist = holds_mine.dist }, old.linked);
-        within = All-cons (IsWithin about.cells) mine chain (record { cell = holds_mine.below; pos = holds_mine.small }) old.within;
+            (record { next = ap name_in holds_mine.next ∙ named_next; pos = ap pos_in holds_mine.next; dist = holds_mine.dist }, old.linked);
+        within = All-cons (IsWithin about.cells) mine chain (record { cell = holds_mine.below; pos = omega arith }) old.within;
         met = All-cons (λ l. fact about.fact v l.entry) mine chain met old.met;
         each_once = IsPermutation-trans _ _ _ (flat_map-more (λ (seat : SeatView (View F)). puts_at seat.knows.puts v) s.views id me (knowing me linked) (mine ∷ []) at (puts-here me.knows.puts v mine)) (IsPermutation-cons mine _ _ old.each_once);
         found = Each-set (λ seat. StillIn v (mine ∷ chain) seat.knows.looks) s.views id (knowing me linked) (λ j seat there. further seat.knows.looks (old.found j seat there)) (further me.knows.looks (old.found id me at));

@@ -1,7 +1,7 @@
 -- A chain of closed words, of which a front was walked.
 use Rattle.std.proofs.Common.{◌≡◌, ℕ, zero, suc, ◌+◌, ◌<◌, ◌≤◌, List, [], ◌∷◌, ◌++◌, All, length, refl, sym, ap, ◌∙◌, subst, arith}
 use Rattle.std.specs.Prelude.{Option, Some, None, slice_index, slice_index_or}
-use Rattle.std.proofs.lemmas.List.{append_assoc, append-nil, map-append, length-append}
+use Rattle.std.proofs.lemmas.List.{append_assoc, append-nil, map-append, length-append, length-map}
 use mathlib.Core.Option.{some, some-injective, some-ne-none}
 use lib.ListN.{get_elem?}
 use Rattle.walk_laws.specs.declared.entry.Entry.{Entry}
@@ -87,6 +87,15 @@ module _ (n cells : ℕ) (words : List ℕ) (v : ℕ) (chain : List Linked) (wri
       let a = ap length w.parted in
       let rest = short_rest w.front w.rest (let c = w.counted in let m = written.most in omega (arith, a, c, m, all)) in
       w.walked ∙ sym (ap entries_of (w.parted ∙ ap (λ ls. w.front ++ ls) rest ∙ append-nil w.front))
+
+-- a chain that was walked whole has as many cells as were counted
+pub as-many : (chain : List Linked) (at : Option ℕ) (count : ℕ) (entries : List Entry) → IsWalked chain at count entries → entries ≡ entries_of chain → length chain ≡ count
+as-many chain at count entries w whole =
+    let a = length-map chain (λ (l : Linked). l.entry) in
+    let b = length-map w.front (λ (l : Linked). l.entry) in
+    let e = ap length (sym whole ∙ w.walked) in
+    let c = w.counted in
+    omega (arith, a, b, e, c)
 
 -- a word that was read from a list
 pub at_word : (xs : List ℕ) (i x : ℕ) → get_elem? xs i ≡ some x → slice_index xs i ≡ x

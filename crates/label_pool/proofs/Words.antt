@@ -1,24 +1,22 @@
 -- What the store of one word leaves as it was.
-use Rattle.std.proofs.Common.{◌≡◌, ◌≢◌, ℕ, ◌+◌, ◌<◌, List, [], ◌∷◌, All, set, get_or-set_other, ◌∙◌, subst, refl, sym, arith}
+use Rattle.std.proofs.Common.{◌≡◌, ◌≢◌, ℕ, ◌+◌, ◌<◌, List, [], ◌∷◌, All, set, get_or-set_other, ◌∙◌, ap, subst, refl, sym, arith}
 use Rattle.std.specs.Prelude.{Option, Some, None, slice_index}
 use Rattle.std.proofs.lemmas.List.Elements.{All-head, All-tail}
 use Rattle.label_pool.specs.declared.rule.Filling.{Filling}
 use Rattle.label_pool.specs.declared.rule.Linked.{Linked}
 use Rattle.label_pool.specs.Chains.{named, first_cell, HoldsCell, IsChain}
 use Rattle.label_pool.specs.Fillings.{IsFilled, HoldsOpen}
-use Rattle.label_pool.specs.Layout.{next_at, pos_at, dist_at}
+use Rattle.label_pool.specs.Layout.{next_at, dist_at, name_in, pos_in}
 
 -- the word is none of the cell's
 pub record IsApart (n word cell : ℕ) : Type 0 where
   pub next : next_at n cell ≢ word
-  pub pos : pos_at n cell ≢ word
   pub dist : dist_at n cell ≢ word
 
 -- the counter and the heads are no words of a cell
 pub low-apart : (n word cell : ℕ) → word < n + 32 → IsApart n word cell
 low-apart n word cell low = record {
   next = λ is. omega (arith, low, is);
-  pos = λ is. omega (arith, low, is);
   dist = λ is. omega (arith, low, is);
 }
 
@@ -26,29 +24,20 @@ low-apart n word cell low = record {
 pub next-apart : (n c cell : ℕ) → c ≢ cell → IsApart n (next_at n c) cell
 next-apart n c cell other = record {
   next = λ is. other (omega (arith, is));
-  pos = λ is. omega (arith, is);
-  dist = λ is. omega (arith, is);
-}
-
-pub pos-apart : (n c cell : ℕ) → c ≢ cell → IsApart n (pos_at n c) cell
-pos-apart n c cell other = record {
-  next = λ is. omega (arith, is);
-  pos = λ is. other (omega (arith, is));
   dist = λ is. omega (arith, is);
 }
 
 pub dist-apart : (n c cell : ℕ) → c ≢ cell → IsApart n (dist_at n c) cell
 dist-apart n c cell other = record {
   next = λ is. omega (arith, is);
-  pos = λ is. omega (arith, is);
   dist = λ is. other (omega (arith, is));
 }
 
 module _ (n : ℕ) (words : List ℕ) (word x : ℕ) where
   cell-else : (l : Linked) (name : ℕ) → IsApart n word l.cell → HoldsCell n words l name → HoldsCell n (set words word x) l name
   cell-else l name apart holds = record {
-    next = get_or-set_other words word (next_at n l.cell) x 0 apart.next ∙ holds.next;
-    pos = get_or-set_other words word (pos_at n l.cell) x 0 apart.pos ∙ holds.pos;
+    next = ap name_in (get_or-set_other words word (next_at n l.cell) x 0 apart.next) ∙ holds.next;
+    pos = ap pos_in (get_or-set_other words word (next_at n l.cell) x 0 apart.next) ∙ holds.pos;
     dist = get_or-set_other words word (dist_at n l.cell) x 0 apart.dist ∙ holds.dist;
   }
 
@@ -67,7 +56,5 @@ module _ (n : ℕ) (words : List ℕ) (word x : ℕ) where
   open-else cells (Some f) apart holds = record {
     below = holds.below;
     next = filled-else f.next (next_at n f.cell) (apart f refl).next holds.next;
-    pos = filled-else f.pos (pos_at n f.cell) (apart f refl).pos holds.pos;
     dist = filled-else f.dist (dist_at n f.cell) (apart f refl).dist holds.dist;
-    small = holds.small;
   }

@@ -4,7 +4,7 @@ use Rattle.walk_laws.specs.declared.entry.Entry.{Entry}
 use Rattle.label_pool.specs.declared.rule.Linked.{Linked}
 use Rattle.label_pool.specs.declared.rule.Look.{Look}
 use Rattle.label_pool.specs.declared.rule.Put.{Put}
-use Rattle.label_pool.specs.Layout.{head_at, next_at, pos_at, dist_at}
+use Rattle.label_pool.specs.Layout.{head_at, next_at, dist_at, name_in, pos_in}
 
 -- the word that names a cell, and 0 for none
 abbrev pub named : Option ℕ → ℕ
@@ -17,8 +17,8 @@ first_cell (l ∷ ls) = Some l.cell
 
 -- the words of a cell hold its entry and the name of the next cell
 pub record HoldsCell (n : ℕ) (words : List ℕ) (l : Linked) (name : ℕ) : Type 0 where
-  pub next : slice_index words (next_at n l.cell) ≡ name
-  pub pos : slice_index words (pos_at n l.cell) ≡ l.entry.pos
+  pub next : name_in (slice_index words (next_at n l.cell)) ≡ name
+  pub pos : pos_in (slice_index words (next_at n l.cell)) ≡ l.entry.pos
   pub dist : slice_index words (dist_at n l.cell) ≡ l.entry.dist
 
 -- from the first cell on, each leads to the next

@@ -1,27 +1,19 @@
 -- Cells that were drawn and are not linked yet, and what was stored in their words.
-use Rattle.std.specs.Prelude.{◌≡◌, ℕ, ◌^◌, ◌<◌, Option, Some, None, List, [], ◌∷◌, slice_index}
-use Rattle.walk_laws.specs.declared.entry.Entry.{Entry}
+use Rattle.std.specs.Prelude.{◌≡◌, ℕ, ◌<◌, Option, Some, None, List, [], ◌∷◌, slice_index}
 use Rattle.label_pool.specs.declared.rule.Filling.{Filling}
 use Rattle.label_pool.specs.declared.rule.Linked.{Linked}
-use Rattle.label_pool.specs.Layout.{next_at, pos_at, dist_at}
+use Rattle.label_pool.specs.Layout.{next_at, dist_at, pos_in}
 
 -- a word holds what was stored there, if anything was
 abbrev pub IsFilled : Option ℕ → ℕ → Type 0
 IsFilled None word = Unit {0}
 IsFilled (Some stored) word = word ≡ stored
 
--- what was stored, if anything was, is less than the limit
-abbrev pub IsBelow : ℕ → Option ℕ → Type 0
-IsBelow limit None = Unit {0}
-IsBelow limit (Some stored) = stored < limit
-
 -- the cell is one of so many, and its words hold what was stored in them
 pub record HoldsFilling (n cells : ℕ) (words : List ℕ) (f : Filling) : Type 0 where
   pub below : f.cell < cells
   pub next : IsFilled f.next (slice_index words (next_at n f.cell))
-  pub pos : IsFilled f.pos (slice_index words (pos_at n f.cell))
   pub dist : IsFilled f.dist (slice_index words (dist_at n f.cell))
-  pub small : IsBelow (2 ^ 32) f.pos
 
 abbrev pub HoldsOpen : ℕ → ℕ → List ℕ → Option Filling → Type 0
 HoldsOpen n cells words None = Unit {0}
@@ -38,24 +30,20 @@ stored_or_0 (Some stored) = stored
 -- a drawn cell with the entry that was stored in it
 abbrev pub linked_of : Option Filling → Linked
 linked_of None = record { cell = 0; entry = record { pos = 0; dist = 0 } }
-linked_of (Some f) = record { cell = f.cell; entry = record { pos = stored_or_0 f.pos; dist = stored_or_0 f.dist } }
+linked_of (Some f) = record { cell = f.cell; entry = record { pos = pos_in (stored_or_0 f.next); dist = stored_or_0 f.dist } }
 
 -- a cell that was drawn, and nothing stored in it
 abbrev pub drawn : ℕ → Filling
-drawn cell = record { cell = cell; next = None; pos = None; dist = None }
+drawn cell = record { cell = cell; next = None; dist = None }
 
--- a cell in which an entry was stored, and maybe the name of a next cell
-abbrev pub filled : ℕ → Option ℕ → Entry → Filling
-filled cell next e = record { cell = cell; next = next; pos = Some e.pos; dist = Some e.dist }
+-- a cell in which a distance was stored, and maybe a word with the name of a next cell and a position
+abbrev pub filled : ℕ → Option ℕ → ℕ → Filling
+filled cell next dist = record { cell = cell; next = next; dist = Some dist }
 
 -- the open cell, with a word of it stored
 abbrev pub with_next : Option ℕ → Option Filling → Option Filling
 with_next x None = None
 with_next x (Some f) = Some (record f { next = x })
-
-abbrev pub with_pos : ℕ → Option Filling → Option Filling
-with_pos x None = None
-with_pos x (Some f) = Some (record f { pos = Some x })
 
 abbrev pub with_dist : ℕ → Option Filling → Option Filling
 with_dist x None = None

@@ -12,7 +12,7 @@ use Rattle.label_pool.specs.declared.rule.Filling.{Filling}
 use Rattle.label_pool.specs.declared.rule.Linked.{Linked}
 use Rattle.label_pool.specs.declared.rule.View.{View}
 use Rattle.label_pool.specs.Fillings.{filled}
-use Rattle.label_pool.specs.Layout.{head_at, next_at, pos_at, dist_at, word_count}
+use Rattle.label_pool.specs.Layout.{head_at, next_at, dist_at, name_in, pos_in, word_count}
 use Rattle.label_pool.specs.Lawful.{Table, IsChainOf, IsLawful, first_view, given, both, nothing}
 use Rattle.label_pool.specs.Steps.{with_drawn, with_filling, with_look, with_link}
 
@@ -39,7 +39,6 @@ module _ {F : Type 0} (fact : F → ℕ → Entry → Type 0) where
   abbrev pub FillsKeep : Type 0
   FillsKeep = (about : About F) (s : Table F) (id : ℕ) (me : SeatView (View F)) (f : Filling) (x : ℕ) → IsLawful fact about s → IsSeat s.views id me → me.knows.filling ≡ Some f
       → IsLawful fact about (with_step s (next_at about.n f.cell) x id me (with_filling me.knows (Some (record f { next = Some x }))))
-      × (x < 2 ^ 32 → IsLawful fact about (with_step s (pos_at about.n f.cell) x id me (with_filling me.knows (Some (record f { pos = Some x })))))
       × IsLawful fact about (with_step s (dist_at about.n f.cell) x id me (with_filling me.knows (Some (record f { dist = Some x }))))
 
   -- a seat loads a head, and finds its chain
@@ -49,8 +48,8 @@ module _ {F : Type 0} (fact : F → ℕ → Entry → Type 0) where
 
   -- a seat links its filled cell, which names the head that it finds, in front of the chain
   abbrev pub LinksKeep : Type 0
-  LinksKeep = (about : About F) (s : Table F) (id : ℕ) (me : SeatView (View F)) (v cell : ℕ) (e : Entry) → IsLawful fact about s → IsSeat s.views id me → IsNode about.n v
-      → me.knows.filling ≡ Some (filled cell (Some (slice_index s.words (head_at v))) e) → fact about.fact v e
+  LinksKeep = (about : About F) (s : Table F) (id : ℕ) (me : SeatView (View F)) (v cell next dist : ℕ) → IsLawful fact about s → IsSeat s.views id me → IsNode about.n v
+      → me.knows.filling ≡ Some (filled cell (Some next) dist) → name_in next ≡ slice_index s.words (head_at v) → fact about.fact v (record { pos = pos_in next; dist = dist })
       → (chain : List Linked) × IsChainOf fact about s v chain × IsLawful fact about (with_step s (head_at v) (cell + 1) id me (with_link me.knows v chain))
 
   -- a new seat is split from a seat that has as many

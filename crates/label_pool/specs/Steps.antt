@@ -8,15 +8,14 @@ use Rattle.label_pool.specs.declared.rule.Linked.{Linked}
 use Rattle.label_pool.specs.declared.rule.Look.{Look}
 use Rattle.label_pool.specs.declared.rule.View.{View}
 use Rattle.label_pool.specs.Chains.{named, first_cell, IsTailOf, seen_of}
-use Rattle.label_pool.specs.Fillings.{drawn, linked_of, with_next, with_pos, with_dist}
-use Rattle.label_pool.specs.Layout.{head_at, next_at, pos_at, dist_at}
+use Rattle.label_pool.specs.Fillings.{drawn, linked_of, with_next, with_dist}
+use Rattle.label_pool.specs.Layout.{head_at, next_at, dist_at, name_in, pos_in}
 use Rattle.label_pool.specs.Lawful.{Sitter}
 use Rattle.label_pool.specs.Seats.{IsMet}
 
 -- what the load of a word tells of a cell in a chain that was found
 pub record TellsCell (n word number : ℕ) (l : Linked) (ls : List Linked) : Type 0 where
-  pub next : word ≡ next_at n l.cell → (number ≡ named (first_cell ls)) × (number ≤ 2 ^ 31)
-  pub pos : word ≡ pos_at n l.cell → (number ≡ l.entry.pos) × (number < 2 ^ 32)
+  pub next : word ≡ next_at n l.cell → (name_in number ≡ named (first_cell ls)) × (name_in number ≤ 2 ^ 31) × (pos_in number ≡ l.entry.pos)
   pub dist : word ≡ dist_at n l.cell → number ≡ l.entry.dist
 
 module _ {F : Type 0} where
@@ -38,9 +37,6 @@ module _ {F : Type 0} where
 
   abbrev pub FilledNext : Step (Unit {0}) → Sitter F → ℕ → Sitter F → Type 0
   FilledNext step me number after = Fills (with_next (Some step.first)) me after
-
-  abbrev pub FilledPos : Step (Unit {0}) → Sitter F → ℕ → Sitter F → Type 0
-  FilledPos step me number after = Fills (with_pos step.first) me after
 
   abbrev pub FilledDist : Step (Unit {0}) → Sitter F → ℕ → Sitter F → Type 0
   FilledDist step me number after = Fills (with_dist step.first) me after

@@ -7,7 +7,7 @@ ghost use Rattle.label_pool.specs.declared.rule.Linked.{Linked};
 ghost use Rattle.label_pool.specs.Chains.{IsWritten, entries_of};
 ghost use Rattle.label_pool.specs.Layout.{word_count};
 
-use crate::layout::{cell_named, dist_word, head_word, next_word, pos_word};
+use crate::layout::{cell_in, cell_named, dist_word, head_word, next_word, pos_in};
 use atomic_table::Closed;
 use hub_index::RowList;
 use std::alloc::{AllocError, Global};
@@ -34,7 +34,25 @@ pub fn gathered(
     Ok(RowList::from_rows(rows))
 }
 
-/// The entries of the chain of the node `v`, a number from 1, newest first. The only error is that memory ran out.
+/// How many cells the chain of the node `v` has, a number from 1.
+fn cells_in(closed: &Closed<(), Global>, n: u32, cells: u32, v: u32) -> u32
+    requires full { IsFull closed.now.words }
+    requires size { slots_len closed.now.words ≡ word_count n cells }
+    requires limits { (n ≤ 2 ^ 30) × (cells ≤ 2 ^ 31) }
+    requires node { IsNode n v }
+    requires chain { (chain : List Linked) × IsWritten n cells (slots_items closed.now.words) v chain }
+    ensures { (chain : List Linked) → IsWritten n cells (slots_items closed.now.words) v chain → result ≡ length chain }
+{
+    let mut at = cell_named(closed.word(head_word(v)));
+    for count in 0..cells {
+        let Some(cell) = at else { return count };
+        at = cell_in(closed.word(next_word(n, cell)));
+    }
+    cells
+}
+
+/// The entries of the chain of the node `v`, a number from 1, newest first, in a row of just that size. The only error is
+/// that memory ran out.
 fn entries_in(
     alloc: Global,
     closed: &Closed<(), Global>,
@@ -49,14 +67,18 @@ fn entries_in(
     requires chain { (chain : List Linked) × IsWritten n cells (slots_items closed.now.words) v chain }
     ensures { IfOk result (λ entries. (chain : List Linked) → IsWritten n cells (slots_items closed.now.words) v chain → entries.items ≡ entries_of chain) }
 {
-    let mut entries = Vec::new(alloc);
+    let count = cells_in(closed, n, cells, v);
+    let mut entries = Vec::with_capacity(alloc, count as usize)?;
     let mut at = cell_named(closed.word(head_word(v)));
     for _ in 0..cells {
         let Some(cell) = at else { break };
-        let pos = closed.word(pos_word(n, cell)) as u32;
+        let next = closed.word(next_word(n, cell));
         let dist = closed.word(dist_word(n, cell));
-        entries.push(Entry { pos, dist })?;
-        at = cell_named(closed.word(next_word(n, cell)));
+        entries.push(Entry {
+            pos: pos_in(next),
+            dist,
+        })?;
+        at = cell_in(next);
     }
     Ok(entries)
 }

@@ -5,7 +5,7 @@ ghost use Rattle.label_pool.specs.declared.rule.About.{About as AboutPool};
 ghost use Rattle.label_pool.specs.Lawful.{IsLawful, Sitter, Table as PoolTable};
 ghost use Rattle.label_pool.specs.Laws.{HoldsAtFirst, DrawsKeep, FillsKeep, FindsKeep, LinksKeep, SplitsKeep, JoinsKeep, ChainsAreShort, ChainsAreApart};
 
-use crate::rule::{About, FillsDist, FillsNext, FillsPos, Law, LinkFact, Reads, View};
+use crate::rule::{About, FillsDist, FillsNext, Law, LinkFact, Reads, View};
 use atomic_table::{Play, TableRule};
 use table_seats::SeatView;
 
@@ -28,7 +28,6 @@ pub fn the_rule_is_kept<F: LinkFact>()
 pub fn the_table_is_held_to_the_rule<F: LinkFact>()
     ensures rule { (about : AboutPool F) (words : PoolTable F) → ⟦<Law as TableRule<(), SeatView<View<F>>, About<F>>>⟧.holds about words ↔ IsLawful F.fact about words }
     ensures next { (step : Step (Unit {0})) (me : Sitter F) (number : ℕ) (after : Sitter F) → ⟦<FillsNext as Play<(), SeatView<View<F>>>>⟧.then step me number after → after.0.knows.looks ≡ me.0.knows.looks }
-    ensures pos { (step : Step (Unit {0})) (me : Sitter F) (number : ℕ) (after : Sitter F) → ⟦<FillsPos as Play<(), SeatView<View<F>>>>⟧.then step me number after → after.0.knows.looks ≡ me.0.knows.looks }
     ensures dist { (step : Step (Unit {0})) (me : Sitter F) (number : ℕ) (after : Sitter F) → ⟦<FillsDist as Play<(), SeatView<View<F>>>>⟧.then step me number after → after.0.knows.looks ≡ me.0.knows.looks }
     ensures read { (step : Step (Unit {0})) (me : Sitter F) (number : ℕ) (after : Sitter F) → ⟦<Reads as Play<(), SeatView<View<F>>>>⟧.then step me number after → after.0.knows.looks ≡ me.0.knows.looks }
 {}

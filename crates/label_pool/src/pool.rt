@@ -117,8 +117,8 @@ impl<F: LinkFact> Pool<F> {
             };
         }
         let cell = drawn as u32;
-        fill(words, &mut seat.seat, self.n, cell, entry);
-        link(rt, words, &mut seat.seat, self.n, v, cell);
+        fill(words, &mut seat.seat, self.n, cell, entry.dist);
+        link(rt, words, &mut seat.seat, self.n, v, cell, entry.pos);
         PoolPut::Put
     }
 

@@ -43,8 +43,8 @@ pub struct Look {
 /// A cell, a number from 0, that was drawn and is not linked yet, and what was stored in its words. No value of it is made.
 pub struct Filling {
     pub cell: u32,
+    /// The word with the name of the next cell and the position.
     pub next: Option<u64>,
-    pub pos: Option<u64>,
     pub dist: Option<u64>,
 }
 
@@ -86,22 +86,13 @@ impl<F: LinkFact> Play<(), SeatView<View<F>>> for Draws {
     ghost then = { Drew };
 }
 
-/// A word of the open cell is filled: that which names the next cell.
+/// A word of the open cell is filled: that with the name of the next cell and the position.
 pub struct FillsNext;
 
 impl<F: LinkFact> Play<(), SeatView<View<F>>> for FillsNext {
     ghost use Rattle.label_pool.specs.Steps.{FilledNext};
 
     ghost then = { FilledNext };
-}
-
-/// A word of the open cell is filled: the position.
-pub struct FillsPos;
-
-impl<F: LinkFact> Play<(), SeatView<View<F>>> for FillsPos {
-    ghost use Rattle.label_pool.specs.Steps.{FilledPos};
-
-    ghost then = { FilledPos };
 }
 
 /// A word of the open cell is filled: the distance.

@@ -3,7 +3,7 @@ ghost use Rattle.label_pool.specs.declared.rule.Linked.{Linked};
 ghost use Rattle.label_pool.specs.Chains.{IsRest, IsNext};
 ghost use Rattle.label_pool.specs.Seats.{IsSeatOf};
 
-use crate::layout::{cell_named, dist_word, next_word, pos_word};
+use crate::layout::{cell_in, dist_word, next_word, pos_in};
 use crate::pool::Pool;
 use crate::rule::{LinkFact, Reads};
 use crate::seat::PoolSeat;
@@ -43,11 +43,10 @@ impl Visit {
         let cell = self.at?;
         let words = &pool.table.shared;
         let next = words.load::<Reads>(&mut seat.seat, next_word(pool.n, cell));
-        let pos = words.load::<Reads>(&mut seat.seat, pos_word(pool.n, cell));
         let dist = words.load::<Reads>(&mut seat.seat, dist_word(pool.n, cell));
-        self.at = cell_named(next);
+        self.at = cell_in(next);
         Some(Entry {
-            pos: pos as u32,
+            pos: pos_in(next),
             dist,
         })
     }

@@ -3,11 +3,11 @@ use Rattle.std.specs.Prelude.{slice_index}
 use Rattle.std.specs.Slots.{slots_items}
 use Rattle.label_pool.specs.declared.rule.Linked.{Linked}
 use Rattle.label_pool.specs.Chains.{IsWritten}
-use Rattle.label_pool.specs.Layout.{head_at, next_at, pos_at, dist_at}
+use Rattle.label_pool.specs.Layout.{head_at, next_at, dist_at, name_in, pos_in}
 use Rattle.label_pool.proofs.Tails.{named-small}
 use Rattle.label_pool.proofs.Walked.{IsWalked, Stands, begins, stands, goes_on, ended, spent, at_word}
 use Rattle.label_pool.proofs.gathering.entries_in.Goals as goal
-use Rattle.label_pool.proofs.gathering.entries_in.Goals.{After-pos_word, After-word, After-word-in-loop, else-loop-test, then-loop-test+in_default}
+use Rattle.label_pool.proofs.gathering.entries_in.Goals.{After-next_word, After-word, After-word-next, else-loop-test, then-loop-test+in_default}
 
 -- the head, as it was read
 head_is : (c : After-word) → c.word.result ≡ slice_index (slots_items c.args.closed.now.words) (head_at c.args.v)
@@ -20,53 +20,46 @@ cell_named-at-requires c =
     omega (arith, small, head_is c, w.head, c.requires.limits.1)
 
 pub loop-init : goal.loop-init
-loop-init c chain w = subst (IsWalked chain c.cell_named-at.result 0) (sym c.new-entries.ensures.items) (begins c.args.n c.args.cells (slots_items c.args.closed.now.words) c.args.v chain w c.cell_named-at.result (c.cell_named-at.ensures ∙ head_is (goal.at.loop-init c).After-word))
+loop-init c chain w = subst (IsWalked chain c.cell_named-at.result 0) (sym c.in_ok-entries.ensures.items) (begins c.args.n c.args.cells (slots_items c.args.closed.now.words) c.args.v chain w c.cell_named-at.result (c.cell_named-at.ensures ∙ head_is (goal.at.loop-init c).After-word))
 
 -- the cell at which the walk stands, of any chain that is written there
-standing : (c : After-pos_word) (chain : List Linked) (w : IsWritten c.args.n c.args.cells (slots_items c.args.closed.now.words) c.args.v chain)
+standing : (c : After-next_word) (chain : List Linked) (w : IsWritten c.args.n c.args.cells (slots_items c.args.closed.now.words) c.args.v chain)
     → Stands c.args.n c.args.cells (slots_items c.args.closed.now.words) c.args.v chain w c.in-Some.cell c.loop.counter c.loop.entries.items
 standing c chain w = stands c.args.n c.args.cells (slots_items c.args.closed.now.words) c.args.v chain w c.in-Some.cell c.loop.at c.loop.counter c.loop.entries.items c.in-Some.is (c.loop.invariant chain w)
 
-here : (c : After-pos_word) → Stands c.args.n c.args.cells (slots_items c.args.closed.now.words) c.args.v c.requires.chain.0 c.requires.chain.1 c.in-Some.cell c.loop.counter c.loop.entries.items
+here : (c : After-next_word) → Stands c.args.n c.args.cells (slots_items c.args.closed.now.words) c.args.v c.requires.chain.0 c.requires.chain.1 c.in-Some.cell c.loop.counter c.loop.entries.items
 here c = standing c c.requires.chain.0 c.requires.chain.1
 
-low : (c : After-pos_word) → c.in-Some.cell < c.args.cells
+low : (c : After-next_word) → c.in-Some.cell < c.args.cells
 low c = let s = here c in let b = s.within.cell in omega (arith, b, s.is)
 
-pub word-pos-requires : goal.word-pos-requires
-word-pos-requires c = (omega (arith, low c, c.pos_word.ensures, c.requires.size), c.requires.full)
+pub word-next-requires : goal.word-next-requires
+word-next-requires c = (omega (arith, low c, c.next_word.ensures, c.requires.size), c.requires.full)
 
-pub overflow_cast-pos : goal.overflow_cast-pos
-overflow_cast-pos c =
-    let s = here (goal.at.overflow_cast-pos c).After-pos_word in
-    let words = slots_items c.args.closed.now.words in
-    let read = sym (at_word words c.pos_word.result c.word-pos.result c.word-pos.ensures) ∙ ap (slice_index words) (c.pos_word.ensures ∙ ap (pos_at c.args.n) (sym s.is)) ∙ s.holds.pos in
-    let small = s.within.pos in
-    omega (arith, read, small)
+-- the word of the next cell and the position, as it was read
+next_is : (c : After-word-next) (l : Linked) → l.cell ≡ c.in-Some.cell → c.word-next.result ≡ slice_index (slots_items c.args.closed.now.words) (next_at c.args.n l.cell)
+next_is c l is = let words = slots_items c.args.closed.now.words in sym (at_word words c.next_word.result c.word-next.result c.word-next.ensures) ∙ ap (slice_index words) (c.next_word.ensures ∙ ap (next_at c.args.n) (sym is))
 
 pub word-dist-requires : goal.word-dist-requires
-word-dist-requires c = (omega (arith, low (goal.at.word-dist-requires c).After-pos_word, c.dist_word.ensures, c.requires.size), c.requires.full)
+word-dist-requires c = (omega (arith, low (goal.at.word-dist-requires c).After-next_word, c.dist_word.ensures, c.requires.size), c.requires.full)
 
-pub word-requires-in-loop : goal.word-requires-in-loop
-word-requires-in-loop c = (omega (arith, low (goal.at.word-requires-in-loop c).After-pos_word, c.next_word.ensures, c.requires.size), c.requires.full)
-
-pub cell_named-at-requires-in-loop : goal.cell_named-at-requires-in-loop
-cell_named-at-requires-in-loop c =
-    let s = here (goal.at.cell_named-at-requires-in-loop c).After-pos_word in
-    let words = slots_items c.args.closed.now.words in
-    let read = sym (at_word words c.next_word.result c.word-in-loop.result c.word-in-loop.ensures) ∙ ap (slice_index words) (c.next_word.ensures ∙ ap (next_at c.args.n) (sym s.is)) ∙ s.holds.next in
+pub cell_in-at-requires : goal.cell_in-at-requires
+cell_in-at-requires c =
+    let s = here (goal.at.cell_in-at-requires c).After-next_word in
+    let read = ap name_in (next_is (goal.at.cell_in-at-requires c).After-word-next s.l s.is) ∙ s.holds.next in
     let small = s.small in
     omega (arith, read, small, c.requires.limits.1)
 
 pub loop-preserved : goal.loop-preserved
 loop-preserved c chain w =
-    let s = standing (goal.at.loop-preserved c).After-pos_word chain w in
+    let s = standing (goal.at.loop-preserved c).After-next_word chain w in
     let words = slots_items c.args.closed.now.words in
-    let pos = sym (at_word words c.pos_word.result c.word-pos.result c.word-pos.ensures) ∙ ap (slice_index words) (c.pos_word.ensures ∙ ap (pos_at c.args.n) (sym s.is)) ∙ s.holds.pos in
+    let read = next_is (goal.at.loop-preserved c).After-word-next s.l s.is in
+    let pos = c.pos_in.ensures ∙ ap pos_in read ∙ s.holds.pos in
     let dist = sym (at_word words c.dist_word.result c.word-dist.result c.word-dist.ensures) ∙ ap (slice_index words) (c.dist_word.ensures ∙ ap (dist_at c.args.n) (sym s.is)) ∙ s.holds.dist in
-    let next = c.cell_named-at-in-loop.ensures ∙ sym (at_word words c.next_word.result c.word-in-loop.result c.word-in-loop.ensures) ∙ ap (slice_index words) (c.next_word.ensures ∙ ap (next_at c.args.n) (sym s.is)) ∙ s.holds.next in
-    subst (IsWalked chain c.cell_named-at-in-loop.result (c.loop.counter + 1)) (sym c.in_ok-push.ensures.items)
-    (goes_on c.args.n c.args.cells words c.args.v chain w c.in-Some.cell c.loop.counter c.loop.entries.items (record { pos = c.word-pos.result; dist = c.word-dist.result }) c.cell_named-at-in-loop.result s (λ k. record { pos = pos k; dist = dist k }) next)
+    let next = c.cell_in-at.ensures ∙ ap name_in read ∙ s.holds.next in
+    subst (IsWalked chain c.cell_in-at.result (c.loop.counter + 1)) (sym c.in_ok-push.ensures.items)
+    (goes_on c.args.n c.args.cells words c.args.v chain w c.in-Some.cell c.loop.counter c.loop.entries.items (record { pos = c.pos_in.result; dist = c.word-dist.result }) c.cell_in-at.result s (λ k. record { pos = pos k; dist = dist k }) next)
 
 pub returns : goal.returns
 returns c chain w =

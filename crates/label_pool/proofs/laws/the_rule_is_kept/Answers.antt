@@ -1,7 +1,7 @@
 use Rattle.std.proofs.Common.{◌+◌, [], ◌∷◌, ◌++◌, ap, ◌∙◌, sym, subst}
-use Rattle.std.specs.Prelude.{Some, None, slice_index}
+use Rattle.std.specs.Prelude.{None, slice_index}
 use Rattle.label_pool.specs.declared.rule.Linked.{Linked}
-use Rattle.label_pool.specs.Fillings.{filled, linked_of}
+use Rattle.label_pool.specs.Fillings.{linked_of}
 use Rattle.label_pool.specs.Lawful.{IsLawful}
 use Rattle.label_pool.specs.Layout.{head_at}
 use Rattle.label_pool.specs.Laws.{with_step}
@@ -16,16 +16,16 @@ returns g c =
     record {
       first = λ about n cells some_seat few. seats.begins fact about n cells some_seat few;
       draw = λ about s id me lawful seat empty on. steps.draws fact about s id me seat.0 lawful seat.1 empty on;
-      fill = λ about s id me f x lawful seat is. (steps.fills_next fact about s id me seat.0 lawful seat.1 f is x, λ small. steps.fills_pos fact about s id me seat.0 lawful seat.1 f is x small, steps.fills_dist fact about s id me seat.0 lawful seat.1 f is x);
+      fill = λ about s id me f x lawful seat is. (steps.fills_next fact about s id me seat.0 lawful seat.1 f is x, steps.fills_dist fact about s id me seat.0 lawful seat.1 f is x);
       find = λ about s id me v lawful seat node. ((lawful.chains v node).0, (lawful.chains v node).1, steps.finds fact about s id me seat.0 lawful seat.1 v node);
-      link = λ about s id me v cell e lawful seat node is met.
+      link = λ about s id me v cell next dist lawful seat node is names met.
           let chain = (lawful.chains v node).0 in
           let old = (lawful.chains v node).1 in
-          let open_is = is ∙ ap (λ h. Some (filled cell (Some h) e)) old.head in (
+          let name_is = names ∙ old.head in (
             chain,
             old,
             subst (λ (l : Linked). IsLawful fact about (with_step s (head_at v) (cell + 1) id me (record me.knows { filling = None; puts = me.knows.puts ++ record { node = v; linked = l } ∷ []; marks = record { node = v; found = l ∷ chain } ∷ me.knows.marks })))
-                (sym (ap linked_of is)) (steps.links fact about s id me seat.0 lawful seat.1 v node cell e.pos e.dist open_is met),
+                (sym (ap linked_of is)) (steps.links fact about s id me seat.0 lawful seat.1 v node cell next dist is name_is met),
           );
       split = λ about s id me give lawful seat enough. seats.splits fact about s id me seat.0 lawful seat.1 give enough;
       join = λ about s id other me them lawful seat too apart empty empty_too. seats.joins fact about s id me seat.0 lawful seat.1 other them apart too.0 empty empty_too;

@@ -23,4 +23,4 @@ link-requires-clause-filled g c =
     let below : drawn < me.knows.cells = omega (arith, c.if-drawn-from.false, c.from.ensures, cells) in
     let drew = c.fetch_add-drawn.ensures.2.0 ∙ ap (knowing me) (drew-cell me.knows drawn below) in
     let fact_is = ap (λ (m : Sitter g.row.F.Denot). m.0.knows.fact) c.fill.ensures.filled ∙ ap (λ v. v.knows.fact) drew ∙ ap (λ d. d.fact) whose in
-    (c.args.entry, ap (λ (m : Sitter g.row.F.Denot). m.0.knows.filling) c.fill.ensures.filled, subst (λ value. IsMet g.F.LinkFact.fact value c.args.v c.args.entry) (sym fact_is) c.requires.fact)
+    (c.args.entry.dist, ap (λ (m : Sitter g.row.F.Denot). m.0.knows.filling) c.fill.ensures.filled, subst (λ value. IsMet g.F.LinkFact.fact value c.args.v c.args.entry) (sym fact_is) c.requires.fact)

@@ -3,7 +3,7 @@ use Rattle.std.specs.Prelude.{Some, Contains}
 use Rattle.label_pool.specs.declared.rule.Linked.{Linked}
 use Rattle.label_pool.specs.declared.rule.Look.{Look}
 use Rattle.label_pool.specs.Chains.{named, first_cell, IsTailOf, IsRest}
-use Rattle.label_pool.specs.Layout.{next_at, pos_at, dist_at}
+use Rattle.label_pool.specs.Layout.{next_at, dist_at, name_in, pos_in}
 use Rattle.label_pool.specs.Lawful.{Sitter}
 use Rattle.label_pool.proofs.Allowed.{reads_one}
 use Rattle.label_pool.proofs.Tails.{named-same}
@@ -41,57 +41,38 @@ load-next-requires g c =
     let low = inside g c in
     (same_table g c, omega (arith, low, c.next_word.ensures), reads_one _ _ _ _ _ (omega (arith, c.seat.invariant.0)) c.next_word.result)
 
-pub load-pos-requires : goal.load-pos-requires
-load-pos-requires g c =
-    let before = (goal.at.load-pos-requires g c).After-next_word in
-    let low = inside g before in
-    let e = c.load-next.ensures in
-    let live = ap (λ (m : Sitter g.row.F.Denot). m.0.seats) e.2.0 ∙ c.seat.invariant.0 in
-    (e.0 ∙ same_table g before, omega (arith, low, c.pos_word.ensures), reads_one _ _ _ _ _ (omega (arith, live)) c.pos_word.result)
-
 pub load-dist-requires : goal.load-dist-requires
 load-dist-requires g c =
     let before = (goal.at.load-dist-requires g c).After-next_word in
     let low = inside g before in
-    let d = c.load-next.ensures in
-    let e = c.load-pos.ensures in
-    let live = ap (λ (m : Sitter g.row.F.Denot). m.0.seats) (e.2.0 ∙ d.2.0) ∙ c.seat.invariant.0 in
-    (e.0 ∙ d.0 ∙ same_table g before, omega (arith, low, c.dist_word.ensures), reads_one _ _ _ _ _ (omega (arith, live)) c.dist_word.result)
+    let e = c.load-next.ensures in
+    let live = ap (λ (m : Sitter g.row.F.Denot). m.0.seats) e.2.0 ∙ c.seat.invariant.0 in
+    (e.0 ∙ same_table g before, omega (arith, low, c.dist_word.ensures), reads_one _ _ _ _ _ (omega (arith, live)) c.dist_word.result)
 
--- what the three loads told of the cell
-record IsCell (next pos dist : ℕ) (l : Linked) (ls : List Linked) : Type 0 where
-  next_is : next ≡ named (first_cell ls)
-  next_small : next ≤ 2 ^ 31
-  pos_is : pos ≡ l.entry.pos
-  pos_small : pos < 2 ^ 32
+-- what the two loads told of the cell
+record IsCell (next dist : ℕ) (l : Linked) (ls : List Linked) : Type 0 where
+  next_is : name_in next ≡ named (first_cell ls)
+  next_small : name_in next ≤ 2 ^ 31
+  pos_is : pos_in next ≡ l.entry.pos
   dist_is : dist ≡ l.entry.dist
 
-told : (g : Given.Over) (c : After-load-dist g) (look : Look) (l : Linked) (ls : List Linked) → Contains c.args.seat.now.looks look → IsTailOf (l ∷ ls) look.found → l.cell ≡ c.in_ok-cell.cell → IsCell c.load-next.result c.load-pos.result c.load-dist.result l ls
+told : (g : Given.Over) (c : After-load-dist g) (look : Look) (l : Linked) (ls : List Linked) → Contains c.args.seat.now.looks look → IsTailOf (l ∷ ls) look.found → l.cell ≡ c.in_ok-cell.cell → IsCell c.load-next.result c.load-dist.result l ls
 told g c look l ls there tail is =
     let before = (goal.at-After-load-dist g c).After-next_word in
     let n = same_n g before in
     let there' = subst (λ looks. Contains looks look) (sym (ap (λ d. d.looks) c.seat.view_is)) there in
     let first = c.load-next.ensures.2 in
-    let second = c.load-pos.ensures.2 in
-    let third = c.load-dist.ensures.2 in
+    let second = c.load-dist.ensures.2 in
     let me1 = first.0 in
-    let me2 = second.0 ∙ first.0 in
     let a = (first.1 look l ls there' tail).next (c.next_word.ensures ∙ (λ k. next_at (sym n k) (sym is k))) in
-    let b = (second.1 look l ls (subst (λ (m : Sitter g.row.F.Denot). Contains m.0.knows.looks look) (sym me1) there') tail).pos (c.pos_word.ensures ∙ (λ k. pos_at (sym (ap (λ (m : Sitter g.row.F.Denot). m.0.knows.n) me1 ∙ n) k) (sym is k))) in
-    let d = (third.1 look l ls (subst (λ (m : Sitter g.row.F.Denot). Contains m.0.knows.looks look) (sym me2) there') tail).dist (c.dist_word.ensures ∙ (λ k. dist_at (sym (ap (λ (m : Sitter g.row.F.Denot). m.0.knows.n) me2 ∙ n) k) (sym is k))) in
-    record { next_is = a.0; next_small = a.1; pos_is = b.0; pos_small = b.1; dist_is = d }
+    let d = (second.1 look l ls (subst (λ (m : Sitter g.row.F.Denot). Contains m.0.knows.looks look) (sym me1) there') tail).dist (c.dist_word.ensures ∙ (λ k. dist_at (sym (ap (λ (m : Sitter g.row.F.Denot). m.0.knows.n) me1 ∙ n) k) (sym is k))) in
+    record { next_is = a.0; next_small = a.1; pos_is = a.2; dist_is = d }
 
-told_here : (g : Given.Over) (c : After-load-dist g) (at : IsAt c.args.seat.now.looks c.in_ok-cell.cell) → IsCell c.load-next.result c.load-pos.result c.load-dist.result at.l at.ls
+told_here : (g : Given.Over) (c : After-load-dist g) (at : IsAt c.args.seat.now.looks c.in_ok-cell.cell) → IsCell c.load-next.result c.load-dist.result at.l at.ls
 told_here g c at = told g c at.look at.l at.ls at.there at.tail at.is
 
-pub cell_named-self-inside-requires : goal.cell_named-self-inside-requires
-cell_named-self-inside-requires g c = (told_here g c (here g (goal.at-After-load-dist g c).After-next_word)).next_small
-
-pub overflow_cast-result : goal.overflow_cast-result
-overflow_cast-result g c =
-    let before = (goal.at.overflow_cast-result g c).After-load-dist in
-    let small = (told_here g before (here g (goal.at.overflow_cast-result g c).After-next_word)).pos_small in
-    omega (arith, small)
+pub cell_in-self-inside-requires : goal.cell_in-self-inside-requires
+cell_in-self-inside-requires g c = (told_here g c (here g (goal.at-After-load-dist g c).After-next_word)).next_small
 
 pub returns-clause-next : goal.returns-clause-next
 returns-clause-next g c rest r =
@@ -100,5 +81,5 @@ returns-clause-next g c rest r =
     next-given c.args.seat.now.looks c.in_ok-cell.cell _ _ rest
     (λ look l ls there tail is.
     let t = told g before look l ls there tail is in
-    ((λ k. Some (record { pos = t.pos_is k; dist = t.dist_is k })), named-same c.cell_named-self-inside.result (first_cell ls) (c.cell_named-self-inside.ensures ∙ t.next_is)))
+    ((λ k. Some (record { pos = (c.pos_in.ensures ∙ t.pos_is) k; dist = t.dist_is k })), named-same c.cell_in-self-inside.result (first_cell ls) (c.cell_in-self-inside.ensures ∙ t.next_is)))
     (subst (λ a. IsRest c.args.seat.now.looks a rest) (stands g first) r)
