@@ -1,5 +1,8 @@
 pub mod Sums
 pub mod Walked
+pub mod HeldRows
+pub mod Through
+pub mod Placed
 pub mod RowFacts
 pub mod Meetings
 pub mod ArcsInOrder

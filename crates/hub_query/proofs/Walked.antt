@@ -161,7 +161,7 @@ module _ (first second : List Entry) where
     ]
 
 -- an entry for a read past the end, where none is made
-abbrev nothing : Entry
+abbrev pub nothing : Entry
 nothing = record { pos = 0; dist = 0 }
 
 -- the same steps of two places, which are within the rows

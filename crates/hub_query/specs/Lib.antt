@@ -1,3 +1,4 @@
 pub mod Meant
 pub mod Paths
 pub mod Laws
+pub mod HubTables

@@ -8,6 +8,7 @@
 mod answer;
 mod answers;
 mod asking;
+mod hub_table;
 pub mod laws;
 mod meeting;
 mod nodes;
