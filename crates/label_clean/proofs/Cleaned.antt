@@ -23,7 +23,7 @@ use Rattle.label_clean.proofs.Covering.{pos_of, entry, covered, IsCovered-more}
 use Rattle.label_clean.proofs.RowFacts.{same_entry}
 
 module _ (at : List ℕ) (ranking : IsRanking at) where
-  hub_place : (p h : ℕ) → slice_get at p ≡ Some h → position_of at h ≡ p
+  pub hub_place : (p h : ℕ) → slice_get at p ≡ Some h → position_of at h ≡ p
   hub_place p h is =
       subst (λ y. position_of at y ≡ p) (get_or_from_slice_get at p h 0 is) (position-get_or at p 0 ranking.once (slice_get_within at p h is))
 

@@ -30,7 +30,7 @@ Rises-append (x ∷ xs) ys up more below =
     (Rises-append xs ys (Rises-rest pos_of x xs up) more (λ e f h k. below e f (Contains-next x e xs h) k))
 
 -- one position stands in one of two parts
-one_part : (xs ys : List Entry) (e f : Entry) → HasEachOnce (xs ++ ys) → Contains xs e → Contains ys f → e.pos ≡ f.pos → ⊥
+pub one_part : (xs ys : List Entry) (e f : Entry) → HasEachOnce (xs ++ ys) → Contains xs e → Contains ys f → e.pos ≡ f.pos → ⊥
 one_part xs ys e f once (i, i_within, here) (j, j_within, there) same =
     one_place (xs ++ ys) i (length xs + j) e f once (omega arith) (omega (arith, length-append xs ys))
     (get_or_append_left xs ys e i i_within ∙ here) (get_or-append-add xs ys j f ∙ there) same

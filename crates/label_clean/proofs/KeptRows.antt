@@ -1,10 +1,9 @@
 -- What is kept of rows, row by row.
-use Rattle.std.proofs.Common.{◌≡◌, ◌≢◌, ◌↔◌, inl, inr, ℕ, zero, suc, ◌+◌, ◌-◌, ◌<◌, ◌≤◌, eqb, Option, Some, None, List, [], ◌∷◌, ◌++◌, Vec, Global, All, Contains, length, map, get_or, set, refl, sym, ap, subst, ◌∙◌, arith}
-use Rattle.std.specs.List.{IsDistinct}
+use Rattle.std.proofs.Common.{◌≡◌, ◌≢◌, inl, inr, ℕ, ◌+◌, ◌-◌, ◌<◌, ◌≤◌, Option, None, List, [], ◌∷◌, ◌++◌, Vec, Global, length, map, get_or, refl, sym, ap, subst, ◌∙◌, arith}
 use Rattle.std.specs.List.Sorted.{IsStrictlyIncreasing}
 use Rattle.std.proofs.lemmas.Bool.{cases_lt, cases_eq}
 use Rattle.std.proofs.lemmas.Bool.Decides.{Decides-eqb}
-use Rattle.std.proofs.lemmas.List.{get_or_append_left, get_or-append_right, get_or_push, get_or-set_same, get_or-set_other, length-append, length-map, map-set}
+use Rattle.std.proofs.lemmas.List.{get_or_append_left, get_or-append_right, get_or_push, length-append}
 use Rattle.std.proofs.lemmas.List.Elements.{All-contains}
 use Rattle.std.proofs.lemmas.List.Kept.{AllPairs-from_increasing}
 use Rattle.std.proofs.lemmas.Map.Made.{IsDistinct-from_AllPairs}
@@ -15,7 +14,6 @@ use Rattle.label_clean.specs.Needless.{IsNeedless, IsSurvivingRow}
 use Rattle.label_clean.specs.Kept.{IsKeptRow, AreKeptRows, HasSurvivors}
 use Rattle.label_clean.specs.Sorted.{IsSortedRow}
 use Rattle.label_clean.proofs.Covering.{pos_of}
-use Rattle.label_clean.proofs.RowItems.{items_of}
 
 -- rising positions differ
 pub once_from_rising : (row : List Entry) → IsStrictlyIncreasing (map pos_of row) → HasEachOnce row

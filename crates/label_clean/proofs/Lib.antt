@@ -8,3 +8,6 @@ pub mod TestRows
 pub mod GoneOn
 pub mod RowItems
 pub mod KeptRows
+pub mod Placed
+pub mod ShortRows
+pub mod GoneOnWith

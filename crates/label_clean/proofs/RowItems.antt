@@ -1,8 +1,10 @@
 -- Rows as lists of entries, and as vectors of entries.
-use Rattle.std.proofs.Common.{◌≡◌, ℕ, ◌+◌, ◌-◌, ◌<◌, ◌≤◌, List, [], ◌∷◌, ◌++◌, Vec, Global, length, map, get_or, take, drop, sym, ap, subst, ◌∙◌, arith}
+use Rattle.std.proofs.Common.{◌≡◌, ℕ, ◌+◌, ◌-◌, ◌<◌, ◌≤◌, List, [], ◌∷◌, ◌++◌, Vec, Global, All, Contains, length, map, get_or, take, drop, sym, ap, subst, ◌∙◌, arith}
 use Rattle.std.proofs.lemmas.List.{append-nil, drop_all, get_or-map, length-map, take_all}
+use Rattle.std.proofs.lemmas.List.Elements.{All-contains, All-contains_itself, All-weaker, Contains-append_left, Contains-append_right}
 use Rattle.walk_laws.specs.declared.entry.Entry.{Entry}
 use Rattle.walk_laws.specs.Labelling.{label_row}
+use Rattle.walk_laws.proofs.Members.{Contains-first}
 
 abbrev pub items_of : List (Vec Entry Global) → List (List Entry)
 items_of rows = map (λ row. row.items) rows
@@ -36,3 +38,10 @@ each_changed P (x ∷ xs) after size each v from_one up_to_n =
 pub take_filled : {X : Type 0} (n : ℕ) (now old : List X) → length now ≡ length old → length old ≡ n → take n (now ++ drop (length now) old) ≡ now
 take_filled n now old size whole =
     ap (λ rest. take n (now ++ rest)) (drop_all (length now) old (omega (arith, size))) ∙ ap (take n) (append-nil now) ∙ take_all n now (omega (arith, size, whole))
+
+-- a list whose last element is taken away
+pub last_apart : {X : Type 0} (P : X → Type 0) (xs ys : List X) (x : X) → xs ≡ ys ++ x ∷ [] → All P xs → All P ys × P x
+last_apart P xs ys x is all = (
+  All-weaker (Contains ys) P (λ y here. All-contains P xs y all (subst (λ zs. Contains zs y) (sym is) (Contains-append_left ys (x ∷ []) y here))) ys (All-contains_itself ys),
+  All-contains P xs x all (subst (λ zs. Contains zs x) (sym is) (Contains-append_right ys (x ∷ []) x (Contains-first x []))),
+)

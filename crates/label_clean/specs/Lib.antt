@@ -5,3 +5,5 @@ pub mod Kept
 pub mod Tested
 pub mod Below
 pub mod Laws
+pub mod Between
+pub mod Shortened

@@ -1,8 +1,8 @@
 ghost use Rattle.std.specs.Prelude.{◌≡◌, ℕ, [], ◌∷◌, IfOk};
 ghost use Rattle.walk_laws.specs.Worked.{entry as entry_of, first_four};
 
-use crate::{clean, survivors};
-use hub_index::RowList;
+use crate::{Cleaner, clean, survivors};
+use hub_index::{NodeEntry, RowList};
 use rank_table::Ranking;
 use std::alloc::Global;
 use std::test::Fail;
@@ -111,6 +111,54 @@ fn a_global_table_is_gone_on_with(rt: HostRuntime) -> Result<(), Fail> {
         let v = place as u32 + 1;
         assert_eq!(rt; rows.row(v), *row, "{v}");
         assert_eq!(rt; kept.row(v), *later, "{v}");
+    }
+    Ok(())
+}
+
+/// The hub 1 of the square's nodes.
+fn first_hub(alloc: Global) -> Result<RowList, Fail>
+    ensures { IfOk result (λ rows. rows ≡
+        (entry_of 0 0 ∷ []) ∷ (entry_of 0 1 ∷ []) ∷ (entry_of 0 2 ∷ []) ∷ (entry_of 0 1 ∷ []) ∷ []) }
+{
+    let first = vec![in alloc; entry(0, 0)]?;
+    let second = vec![in alloc; entry(0, 1)]?;
+    let third = vec![in alloc; entry(0, 2)]?;
+    let fourth = vec![in alloc; entry(0, 1)]?;
+    let rows = vec![in alloc; first, second, third, fourth]?;
+    Ok(RowList::from_rows(rows))
+}
+
+fn fresh_entry(node: u32, pos: u32, dist: u64) -> NodeEntry
+    ensures { result ≡ record { node = node; pos = pos; dist = dist } }
+{
+    NodeEntry { node, pos, dist }
+}
+
+/// What trees of the other three roots put, where that of 2 didn't see that of 1: in its table (1, 2) at node 4 is deleted.
+#[test]
+fn a_table_is_gone_on_with_in_place(rt: HostRuntime) -> Result<(), Fail> {
+    let ranking = one_to_four(rt.alloc())?;
+    let global = first_hub(rt.alloc())?;
+    let fresh = vec![in rt.alloc();
+        fresh_entry(4, 3, 0),
+        fresh_entry(3, 2, 0),
+        fresh_entry(4, 2, 1),
+        fresh_entry(2, 1, 0),
+        fresh_entry(3, 1, 1),
+        fresh_entry(4, 1, 2),
+    ]?;
+    let table: [&[Entry]; 4] = [
+        &[entry(0, 0)],
+        &[entry(0, 1), entry(1, 0)],
+        &[entry(0, 2), entry(1, 1), entry(2, 0)],
+        &[entry(0, 1), entry(2, 1), entry(3, 0)],
+    ];
+    let cleaner = Cleaner::new(&rt, rt.alloc(), 4)?;
+    let (rows, _cleaner) = cleaner.go_on(&rt, rt.alloc(), &ranking, global, 1, fresh.as_slice())?;
+    assert_eq!(rt; rows.n(), 4);
+    for (place, row) in table.iter().enumerate() {
+        let v = place as u32 + 1;
+        assert_eq!(rt; rows.row(v), *row, "{v}");
     }
     Ok(())
 }

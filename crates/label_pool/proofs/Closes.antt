@@ -5,7 +5,6 @@ use Rattle.std.proofs.lemmas.List.Elements.{All-map}
 use Rattle.std.proofs.lemmas.List.Sorted.{IsPermutation-map}
 use Rattle.atomic_table.specs.Table.{Final, Seen}
 use Rattle.walk_laws.specs.declared.entry.Entry.{Entry}
-use Rattle.walk_laws.specs.Labelling.{label_row}
 use Rattle.hub_index.specs.Views.{IsNode}
 use Rattle.table_seats.specs.declared.seat_view.SeatView.{SeatView}
 use Rattle.label_pool.proofs.Permuted.{flat_map-one}
@@ -38,12 +37,12 @@ module _ {F : Type 0} (fact : F → ℕ → Entry → Type 0) (about : About F) 
         }),
       )
 
-  module _ (rows : List (List Entry)) (row_is : (v : ℕ) (chain : List Linked) → IsNode about.n v → IsWritten about.n about.cells words v chain → label_row rows v ≡ entries_of chain) (v : ℕ) (node : IsNode about.n v) where
-    row : label_row rows v ≡ entries_of (written v node).0
+  module _ (rows : ℕ → List Entry) (row_is : (v : ℕ) (chain : List Linked) → IsNode about.n v → IsWritten about.n about.cells words v chain → rows v ≡ entries_of chain) (v : ℕ) (node : IsNode about.n v) where
+    row : rows v ≡ entries_of (written v node).0
     row = row_is v (written v node).0 node (written v node).1
 
     -- the last seat put all entries, and nothing else is there
-    pub puts : me.seats ≡ about.seats → IsPermutation (entries_at me.knows.puts v) (label_row rows v)
+    pub puts : me.seats ≡ about.seats → IsPermutation (entries_at me.knows.puts v) (rows v)
     unfolding written chain_of lawful
     puts last =
         let c = chain_of v node in
@@ -53,7 +52,7 @@ module _ {F : Type 0} (fact : F → ℕ → Entry → Type 0) (about : About F) 
         (IsPermutation-map (λ (l : Linked). l.entry) (puts_at me.knows.puts v) c.0 (subst (λ ls. IsPermutation ls c.0) alone c.1.each_once))
 
     -- and each meets the fact
-    pub met : All (λ e. fact about.fact v e) (label_row rows v)
+    pub met : All (λ e. fact about.fact v e) (rows v)
     unfolding written chain_of
     met = subst (All (λ e. fact about.fact v e)) (sym row) (All-map (λ e. fact about.fact v e) (λ (l : Linked). l.entry) (chain_of v node).0 (chain_of v node).1.met)
 

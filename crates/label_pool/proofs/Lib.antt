@@ -10,3 +10,4 @@ mod Steps
 mod Tails
 mod Walked
 mod Words
+pub mod Listed

@@ -1,15 +1,16 @@
 //! The entries of closed words, chain by chain.
-ghost use Rattle.std.specs.Prelude.{◌≡◌, ℕ, ◌^◌, ◌≤◌, List, IfOk, length};
+ghost use Rattle.std.specs.Prelude.{◌≡◌, ℕ, ◌^◌, ◌≤◌, ◌++◌, List, All, IfOk, OnOk, length};
 ghost use Rattle.std.specs.Slots.{IsFull, slots_items, slots_len};
 ghost use Rattle.walk_laws.specs.Labelling.{label_row};
+ghost use Rattle.hub_index.specs.Sunk.{entries_of_node};
 ghost use Rattle.hub_index.specs.Views.{IsNode};
 ghost use Rattle.label_pool.specs.declared.rule.Linked.{Linked};
-ghost use Rattle.label_pool.specs.Chains.{IsWritten, entries_of};
+ghost use Rattle.label_pool.specs.Chains.{IsWritten, entries_of, entries_at_node};
 ghost use Rattle.label_pool.specs.Layout.{word_count};
 
 use crate::layout::{cell_in, cell_named, dist_word, head_word, next_word, pos_in};
 use atomic_table::Closed;
-use hub_index::RowList;
+use hub_index::{NodeEntry, RowList};
 use std::alloc::{AllocError, Global};
 use walk_laws::Entry;
 
@@ -32,6 +33,43 @@ pub fn gathered(
         rows.push(entries_in(alloc, closed, n, cells, place + 1)?)?;
     }
     Ok(RowList::from_rows(rows))
+}
+
+/// The entries of all chains with their nodes, node by node, each chain newest first. It costs the entries, and one pass over
+/// the heads. The only error is that memory ran out.
+pub fn listed(
+    alloc: Global,
+    closed: &Closed<(), Global>,
+    n: u32,
+    cells: u32,
+) -> Result<Vec<NodeEntry>, AllocError>
+    requires full { IsFull closed.now.words }
+    requires size { slots_len closed.now.words ≡ word_count n cells }
+    requires limits { (n ≤ 2 ^ 30) × (cells ≤ 2 ^ 31) }
+    requires chains { (v : ℕ) → IsNode n v → (chain : List Linked) × IsWritten n cells (slots_items closed.now.words) v chain }
+    ensures nodes { IfOk result (λ list. All (λ e. IsNode n e.node) list.items) }
+    ensures entries { IfOk result (λ list. (v : ℕ) (chain : List Linked) → IsNode n v → IsWritten n cells (slots_items closed.now.words) v chain → entries_of_node list.items v ≡ entries_of chain) }
+{
+    let mut list = Vec::new(alloc);
+    for place in 0..n {
+        let entries = entries_in(alloc, closed, n, cells, place + 1)?;
+        list_entries(&mut list, place + 1, entries.as_slice())?;
+    }
+    Ok(list)
+}
+
+/// Puts entries of a node, a number from 1, behind others. The only error is that memory ran out.
+fn list_entries(list: &mut Vec<NodeEntry>, node: u32, entries: &[Entry]) -> Result<(), AllocError>
+    ensures { OnOk result (list.new.items ≡ list.old.items ++ entries_at_node node entries.now) }
+{
+    for entry in entries {
+        list.push(NodeEntry {
+            node,
+            pos: entry.pos,
+            dist: entry.dist,
+        })?;
+    }
+    Ok(())
 }
 
 /// How many cells the chain of the node `v` has, a number from 1.

@@ -6,7 +6,7 @@ use Rattle.walk_laws.specs.declared.entry.Entry.{Entry}
 use Rattle.hub_index.specs.Views.{IsNode}
 use Rattle.label_rows.specs.Visits.{puts_of}
 use Rattle.lcc_build.specs.declared.share.Share.{Share}
-use Rattle.lcc_build.specs.GrownBy.{IsGrownBy, HasGrown}
+use Rattle.pruned_tree.specs.GrownBy.{IsGrownBy, HasGrown}
 use Rattle.lcc_build.specs.Shares.{IsNew, IsDone}
 
 pub IsDone-from_new : (edges : List Edge) (at : List ℕ) (before after : Share) → IsNew before → OnOk after.memory (after.claims.over ≡ true) → HasGrown edges at (IsOk after.memory) before.claims.got after.claims.got (puts_of before.rows.visits) (puts_of after.rows.visits) → IsDone edges at after

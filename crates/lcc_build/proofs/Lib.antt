@@ -1,3 +1,3 @@
 pub mod DoneShares
-pub mod GrownPuts
+pub mod PutsTogether
 pub mod SharedRows

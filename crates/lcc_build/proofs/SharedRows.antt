@@ -22,7 +22,7 @@ use Rattle.label_clean.specs.RawRows.{HasEachOnce}
 use Rattle.label_clean.proofs.RowFacts.{eqb_flips}
 use Rattle.lcc_build.specs.declared.share.Share.{Share}
 use Rattle.lcc_build.specs.Shares.{IsDone}
-use Rattle.lcc_build.proofs.GrownPuts.{pos_of}
+use Rattle.pruned_tree.proofs.GrownPuts.{pos_of}
 
 -- each number below n is among those from 0 up to it
 below_n : (n p : ℕ) → p < n → Contains (numbers 0 n) p

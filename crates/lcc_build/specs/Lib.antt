@@ -1,2 +1,1 @@
-pub mod GrownBy
 pub mod Shares

@@ -7,7 +7,7 @@ use Rattle.label_rows.specs.Seats.{RowsId, IsSeatOf}
 use Rattle.label_rows.specs.Visits.{puts_of}
 use Rattle.lcc_build.specs.declared.share.Share.{Share}
 use Rattle.lcc_build.specs.declared.workers.Worker.{Worker}
-use Rattle.lcc_build.specs.GrownBy.{IsGrownBy}
+use Rattle.pruned_tree.specs.GrownBy.{IsGrownBy}
 
 -- the seats of the share are of these claims and rows, and so many may still be split from each
 pub record IsShareOf (claims : ClaimsId) (rows : RowsId) (left : ℕ) (share : Share) : Type 0 where

@@ -5,7 +5,7 @@ ghost use Rattle.root_claims.specs.Seats.{IsSeatOf as IsClaimSeatOf};
 ghost use Rattle.root_claims.specs.Answers.{is_end};
 ghost use Rattle.label_rows.specs.Seats.{IsSeatOf};
 ghost use Rattle.label_rows.specs.Visits.{puts_of};
-ghost use Rattle.lcc_build.specs.GrownBy.{HasGrown};
+ghost use Rattle.pruned_tree.specs.GrownBy.{HasGrown};
 
 use desk_io::Gate;
 use label_rows::{RowHand, RowSeat, Rows};

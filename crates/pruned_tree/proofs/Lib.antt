@@ -5,3 +5,4 @@ pub mod OfferedNodes
 pub mod RelaxedArcs
 pub mod TreeCounts
 pub mod TreeRounds
+pub mod GrownPuts

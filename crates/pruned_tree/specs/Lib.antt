@@ -1,3 +1,4 @@
 pub mod Grown
 pub mod Loaded
 pub mod Relaxed
+pub mod GrownBy

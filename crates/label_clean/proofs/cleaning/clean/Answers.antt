@@ -1,7 +1,6 @@
-use Rattle.std.proofs.Common.{◌≡◌, ℕ, ◌≤◌, [], length, map, sym, ap, subst, ◌∙◌, arith}
+use Rattle.std.proofs.Common.{◌≡◌, ℕ, ◌≤◌, [], length, subst, arith}
 use Rattle.std.specs.Prelude.{IfOk}
 use Rattle.walk_laws.specs.Labelling.{label_row}
-use Rattle.label_clean.specs.RawRows.{both_rows}
 use Rattle.label_clean.specs.Needless.{IsSurvivingRow}
 use Rattle.label_clean.proofs.Cleaned.{IsChlBelow-from_surviving, both_ok}
 use Rattle.label_clean.proofs.cleaning.clean.Goals as goal

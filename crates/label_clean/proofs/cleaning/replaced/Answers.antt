@@ -1,8 +1,6 @@
-use Rattle.std.proofs.Common.{◌≡◌, ℕ, ◌+◌, ◌<◌, ◌∷◌, ◌++◌, Option, Some, None, List, [], Vec, Global, length, get_or, map, set, refl, sym, ap, subst, ◌∙◌, arith}
+use Rattle.std.proofs.Common.{◌≡◌, ◌+◌, ◌<◌, ◌∷◌, ◌++◌, Some, None, [], length, get_or, set, refl, sym, ap, subst, ◌∙◌, arith}
 use Rattle.std.specs.Prelude.{slice_set}
 use Rattle.std.proofs.lemmas.List.{get_or-set_same, get_or-set_other, length-set, map-set}
-use Rattle.walk_laws.specs.declared.entry.Entry.{Entry}
-use Rattle.walk_laws.specs.Labelling.{label_row}
 use Rattle.label_clean.specs.Kept.{IsKeptRow, HasSurvivors}
 use Rattle.label_clean.proofs.KeptRows.{AreReplaced, AreReplaced-more, last_within, last_kept, last_row, HasSurvivors-all, HasSurvivors-kept}
 use Rattle.label_clean.proofs.RowItems.{items_of}

@@ -1,4 +1,4 @@
-use Rattle.std.proofs.Common.{◌≡◌, ℕ, ◌≤◌, length, ◌∙◌, arith}
+use Rattle.std.proofs.Common.{length, ◌∙◌, arith}
 use Rattle.walk_laws.specs.Labelling.{label_row}
 use Rattle.label_clean.specs.Tested.{AreNearRows}
 use Rattle.label_clean.proofs.Cleaned.{IsSurvivingRow-same}

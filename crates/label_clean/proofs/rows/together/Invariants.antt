@@ -1,4 +1,4 @@
-use Rattle.std.proofs.Common.{◌≡◌, ℕ, ◌+◌, ◌<◌, ◌≤◌, length}
+use Rattle.std.proofs.Common.{◌≡◌, ℕ, ◌≤◌, length}
 use Rattle.walk_laws.specs.Labelling.{label_row}
 use Rattle.label_clean.specs.RawRows.{both_rows}
 use Rattle.label_clean.proofs.RowItems.{items_of}

@@ -9,7 +9,7 @@ use Rattle.label_rows.specs.Visits.{puts_of}
 use Rattle.label_clean.proofs.Cleaned.{both_ok}
 use Rattle.lcc_build.specs.Shares.{IsReady, HasWorked}
 use Rattle.label_clean.proofs.RowItems.{take_filled}
-use Rattle.lcc_build.proofs.GrownPuts.{when_ok}
+use Rattle.pruned_tree.proofs.GrownPuts.{when_ok}
 use Rattle.lcc_build.proofs.SharedRows.{HoldsBelow-shared}
 use Rattle.lcc_build.proofs.build.raw_rows.Goals as goal
 

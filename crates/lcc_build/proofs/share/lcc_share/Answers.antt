@@ -3,8 +3,8 @@ use mathlib.Core.Bool.{true≢false}
 use Rattle.std.proofs.lemmas.List.{append-nil}
 use Rattle.root_claims.specs.Answers.{is_end}
 use Rattle.label_rows.specs.Visits.{puts_of}
-use Rattle.lcc_build.specs.GrownBy.{HasGrown, IsGrownBy}
-use Rattle.lcc_build.proofs.GrownPuts.{IsGrownBy-none, HasGrown-then}
+use Rattle.pruned_tree.specs.GrownBy.{HasGrown, IsGrownBy}
+use Rattle.pruned_tree.proofs.GrownPuts.{IsGrownBy-none, HasGrown-then}
 use Rattle.lcc_build.proofs.share.lcc_share.Goals as goal
 
 pub loop-init : goal.loop-init

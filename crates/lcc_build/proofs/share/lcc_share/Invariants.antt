@@ -1,7 +1,7 @@
 use Rattle.std.proofs.Common.{◌≡◌, true, false}
 use Rattle.root_claims.specs.Seats.{IsSeatOf as IsClaimSeatOf}
 use Rattle.label_rows.specs.Visits.{puts_of}
-use Rattle.lcc_build.specs.GrownBy.{HasGrown}
+use Rattle.pruned_tree.specs.GrownBy.{HasGrown}
 use Rattle.lcc_build.proofs.share.lcc_share.Given as goal
 
 -- the seats are of the same claims and rows as before, and the trees of all roots that were claimed are grown

@@ -2,7 +2,7 @@ use Rattle.std.proofs.Common.{[], ◌∷◌, refl, sym, ◌∙◌}
 use Rattle.std.specs.Prelude.{IsOk}
 use Rattle.std.proofs.lemmas.List.{append-nil}
 use Rattle.label_rows.specs.Visits.{puts_of}
-use Rattle.lcc_build.proofs.GrownPuts.{not_ok, IsGrownBy-none, IsGrownBy-tree}
+use Rattle.pruned_tree.proofs.GrownPuts.{not_ok, IsGrownBy-none, IsGrownBy-tree}
 use Rattle.lcc_build.proofs.share.next_tree.Goals as goal
 
 pub returns-in-End-clause-grown : goal.returns-in-End-clause-grown

@@ -1,7 +1,7 @@
 use Rattle.std.proofs.Common.{◌≡◌, ℕ, ◌+◌, All, arith}
 use Rattle.lcc_build.specs.declared.workers.Worker.{Worker}
 use Rattle.lcc_build.specs.Shares.{HasWorked}
-use Rattle.lcc_build.proofs.GrownPuts.{both_parts}
+use Rattle.lcc_build.proofs.PutsTogether.{both_parts}
 use Rattle.lcc_build.proofs.workers.joined.Goals as goal
 
 pub handed_back-whole-requires : goal.handed_back-whole-requires

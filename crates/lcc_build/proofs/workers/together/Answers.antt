@@ -2,8 +2,9 @@ use Rattle.std.proofs.Common.{◌≡◌, List, [], ◌++◌, sym, ap, subst, ◌
 use Rattle.std.specs.Prelude.{IsOk, OnOk, true}
 use Rattle.label_rows.specs.Visits.{puts_of}
 use Rattle.walk_laws.specs.declared.entry.Entry.{Entry}
-use Rattle.lcc_build.specs.GrownBy.{IsGrownBy}
-use Rattle.lcc_build.proofs.GrownPuts.{AreApart-distinct, IsGrownBy-then, IsGrownBy-behind, IsOk-both, over_both, puts_of-append}
+use Rattle.pruned_tree.specs.GrownBy.{IsGrownBy}
+use Rattle.pruned_tree.proofs.GrownPuts.{AreApart-distinct, IsGrownBy-then, IsGrownBy-behind}
+use Rattle.lcc_build.proofs.PutsTogether.{IsOk-both, over_both, puts_of-append}
 use Rattle.lcc_build.proofs.workers.together.Goals as goal
 
 pub returns-clause-done : goal.returns-clause-done

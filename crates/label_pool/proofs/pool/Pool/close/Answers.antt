@@ -37,7 +37,7 @@ returns-clause-puts g c =
     if-ok c.gathered-rows.result _ _
     (λ rows are v node. subst (λ ps. IsPermutation (entries_at ps v) (label_row rows v)) (ap (λ d. d.puts) c.seat.view_is)
     (puts g.F.LinkFact.fact c.self.inside.table.shared.key c.seat.inside.seat.id c.seat.inside.seat.me.0 (slots_items c.close_with-closed.result.words) (slots_items c.close_with-closed.result.slots) c.close_with-closed.ensures.values.2
-    rows (rows_of g before rows are) v (node_of g before v node) last))
+    (label_row rows) (rows_of g before rows are) v (node_of g before v node) last))
     c.gathered-rows.ensures.rows
 
 pub returns-clause-fact : goal.returns-clause-fact
@@ -46,5 +46,5 @@ returns-clause-fact g c =
     if-ok c.gathered-rows.result _ _
     (λ rows are v node. subst (λ value. All (IsMet g.F.LinkFact.fact value v) (label_row rows v)) (ap (λ d. d.fact) c.self.view_is)
     (met g.F.LinkFact.fact c.self.inside.table.shared.key c.seat.inside.seat.id c.seat.inside.seat.me.0 (slots_items c.close_with-closed.result.words) (slots_items c.close_with-closed.result.slots) c.close_with-closed.ensures.values.2
-    rows (rows_of g before rows are) v (node_of g before v node)))
+    (label_row rows) (rows_of g before rows are) v (node_of g before v node)))
     c.gathered-rows.ensures.rows

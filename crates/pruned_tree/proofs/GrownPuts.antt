@@ -1,24 +1,20 @@
 -- What trees put at a node: of no root, of one, of some and then of others.
 use Rattle.std.proofs.Common.{◌≡◌, inl, inr, true, false, ℕ, zero, suc, ◌<◌, ◌≤◌, eqb, eq-eqb, List, [], ◌∷◌, ◌++◌, All, Contains, length, map, refl, sym, ap, subst, ◌∙◌, append_assoc, arith}
-use Rattle.std.specs.Prelude.{Some, slice_get, Result, Ok, Err, IsOk, IsErr, IfOk, OnOk, Bool, ◌||◌, flat_map, nat_eq}
-use Rattle.std.specs.Result.{result_and}
-use Rattle.label_rows.specs.declared.rule.Visit.{Visit}
-use Rattle.label_rows.specs.Visits.{put_list, visits_of, puts_of}
-use Rattle.std.proofs.lemmas.Grind.{flat_map-append}
+use Rattle.std.specs.Prelude.{Some, slice_get, Result, Ok, Err, IsOk, IsErr, IfOk}
 use Rattle.std.specs.List.{IsDistinct}
 use Rattle.std.specs.declared.alloc.AllocError.{AllocError}
 use Rattle.std.proofs.lemmas.List.{append-nil, append_cancel_left, map-append, length-append}
-use Rattle.std.proofs.lemmas.List.Elements.{All-append, All-contains, All-contains_itself, All-from_recursion, All-map, All-weaker, filter-append, recursion_from_All, Contains-append_left, Contains-append_right, Contains-append_cases}
+use Rattle.std.proofs.lemmas.List.Elements.{All-append, All-contains, All-contains_itself, All-from_recursion, All-map, All-weaker, recursion_from_All, Contains-append_left, Contains-append_right, Contains-append_cases}
 use Rattle.std.proofs.lemmas.Bool.{ne_eqb}
 use mathlib.Core.Bool.{true≢false}
 use Rattle.std.proofs.lemmas.Map.Keys.{IsDistinct-head, IsDistinct-tail, IsDistinct-cons}
 use Rattle.walk_laws.specs.declared.graph.Edge.{Edge}
 use Rattle.walk_laws.specs.declared.entry.Entry.{Entry}
 use Rattle.walk_laws.specs.Joined.{Joined}
-use Rattle.walk_laws.specs.Labelling.{IsHubEntry}
+use Rattle.walk_laws.specs.Labelling.{EntryFits, IsHubEntry}
 use Rattle.walk_laws.proofs.Members.{Contains-first, Contains-next, Contains-cons_cases, Contains-empty}
 use Rattle.pruned_tree.specs.Grown.{Gains, IsGrown}
-use Rattle.lcc_build.specs.GrownBy.{IsGrownBy, HasGrown}
+use Rattle.pruned_tree.specs.GrownBy.{IsGrownBy, HasGrown}
 
 abbrev pub pos_of : Entry → ℕ
 pos_of e = e.pos
@@ -34,20 +30,6 @@ when_ok (Err e) P ok h = absurd (true≢false (sym ok))
 pub not_ok : {T E : Type 0} (r : Result T E) → IsOk r → IsErr r → ⊥
 not_ok (Ok x) ok err = true≢false (sym err)
 not_ok (Err e) ok err = true≢false (sym ok)
-
--- of two results one behind another
-pub IsOk-both : {T E : Type 0} (r s : Result T E) → IsOk (result_and r s) → IsOk r × IsOk s
-IsOk-both (Ok x) s ok = (refl, ok)
-IsOk-both (Err e) s ok = absurd (true≢false (sym ok))
-
-pub over_both : {T E : Type 0} (r s : Result T E) (one two over : Bool) → over ≡ (one || two) → OnOk r (one ≡ true) → OnOk (result_and r s) (over ≡ true)
-over_both (Ok x) (Ok y) one two over is h = is ∙ ap (λ b. b || two) h
-over_both (Ok x) (Err e) one two over is h = tt
-over_both (Err e) s one two over is h = tt
-
--- what was put by some visits and by others
-pub puts_of-append : (xs ys : List Visit) (v : ℕ) → puts_of (xs ++ ys) v ≡ puts_of xs v ++ puts_of ys v
-puts_of-append xs ys v = ap (flat_map (λ x. put_list x.put)) (filter-append (λ x. nat_eq x.node v) xs ys) ∙ flat_map-append (λ x. put_list x.put) (visits_of xs v) (visits_of ys v)
 
 -- no number stands in both lists
 abbrev pub AreApart : List ℕ → List ℕ → Type 0
@@ -80,6 +62,11 @@ IsDistinct-both (x ∷ xs) ys first second apart =
 Contains-positions : (roots : List ℕ) (row : List Entry) (p : ℕ) → All (λ e. Contains roots e.pos) row → Contains (map pos_of row) p → Contains roots p
 Contains-positions roots row p all there = All-contains (Contains roots) (map pos_of row) p (All-map (Contains roots) pos_of row all) there
 
+-- one entry
+All-one : (P : Entry → Type 0) (e : Entry) → P e → All P (e ∷ [])
+All-one P e h zero d within = h
+All-one P e h (suc k) d within = absurd (omega (arith, within))
+
 module _ (edges : List Edge) (at : List ℕ) where
   -- no tree
   pub IsGrownBy-none : (whole : Type 0) (v : ℕ) (row : List Entry) → IsGrownBy edges at [] whole v row row
@@ -87,6 +74,7 @@ module _ (edges : List Edge) (at : List ℕ) where
   IsGrownBy-none whole v row = record {
     puts = [];
     behind = sym (append-nil row);
+    fit = λ k d within. absurd (omega (arith, within));
     once = tt;
     of_roots = λ k d within. absurd (omega (arith, within));
     hubs = λ w e hub there. absurd (Contains-empty e.pos there);
@@ -103,6 +91,7 @@ module _ (edges : List Edge) (at : List ℕ) where
     | inl same ↦ record {
       puts = [];
       behind = same ∙ sym (append-nil (before v));
+      fit = λ k d within. absurd (omega (arith, within));
       once = tt;
       of_roots = λ k d within. absurd (omega (arith, within));
       hubs = λ w e hub there. absurd (not_longer (before v) (entry p e.dist) (sym (gained w e hub there) ∙ same));
@@ -110,6 +99,7 @@ module _ (edges : List Edge) (at : List ℕ) where
     | inr got ↦ record {
       puts = entry p got.0 ∷ [];
       behind = got.1;
+      fit = All-one (EntryFits (Joined edges) at v) (entry p got.0) (grown.pruned.fits v got.0 from_one got.1);
       once = (tt, tt);
       of_roots = one_entry p got.0;
       hubs = λ w e hub there.
@@ -133,6 +123,7 @@ module _ (edges : List Edge) (at : List ℕ) where
   IsGrownBy-then first second one two whole v before mid after a b apart both = record {
     puts = a.puts ++ b.puts;
     behind = b.behind ∙ ap (λ row. row ++ b.puts) a.behind ∙ append_assoc before a.puts b.puts;
+    fit = All-append (EntryFits (Joined edges) at v) a.puts b.puts a.fit b.fit;
     once =
         subst (IsDistinct eqb) (sym (map-append pos_of a.puts b.puts))
         (IsDistinct-both (map pos_of a.puts) (map pos_of b.puts) a.once b.once (λ p here there. apart p (Contains-positions first a.puts p a.of_roots here) (Contains-positions second b.puts p b.of_roots there)));
@@ -151,6 +142,7 @@ module _ (edges : List Edge) (at : List ℕ) where
   IsGrownBy-behind roots whole v row after g = record {
     puts = g.puts;
     behind = ap (λ xs. row ++ xs) g.behind;
+    fit = g.fit;
     once = g.once;
     of_roots = g.of_roots;
     hubs = g.hubs;
@@ -162,10 +154,3 @@ module _ (edges : List Edge) (at : List ℕ) where
       let all : now ≡ (got ++ first.0) ++ second.0 = second.1 ∙ ap (λ xs. xs ++ second.0) first.1 in
       let apart : AreApart first.0 second.0 = λ x here there. AreApart-distinct (got ++ first.0) second.0 (subst (IsDistinct eqb) all once) x (Contains-append_right got first.0 x here) there in
       (first.0 ++ second.0, all ∙ append_assoc got first.0 second.0, λ v node. IsGrownBy-then first.0 second.0 one two whole v (a v) (b v) (c v) (first.2 v node) (second.2 v node) apart both)
-
--- a list with one element behind
-pub both_parts : {X : Type 0} (P : X → Type 0) (xs ys : List X) (x : X) → xs ≡ ys ++ x ∷ [] → All P xs → All P ys × P x
-both_parts P xs ys x is all = (
-  All-weaker (Contains ys) P (λ y here. All-contains P xs y all (subst (λ zs. Contains zs y) (sym is) (Contains-append_left ys (x ∷ []) y here))) ys (All-contains_itself ys),
-  All-contains P xs x all (subst (λ zs. Contains zs x) (sym is) (Contains-append_right ys (x ∷ []) x (Contains-first x []))),
-)

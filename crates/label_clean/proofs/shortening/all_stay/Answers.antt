@@ -1,0 +1,24 @@
+use Rattle.std.proofs.Common.{◌≡◌, inl, inr, false, get_or, ap, subst, ◌∙◌, arith}
+use Rattle.std.specs.Prelude.{IsTrue}
+use Rattle.std.proofs.lemmas.Bool.{cases_lt}
+use Rattle.std.proofs.lemmas.List.{get_or_default}
+use Rattle.walk_laws.specs.declared.entry.Entry.{Entry}
+use Rattle.label_clean.specs.Shortened.{Goes}
+use Rattle.label_clean.proofs.shortening.all_stay.Goals as goal
+
+abbrev nothing : Entry
+nothing = record { pos = 0; dist = 0 }
+
+pub loop-entry-preserved : goal.loop-entry-preserved
+loop-entry-preserved c = λ v held k d lt. elim (cases_lt k c.loop-entry.entry-index) [
+  | inl earlier ↦ c.loop-entry.invariant v held k d earlier
+  | inr later ↦ λ going.
+      let is : k ≡ c.loop-entry.entry-index = omega (arith, later, lt) in
+      let same : get_or c.args.row.now k d ≡ get_or c.args.row.now c.loop-entry.entry-index nothing = get_or_default c.args.row.now k d nothing (omega (arith, is, c.loop-entry-test.true)) ∙ ap (λ i. get_or c.args.row.now i nothing) is in
+      let found : IsTrue c.goes.result = (c.goes.ensures v held).1 (subst (Goes c.args.ranking.now c.args.first c.args.rows.now v) same going) in
+      let none : c.goes.result ≡ false = c.if-goes.false in
+      absurd cc
+]
+
+pub returns : goal.returns
+returns c = λ v held t k d lt. c.loop-entry.invariant v held k d (omega (arith, lt, c.loop-entry-test.false))
