@@ -1,0 +1,3 @@
+pub mod GridGraphs
+pub mod Laying
+pub mod RowTotals

@@ -1,0 +1,5 @@
+pub mod Grid
+pub mod Laid
+pub mod Totals
+pub mod Weights
+pub mod Worked
