@@ -2,3 +2,4 @@ pub mod PrintedRows
 pub mod PrintedAnswers
 pub mod PrintedOrders
 pub mod PrintedWalks
+pub mod PrintedGrids
