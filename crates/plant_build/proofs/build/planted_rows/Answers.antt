@@ -51,6 +51,8 @@ returns g c =
     let come = come_of g (goal.at.returns g c).In_ok-come in
     let missing : HoldsPart edges at (IsMissing c.in_ok-come.come.items) (sunk_at own) = subst (λ marks. HoldsPart edges at (IsMissing marks) (sunk_at own)) c.deref.ensures.value c.in_ok-plant_missing.ensures.missing in
     let sinks_are : c.deref-2.result.now ≡ c.in_ok-come.sinks.items ++ own ∷ [] = c.deref-2.ensures.value ∙ c.in_ok-push.ensures.items in
-    both_ok c.gather.result (λ rows. length rows ≡ c.n-n.result) (λ rows. (v : ℕ) → 1 ≤ v → v ≤ c.n-n.result → IsGatheredRow (all_sunk c.deref-2.result.now v) (label_row rows v)) (IsChl (Joined edges) at)
-    (λ rows size each. IsChl-whole edges at n c.in_ok-come.come.items c.in_ok-come.sinks.items own rows (sym c.requires.nodes) come c.in_ok-plant_missing.ensures.sink missing (size ∙ c.n-n.ensures.value)
-    (λ v low high. subst (λ sinks. IsGatheredRow (all_sunk sinks v) (label_row rows v)) sinks_are (each v low (omega (arith, high, c.n-n.ensures.value))))) c.gather.ensures.size c.gather.ensures.rows
+    record {
+      labelling = both_ok c.gather.result (λ rows. length rows ≡ c.n-n.result) (λ rows. (v : ℕ) → 1 ≤ v → v ≤ c.n-n.result → IsGatheredRow (all_sunk c.deref-2.result.now v) (label_row rows v)) (IsChl (Joined edges) at)
+          (λ rows size each. IsChl-whole edges at n c.in_ok-come.come.items c.in_ok-come.sinks.items own rows (sym c.requires.nodes) come c.in_ok-plant_missing.ensures.sink missing (size ∙ c.n-n.ensures.value)
+          (λ v low high. subst (λ sinks. IsGatheredRow (all_sunk sinks v) (label_row rows v)) sinks_are (each v low (omega (arith, high, c.n-n.ensures.value))))) c.gather.ensures.size c.gather.ensures.rows;
+    }
