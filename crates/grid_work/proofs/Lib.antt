@@ -1,3 +1,4 @@
 pub mod GridGraphs
 pub mod Laying
 pub mod RowTotals
+pub mod SideTwo
