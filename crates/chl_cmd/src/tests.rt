@@ -2,8 +2,6 @@ ghost use Rattle.std.specs.Prelude.{◌<◌};
 
 mod audits;
 mod desks;
-mod files;
-mod gates;
 mod pairs;
 mod texts;
 mod walks;

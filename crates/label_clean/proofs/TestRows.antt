@@ -6,6 +6,10 @@ use Rattle.walk_laws.specs.declared.entry.Entry.{Entry}
 use Rattle.walk_laws.specs.Labelling.{label_row}
 use Rattle.walk_laws.specs.Ranking.{IsRanking}
 use Rattle.walk_laws.specs.Worked.{entry}
+use Rattle.hub_index.specs.declared.entry_sink.NodeEntry.{NodeEntry}
+use Rattle.hub_index.specs.Sunk.{entries_of_node}
+use Rattle.hub_index.specs.Views.{IsNode}
+use Rattle.label_clean.specs.Between.{IsLaterRow}
 use Rattle.label_clean.specs.RawRows.{HasEachOnce, IsRawRow, both_rows}
 
 -- the ten entries of the square
@@ -18,6 +22,25 @@ two_hubs = (entry 0 0 ∷ []) ∷ (entry 0 1 ∷ entry 1 0 ∷ []) ∷ (entry 0 
 
 abbrev pub later : List (List Entry)
 later = [] ∷ [] ∷ (entry 2 0 ∷ []) ∷ (entry 3 0 ∷ entry 2 1 ∷ []) ∷ []
+
+-- what trees of three roots put
+abbrev at_node : ℕ → ℕ → ℕ → NodeEntry
+at_node v p d = record { node = v; pos = p; dist = d }
+
+abbrev pub fresh : List NodeEntry
+fresh = at_node 4 3 0 ∷ at_node 3 2 0 ∷ at_node 4 2 1 ∷ at_node 2 1 0 ∷ at_node 3 1 1 ∷ at_node 4 1 2 ∷ []
+
+later_row : (row : List Entry) → AllByRecursion (λ e. 1 ≤ e.pos) row → AllByRecursion (λ e. e.pos < 4) row → HasEachOnce row → IsLaterRow 1 4 row
+later_row row from within once = record { from = All-from_recursion (λ (e : Entry). 1 ≤ e.pos) row from; within = All-from_recursion (λ (e : Entry). e.pos < 4) row within; once = once }
+
+pub fresh_later : (v : ℕ) → IsNode 4 v → IsLaterRow 1 4 (entries_of_node fresh v)
+unfolding IsDistinct
+fresh_later zero node = absurd (omega (arith, node.from_one))
+fresh_later (suc zero) node = later_row [] (search rules) (search rules) (search rules)
+fresh_later (suc (suc zero)) node = later_row (entry 1 0 ∷ []) (search rules) (search rules) (search rules)
+fresh_later (suc (suc (suc zero))) node = later_row (entry 2 0 ∷ entry 1 1 ∷ []) (search rules) (search rules) (search rules)
+fresh_later (suc (suc (suc (suc zero)))) node = later_row (entry 3 0 ∷ entry 2 1 ∷ entry 1 2 ∷ []) (search rules) (search rules) (search rules)
+fresh_later (suc (suc (suc (suc (suc v))))) node = absurd (omega (arith, node.up_to_n))
 
 raw_row : (row : List Entry) → AllByRecursion (λ e. e.pos < 4) row → HasEachOnce row → IsRawRow 4 row
 raw_row row within once = record { within = All-from_recursion (λ (e : Entry). e.pos < 4) row within; once = once }

@@ -134,19 +134,28 @@ fn fresh_entry(node: u32, pos: u32, dist: u64) -> NodeEntry
     NodeEntry { node, pos, dist }
 }
 
-/// What trees of the other three roots put, where that of 2 didn't see that of 1: in its table (1, 2) at node 4 is deleted.
-#[test]
-fn a_table_is_gone_on_with_in_place(rt: HostRuntime) -> Result<(), Fail> {
-    let ranking = one_to_four(rt.alloc())?;
-    let global = first_hub(rt.alloc())?;
-    let fresh = vec![in rt.alloc();
+/// What trees of the roots 2, 3 and 4 put, where that of 2 didn't see that of 1.
+fn fresh_entries(alloc: Global) -> Result<Vec<NodeEntry>, Fail>
+    ensures { IfOk result (λ list. list.items ≡
+        record { node = 4; pos = 3; dist = 0 } ∷ record { node = 3; pos = 2; dist = 0 } ∷ record { node = 4; pos = 2; dist = 1 }
+        ∷ record { node = 2; pos = 1; dist = 0 } ∷ record { node = 3; pos = 1; dist = 1 } ∷ record { node = 4; pos = 1; dist = 2 } ∷ []) }
+{
+    Ok(vec![in alloc;
         fresh_entry(4, 3, 0),
         fresh_entry(3, 2, 0),
         fresh_entry(4, 2, 1),
         fresh_entry(2, 1, 0),
         fresh_entry(3, 1, 1),
         fresh_entry(4, 1, 2),
-    ]?;
+    ]?)
+}
+
+/// Of the fresh entries (1, 2) at node 4 alone is deleted.
+#[test]
+fn a_table_is_gone_on_with_in_place(rt: HostRuntime) -> Result<(), Fail> {
+    let ranking = one_to_four(rt.alloc())?;
+    let global = first_hub(rt.alloc())?;
+    let fresh = fresh_entries(rt.alloc())?;
     let table: [&[Entry]; 4] = [
         &[entry(0, 0)],
         &[entry(0, 1), entry(1, 0)],
