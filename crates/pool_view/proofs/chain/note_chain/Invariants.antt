@@ -1,0 +1,9 @@
+use Rattle.std.proofs.Common.{◌≡◌}
+use Rattle.label_pool.specs.Chains.{entries_of}
+use Rattle.pool_view.specs.Noted.{noted}
+use Rattle.pool_view.proofs.Walks.{IsWalking}
+use Rattle.pool_view.proofs.chain.note_chain.Given as goal
+
+-- the entries that the walk gave were noted
+abbrev pub invariant-loop : goal.invariant-loop
+invariant-loop l = IsWalking l.pool l.fn.seat l.v l.seat l.walk l.counter (λ front. l.table ≡ noted l.fn.table (entries_of front))

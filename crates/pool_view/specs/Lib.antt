@@ -1,0 +1,5 @@
+pub mod Fitting
+pub mod Noted
+pub mod OwnRows
+pub mod Seen
+pub mod Viewing

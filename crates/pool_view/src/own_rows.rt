@@ -1,0 +1,114 @@
+ghost use Rattle.std.specs.Prelude.{◌≡◌, ℕ, ◌≤◌, [], ◌++◌, All, length, nat_eq, replicate, IfOk, OnOk, OnErr, if◌then◌else◌};
+ghost use Rattle.walk_laws.specs.Labelling.{label_row};
+ghost use Rattle.hub_index.specs.HubIndex.{with_entry};
+ghost use Rattle.hub_index.specs.Sunk.{entries_of_node};
+ghost use Rattle.hub_index.specs.Views.{IsNode};
+ghost use Rattle.pool_view.specs.OwnRows.{AreNodesOf};
+
+use hub_index::{NodeEntry, RowList};
+use std::alloc::{AllocError, Global};
+use std::marker::Model;
+use walk_laws::Entry;
+
+/// The rows of one worker, which nobody else sees, with the nodes of those that aren't empty. They are made once, and
+/// emptied at the cost of what they have. Contracts see the list of the rows, node 1 first.
+#[derive(Debug, Drop)]
+pub struct OwnRows {
+    rows: RowList,
+    nodes: Vec<u32>,
+}
+
+impl Model for OwnRows {
+    ghost use Rattle.std.specs.Prelude.{List};
+    ghost use Rattle.walk_laws.specs.declared.entry.Entry.{Entry};
+    ghost use Rattle.pool_view.specs.OwnRows.{AreNodesOf};
+
+    ghost Value = { List (List Entry) };
+
+    ghost view = { λ o. o.rows };
+
+    ghost invariant = { λ o. AreNodesOf o.rows o.nodes.items };
+}
+
+impl OwnRows {
+    /// An empty row for each of the nodes 1..n. The only error is that memory ran out.
+    pub fn new(alloc: Global, n: u32) -> Result<OwnRows, AllocError>
+        ensures { IfOk result (λ own. own ≡ replicate n []) }
+    {
+        Ok(OwnRows {
+            rows: RowList::new(alloc, n)?,
+            nodes: Vec::new(alloc),
+        })
+    }
+
+    /// The row of the node `v`, a number from 1, in the order in which its entries were pushed.
+    pub fn row(&self, v: u32) -> &[Entry]
+        requires node { 1 ≤ v }
+        requires within { v ≤ length self.now }
+        ensures { result.now ≡ label_row self.now v }
+    {
+        self.rows.row(v)
+    }
+
+    /// The nodes whose rows aren't empty, numbers from 1, each once, in the order in which they got their first entries.
+    pub fn nodes(&self) -> &[u32]
+        ensures { AreNodesOf self.now result.now }
+    {
+        &self.nodes
+    }
+
+    /// Puts the entry last in the row of the node `v`, a number from 1. The only error is that memory ran out, and then
+    /// nothing has changed.
+    pub fn push(&mut self, v: u32, entry: Entry) -> Result<(), AllocError>
+        requires node { 1 ≤ v }
+        requires within { v ≤ length self.old }
+        ensures ok { OnOk result (self.new ≡ with_entry self.old v entry) }
+        ensures err { OnErr result (self.new ≡ self.old) }
+    {
+        if !self.rows.row(v).is_empty() {
+            return self.rows.push(v, entry);
+        }
+        self.nodes.push(v)?;
+        if self.rows.push(v, entry).is_err() {
+            self.nodes.pop();
+            return Err(AllocError);
+        }
+        Ok(())
+    }
+
+    /// Moves all entries behind others, and gives the rows back, which are empty then. It costs the entries. The only error
+    /// is that memory ran out, and then the rows are given up.
+    pub fn empty_into(self, others: &mut Vec<NodeEntry>) -> Result<OwnRows, AllocError>
+        ensures empty { IfOk result (λ own. own ≡ replicate (length self) []) }
+        ensures entries { IfOk result (λ _. (v : ℕ) → IsNode (length self) v → entries_of_node others.new.items v ≡ entries_of_node others.old.items v ++ label_row self v) }
+        ensures nodes { All (λ e. IsNode (length self) e.node) others.old.items → All (λ e. IsNode (length self) e.node) others.new.items }
+    {
+        let OwnRows { rows, mut nodes } = self;
+        let mut rows = rows.into_rows();
+        for node in &nodes {
+            let place = *node as usize - 1;
+            list_entries(others, *node, rows[place].as_slice())?;
+            rows[place].clear();
+        }
+        nodes.clear();
+        Ok(OwnRows {
+            rows: RowList::from_rows(rows),
+            nodes,
+        })
+    }
+}
+
+/// Puts entries of a node, a number from 1, behind others. The only error is that memory ran out.
+fn list_entries(others: &mut Vec<NodeEntry>, node: u32, entries: &[Entry]) -> Result<(), AllocError>
+    ensures entries { OnOk result ((v : ℕ) → entries_of_node others.new.items v ≡ entries_of_node others.old.items v ++ (if nat_eq node v then entries.now else [])) }
+    ensures nodes { (n : ℕ) → IsNode n node → All (λ e. IsNode n e.node) others.old.items → All (λ e. IsNode n e.node) others.new.items }
+{
+    for entry in entries {
+        others.push(NodeEntry {
+            node,
+            pos: entry.pos,
+            dist: entry.dist,
+        })?;
+    }
+    Ok(())
+}

@@ -1,0 +1,181 @@
+ghost use Rattle.std.specs.Prelude.{◌≡◌, ◌⊎◌, None, List, [], length, replicate, OnOk, OnErr};
+ghost use Rattle.hub_index.specs.PlainRows.{IsGathered};
+ghost use Rattle.hub_index.specs.RootDistances.{HoldsRow};
+ghost use Rattle.hub_index.specs.Views.{IsNode, IsFound};
+ghost use Rattle.hub_index.specs.declared.row_view.Offer.TheVariants.{Covered};
+ghost use Rattle.label_pool.specs.declared.rule.Linked.{Linked};
+ghost use Rattle.label_pool.specs.Seats.{IsSeatOf};
+ghost use Rattle.pool_view.specs.Fitting.{IsFittingPool, edges_of, order_of};
+ghost use Rattle.pool_view.specs.Viewing.{HasGained, HasVisited, IsPast, IsOfferedToAll, IsOfferedToGlobal, fact_of, seen_row, whole_row};
+
+use crate::chain::{covered_in_chain, note_chain, note_row};
+use crate::fits::Fits;
+use crate::own_rows::OwnRows;
+use hub_index::{Offer, RootTable, RowList, RowView, covered};
+use label_pool::{Pool, PoolPut, PoolSeat};
+use std::alloc::AllocError;
+use std::marker::Model;
+use std::sync::Wait;
+use walk_laws::Entry;
+
+/// The rows of a superstep as one worker sees and grows them. The row of a node is its row of the global table, then what
+/// all workers put in the pool, the oldest first, then what the worker keeps itself since the pool has no cell for it.
+/// Contracts see its seat at the pool, the global rows and its own rows.
+#[derive(Drop)]
+pub struct PoolView<'a, R: Wait> {
+    rt: &'a R,
+    pool: &'a Pool<Fits>,
+    global: &'a RowList,
+    seat: PoolSeat<Fits>,
+    own: OwnRows,
+    /// Whether the seat drew past the last cell. Until then its own rows are empty.
+    past: bool,
+}
+
+impl<'a, R: Wait> Model for PoolView<'a, R> {
+    ghost use Rattle.std.specs.Prelude.{◌≡◌};
+    ghost use Rattle.label_pool.specs.Seats.{IsSeatOf};
+    ghost use Rattle.pool_view.specs.Viewing.{Viewing, IsViewing, IsOpen};
+
+    ghost Value = { Viewing };
+
+    ghost view = { λ v. record { seat = v.seat; global = v.global.now; own = v.own } };
+
+    ghost invariant = { λ v. IsSeatOf v.pool.now v.seat × IsViewing (record { seat = v.seat; global = v.global.now; own = v.own }) × IsOpen v.past (record { seat = v.seat; global = v.global.now; own = v.own }) };
+}
+
+impl<'a, R: Wait> PoolView<'a, R> {
+    /// A view by a seat that has visited no chain and put nothing by itself, with own rows that are empty. By `rt` its puts
+    /// wait for one another.
+    pub fn new(
+        rt: &'a R,
+        pool: &'a Pool<Fits>,
+        global: &'a RowList,
+        seat: PoolSeat<Fits>,
+        own: OwnRows,
+    ) -> PoolView<'a, R>
+        requires pool { IsFittingPool pool.now }
+        requires seat { IsSeatOf pool.now seat }
+        requires past { seat.past ≡ None }
+        requires fresh { (seat.looks ≡ []) × (seat.marks ≡ []) }
+        requires global { IsGathered (edges_of pool.now.fact) (order_of pool.now.fact) global.now }
+        requires own { own ≡ replicate (length global.now) [] }
+        ensures seat { result.seat ≡ seat }
+        ensures global { result.global ≡ global.now }
+        ensures own { result.own ≡ own }
+    {
+        PoolView {
+            rt,
+            pool,
+            global,
+            seat,
+            own,
+            past: false,
+        }
+    }
+
+    /// The seat, and the own rows with what the pool had no cell for.
+    pub fn into_parts(self) -> (PoolSeat<Fits>, OwnRows)
+        ensures seat { result.0 ≡ self.entry.seat }
+        ensures own { result.1 ≡ self.entry.own }
+        ensures fit { IsGathered (edges_of self.entry.seat.pool.fact) (order_of self.entry.seat.pool.fact) self.entry.own }
+    {
+        let PoolView {
+            rt: _,
+            pool: _,
+            global: _,
+            seat,
+            own,
+            past: _,
+        } = self;
+        (seat, own)
+    }
+
+    /// Puts the entry at the node `v`, a number from 1: in the pool, unless the seat has drawn past the last cell or does so
+    /// now; then in the own row. The only error is that memory ran out for that, and nothing is put.
+    fn put(&mut self, v: u32, entry: Entry) -> Result<(), AllocError>
+        requires node { IsNode (length (order_of self.old.seat.pool.fact)) v }
+        requires fits { fact_of self.old v entry }
+        ensures ok { OnOk result (HasGained self.old v entry self.new) }
+        ensures err { OnErr result (IsPast self.old self.new) }
+    {
+        if self.past {
+            return self.own.push(v, entry);
+        }
+        match self.pool.put(self.rt, &mut self.seat, v, entry) {
+            PoolPut::Put => Ok(()),
+            PoolPut::Full { .. } => {
+                self.past = true;
+                self.own.push(v, entry)
+            }
+        }
+    }
+}
+
+/// A root is loaded from its whole row, by one visit. An offer is tested by the global row first, and goes to the pool only
+/// where no entry of that covers it: then it is one visit, and it is tested by the whole row. What is put goes into the
+/// pool, or, where the seat drew past the last cell, from then on into the worker's own rows.
+impl<'a, R: Wait> RowView for PoolView<'a, R> {
+    ghost use Rattle.pool_view.specs.Fitting.{edges_of, order_of};
+    ghost use Rattle.pool_view.specs.Viewing.{ViewKept, view_kept, seen_row, puts_row, fact_of};
+
+    ghost edges = { λ view. edges_of view.seat.pool.fact };
+
+    ghost order = { λ view. order_of view.seat.pool.fact };
+
+    ghost fact = { fact_of };
+
+    ghost seen = { seen_row };
+
+    ghost puts = { puts_row };
+
+    ghost Kept = { ViewKept };
+
+    ghost kept = { view_kept };
+
+    ghost fact_fits = { λ view v e. (λ fits. fits, λ fits. fits) };
+
+    fn load_root(&mut self, h: u32, table: &mut RootTable)
+        requires node { IsNode (length (order_of self.old.seat.pool.fact)) h }
+        requires size { length table.old ≡ length (order_of self.old.seat.pool.fact) }
+        ensures visit { (found : List Linked) × HasVisited self.old h found self.new × IsFound (fact_of self.old h) (seen_row self.old h) (whole_row self.old found h)
+            × HoldsRow table.new (whole_row self.old found h) × (seen_row self.new h ≡ whole_row self.old found h) }
+        ensures size { length table.new ≡ length table.old }
+    {
+        table.clear();
+        note_chain(self.pool, &mut self.seat, h, table);
+        note_row(self.own.row(h), table);
+        note_row(self.global.row(h), table);
+    }
+
+    fn offer(&mut self, v: u32, entry: Entry, table: &RootTable) -> Offer
+        requires node { IsNode (length (order_of self.old.seat.pool.fact)) v }
+        requires size { length table.now ≡ length (order_of self.old.seat.pool.fact) }
+        requires fits { fact_of self.old v entry }
+        ensures offered { IsOfferedToGlobal table.now self.old v entry result self.new ⊎ IsOfferedToAll table.now self.old v entry result self.new }
+    {
+        if let Some(cover) = covered(self.global.row(v), table, entry.pos, entry.dist) {
+            return covered_by(cover);
+        }
+        if let Some(cover) = covered_in_chain(self.pool, &mut self.seat, v, table, entry) {
+            return covered_by(cover);
+        }
+        if let Some(cover) = covered(self.own.row(v), table, entry.pos, entry.dist) {
+            return covered_by(cover);
+        }
+        match self.put(v, entry) {
+            Ok(()) => Offer::Put,
+            Err(_) => Offer::NoMemory,
+        }
+    }
+}
+
+/// The answer of an offer that the entry covers.
+fn covered_by(cover: Entry) -> Offer
+    ensures { result ≡ Covered cover.pos cover.dist }
+{
+    Offer::Covered {
+        pos: cover.pos,
+        dist: cover.dist,
+    }
+}
