@@ -1,0 +1,4 @@
+pub mod DoneShares
+pub mod FreshEntries
+pub mod Harvests
+pub mod PutBy

@@ -1,0 +1,48 @@
+use Rattle.std.proofs.Common.{◌≡◌, ℕ, true, false, [], length, refl, sym, ap, subst, ◌∙◌}
+use mathlib.Core.Bool.{true≢false}
+use Rattle.std.proofs.lemmas.List.{append-nil}
+use Rattle.pruned_tree.specs.GrownBy.{HasGrown, IsGrownBy}
+use Rattle.pruned_tree.proofs.GrownPuts.{IsGrownBy-none, HasGrown-then}
+use Rattle.pool_view.specs.Fitting.{edges_of, order_of}
+use Rattle.pool_view.specs.Viewing.{ViewKept, puts_row, view_kept}
+use Rattle.gll_build.proofs.share.grow_trees.Goals as goal
+
+pub loop-init : goal.loop-init
+loop-init g c = (
+  tt,
+  tt,
+  c.requires.work,
+  c.requires.seat,
+  refl,
+  c.requires.over,
+  c.requires.edges,
+  c.requires.order,
+  refl,
+  ([], sym (append-nil c.args.seat.now.got), λ v node. IsGrownBy-none c.args.graph.now.edges c.args.ranking.now (true ≡ true) v (puts_row c.args.view.now v)),
+)
+
+pub loop-preserved : goal.loop-preserved
+loop-preserved g c = (
+  tt,
+  tt,
+  c.next_tree.ensures.work ∙ c.loop.invariant.2,
+  c.next_tree.ensures.seat,
+  c.next_tree.ensures.left ∙ c.loop.invariant.4,
+  rw c.in-Ok-Some.field-0-is at c.in-Ok-Some.ensures.goes_on,
+  ap (λ (k : ViewKept). edges_of k.pool.fact) c.next_tree.ensures.kept ∙ c.loop.invariant.6,
+  ap (λ (k : ViewKept). order_of k.pool.fact) c.next_tree.ensures.kept ∙ c.loop.invariant.7,
+  c.next_tree.ensures.kept ∙ c.loop.invariant.8,
+  HasGrown-then c.args.graph.now.edges c.args.ranking.now _ _ _ c.args.seat.now.got c.loop.seat.got c.next_tree.new.seat.got (puts_row c.args.view.now) (puts_row c.loop.view) (puts_row c.next_tree.new.view) c.loop.invariant.9 c.in-Ok-Some.ensures.grown c.next_tree.ensures.once (λ t. (t, t)),
+)
+
+pub returns-in-Ok-None-clause-grown : goal.returns-in-Ok-None-clause-grown
+returns-in-Ok-None-clause-grown g c =
+    HasGrown-then c.args.graph.now.edges c.args.ranking.now _ _ _ c.args.seat.now.got c.loop.seat.got c.next_tree.new.seat.got (puts_row c.args.view.now) (puts_row c.loop.view) (puts_row c.next_tree.new.view) c.loop.invariant.9 c.in-Ok-None.ensures.grown c.next_tree.ensures.once (λ t. (t, t))
+
+pub returns-in-Err-clause-grown : goal.returns-in-Err-clause-grown
+returns-in-Err-clause-grown g c =
+    HasGrown-then c.args.graph.now.edges c.args.ranking.now _ _ _ c.args.seat.now.got c.loop.seat.got c.next_tree.new.seat.got (puts_row c.args.view.now) (puts_row c.loop.view) (puts_row c.next_tree.new.view) c.loop.invariant.9 c.in-Err.ensures.grown c.next_tree.ensures.once (λ t. absurd (true≢false (sym t)))
+
+pub returns-then-put-from-clause-grown : goal.returns-then-put-from-clause-grown
+returns-then-put-from-clause-grown g c =
+    HasGrown-then c.args.graph.now.edges c.args.ranking.now _ _ _ c.args.seat.now.got c.loop.seat.got c.next_tree.new.seat.got (puts_row c.args.view.now) (puts_row c.loop.view) (puts_row c.next_tree.new.view) c.loop.invariant.9 c.in-Ok-Some.ensures.grown c.next_tree.ensures.once (λ t. (t, t))

@@ -1,0 +1,30 @@
+use Rattle.std.proofs.Common.{◌≡◌, ℕ, ◌<◌, ◌≤◌, All, length, sym, ap, subst, ◌∙◌, arith}
+use Rattle.hub_index.specs.Sunk.{entries_of_node}
+use Rattle.hub_index.specs.Views.{IsNode}
+use Rattle.label_clean.specs.Below.{IsChlBelow}
+use Rattle.label_clean.specs.Between.{HoldsBetween, IsLaterRow}
+use Rattle.gll_build.proofs.Harvests.{IsGathered-below, earlier-below, later-between}
+use Rattle.gll_build.proofs.step.next_step.Goals as goal
+
+pub grow_roots-requires-clause-global : goal.grow_roots-requires-clause-global
+grow_roots-requires-clause-global g c κs within = IsGathered-below c.args.graph.now.edges c.args.ranking.now c.args.progress.next c.args.progress.rows c.n-ranked.ensures.ranking c.requires.progress.rows
+
+pub go_on-requires-clause-earlier : goal.go_on-requires-clause-earlier
+go_on-requires-clause-earlier g c κs within = earlier-below c.args.graph.now.edges c.args.ranking.now c.args.progress.next c.args.progress.rows c.requires.progress.rows
+
+pub go_on-requires-clause-later : goal.go_on-requires-clause-later
+go_on-requires-clause-later g c κs within =
+    let grown = c.in_ok-grown.ensures.grown in
+    let same = c.as_slice.ensures.value in
+    subst (λ es. (v : ℕ) → IsNode (length c.args.ranking.now) v → IsLaterRow c.args.progress.next (length c.args.ranking.now) (entries_of_node es v)) (sym same)
+    (later-between c.args.graph.now.edges c.args.ranking.now c.args.progress.next c.in_ok-grown.grown.next (entries_of_node c.in_ok-grown.grown.fresh.items) grown.within grown.holds)
+
+pub returns-clause-progress : goal.returns-clause-progress
+returns-clause-progress g c =
+    let grown = c.in_ok-grown.ensures.grown in
+    record {
+      within = grown.within;
+      rows =
+          c.in_ok-gone.ensures.rows c.args.graph.now.edges c.in_ok-grown.grown.next (omega (arith, grown.more)) c.requires.progress.rows
+          (subst (λ es. HoldsBetween c.args.graph.now.edges c.args.ranking.now c.args.progress.next c.in_ok-grown.grown.next (entries_of_node es)) (sym c.as_slice.ensures.value) grown.holds);
+    }

@@ -1,0 +1,16 @@
+use Rattle.std.proofs.Common.{◌≡◌, ℕ, ◌+◌, All, vec_len}
+use Rattle.gll_build.specs.Shares.{AreNew, AreSeatsOf, IsBenchFor, IsReady}
+use Rattle.gll_build.proofs.workers.seated.Given as goal
+
+-- for each bench that is left there are seats to split, and one more
+abbrev pub invariant-loop-bench : goal.invariant-loop-bench
+invariant-loop-bench l = record {
+  seats : AreSeatsOf l.claims l.pool (vec_len l.benches) l.first;
+  new : AreNew l.first;
+  left : All (IsBenchFor l.n) l.benches.items;
+  size : vec_len l.workers + vec_len l.benches + 1 ≡ vec_len l.fn.benches;
+  ready : All (IsReady l.claims l.pool l.n) l.workers.items;
+}
+
+abbrev pub decreases-loop-bench : goal.decreases-loop-bench
+decreases-loop-bench l = vec_len l.benches

@@ -1,0 +1,90 @@
+-- The workers of a superstep: what each takes, what each hands back, and what all hand back together.
+use Rattle.std.specs.Prelude.{◌≡◌, ◌⊎◌, ℕ, ◌<◌, ◌≤◌, true, false, List, [], ◌++◌, Option, Some, None, All, Contains, IsOk, length, map, nat_eq, replicate}
+use Rattle.std.specs.List.{IsDistinct}
+use Rattle.walk_laws.specs.declared.graph.Edge.{Edge}
+use Rattle.walk_laws.specs.declared.entry.Entry.{Entry}
+use Rattle.walk_laws.specs.Joined.{Joined}
+use Rattle.walk_laws.specs.Labelling.{EntryFits, IsHubEntry, label_row}
+use Rattle.hub_index.specs.Sunk.{entries_of_node}
+use Rattle.hub_index.specs.Views.{IsNode}
+use Rattle.root_claims.specs.Seats.{ClaimsId, IsSeatOf as IsClaimSeatOf}
+use Rattle.label_pool.specs.Chains.{entries_at}
+use Rattle.label_pool.specs.Seats.{PoolId, IsSeatOf}
+use Rattle.pruned_tree.specs.GrownBy.{IsGrownBy}
+use Rattle.pool_view.specs.Fitting.{Fitting, IsFittingPool, edges_of, order_of}
+use Rattle.gll_build.specs.declared.share.Seats.{Seats}
+use Rattle.gll_build.specs.declared.share.Share.{Share}
+use Rattle.gll_build.specs.declared.workers.Bench.{Bench}
+use Rattle.gll_build.specs.declared.workers.Harvest.{Harvest}
+use Rattle.gll_build.specs.declared.workers.Worker.{Worker}
+
+-- the seats are of these claims and this pool, and so many may still be split from each
+pub record AreSeatsOf (claims : ClaimsId) (pool : PoolId Fitting) (left : ℕ) (seats : Seats) : Type 0 where
+  pub claim_seat : IsClaimSeatOf claims seats.claims
+  pub pool_seat : IsSeatOf pool seats.pool
+  pub claim_left : seats.claims.left ≡ left
+  pub pool_left : seats.pool.left ≡ left
+
+-- nothing was done with the seats yet
+pub record AreNew (seats : Seats) : Type 0 where
+  pub over : seats.claims.over ≡ false
+  pub got : seats.claims.got ≡ []
+  pub puts : seats.pool.puts ≡ []
+  pub past : seats.pool.past ≡ None
+  pub seen : (seats.pool.looks ≡ []) × (seats.pool.marks ≡ [])
+
+-- the pool is of the nodes of this graph under this ranking, and its entries may stand in their rows
+pub record IsPoolOf (edges : List Edge) (order : List ℕ) (pool : PoolId Fitting) : Type 0 where
+  pub fitting : IsFittingPool pool
+  pub edges_are : edges_of pool.fact ≡ edges
+  pub order_is : order_of pool.fact ≡ order
+
+-- no entries, of n nodes
+abbrev pub nothing_of : ℕ → List (List Entry)
+nothing_of n = replicate n []
+
+-- memory for trees over n nodes, and empty rows
+pub record IsBenchFor (n : ℕ) (bench : Bench) : Type 0 where
+  pub own : bench.own ≡ nothing_of n
+  pub work : bench.work ≡ n
+
+-- a worker at such a bench, with new seats
+pub record IsReady (claims : ClaimsId) (pool : PoolId Fitting) (n : ℕ) (worker : Worker) : Type 0 where
+  pub share : Share
+  pub there : worker.share ≡ Some share
+  pub of : AreSeatsOf claims pool 0 share.seats
+  pub new : AreNew share.seats
+  pub own : share.own ≡ nothing_of n
+  pub work : worker.work ≡ n
+
+-- some root was claimed, or none was left
+abbrev pub HasBegun : Seats → Type 0
+HasBegun seats = (seats.claims.over ≡ true) ⊎ (1 ≤ length seats.claims.got)
+
+-- the trees of all roots that were claimed with the share are grown
+pub record IsDone (edges : List Edge) (at : List ℕ) (share : Share) : Type 0 where
+  pub begun : HasBegun share.seats
+  pub nodes : length share.own ≡ length at
+  pub grown : (v : ℕ) → IsNode (length at) v → IsGrownBy edges at share.seats.claims.got (IsOk share.memory) v [] (entries_at share.seats.pool.puts v ++ label_row share.own v)
+
+-- a worker that has grown all trees of its share
+pub record HasWorked (claims : ClaimsId) (pool : PoolId Fitting) (edges : List Edge) (at : List ℕ) (worker : Worker) : Type 0 where
+  pub share : Share
+  pub there : worker.share ≡ Some share
+  pub of : AreSeatsOf claims pool 0 share.seats
+  pub done : IsDone edges at share
+  pub work : worker.work ≡ length at
+
+-- the entries, in any order, are what the trees of these roots put at v: such as may stand in its row, at most one for each root and none for another; and where the trees are whole, each root that is a hub of v
+pub record IsPutBy (edges : List Edge) (at roots : List ℕ) (whole : Type 0) (v : ℕ) (entries : List Entry) : Type 0 where
+  pub fit : All (EntryFits (Joined edges) at v) entries
+  pub once : IsDistinct nat_eq (map (λ e. e.pos) entries)
+  pub of_roots : All (λ e. Contains roots e.pos) entries
+  pub hubs : whole → (e : Entry) → IsHubEntry (Joined edges) at v e → Contains roots e.pos → Contains entries e
+
+-- what some workers hand back: what their trees put in the pool and among the entries that they kept, and their benches
+pub record IsHarvest (edges : List Edge) (at : List ℕ) (harvest : Harvest) : Type 0 where
+  pub begun : HasBegun harvest.seats
+  pub nodes : All (λ e. IsNode (length at) e.node) harvest.kept.items
+  pub put : (v : ℕ) → IsNode (length at) v → IsPutBy edges at harvest.seats.claims.got (IsOk harvest.memory) v (entries_at harvest.seats.pool.puts v ++ entries_of_node harvest.kept.items v)
+  pub benches : All (IsBenchFor (length at)) harvest.benches.items

@@ -1,0 +1,179 @@
+//! One worker of a superstep: the trees of the roots that its seat claims.
+ghost use Rattle.std.specs.Prelude.{◌≡◌, ◌⊎◌, ◌≤◌, true, false, [], None, IsOk, IfOk, IfSome, IfNone, length, nat_eq};
+ghost use Rattle.std.specs.List.{IsDistinct};
+ghost use Rattle.root_claims.specs.Seats.{IsSeatOf as IsClaimSeatOf};
+ghost use Rattle.pruned_tree.specs.GrownBy.{HasGrown};
+ghost use Rattle.hub_index.specs.PlainRows.{IsGathered};
+ghost use Rattle.pool_view.specs.Fitting.{edges_of, order_of};
+ghost use Rattle.pool_view.specs.Viewing.{puts_row, view_kept};
+ghost use Rattle.gll_build.specs.Shares.{AreSeatsOf, AreNew, IsDone, IsPoolOf, nothing_of};
+
+use desk_io::Gate;
+use hub_index::RowList;
+use label_pool::{Pool, PoolSeat};
+use pool_view::{Fits, OwnRows, PoolView};
+use pruned_tree::{Work, grow};
+use rank_table::Ranking;
+use root_claims::{Claim, ClaimSeat, Claims};
+use std::alloc::{AllocError, Global};
+use std::sync::Wait;
+use walk_laws::Graph;
+
+/// The seats of a worker, or of several: at the claims and at the pool.
+#[derive(Drop)]
+pub struct Seats {
+    pub claims: ClaimSeat,
+    pub pool: PoolSeat<Fits>,
+}
+
+/// What a worker takes into a superstep and hands back: its seats, the rows of its own, and whether memory sufficed for all
+/// its trees.
+#[derive(Drop)]
+pub struct Share {
+    pub seats: Seats,
+    pub own: OwnRows,
+    pub memory: Result<(), AllocError>,
+}
+
+/// One worker of a superstep: it claims a root and grows its tree, until it has put at least `cut` entries or no root is
+/// left. Its gate is told of each root when its tree begins, and when it ends with the number of entries put. Where memory
+/// runs out, the entries put by then stay, and others may go on. What it took comes back in any case.
+pub fn grow_share<R: Wait, G: Gate>(
+    rt: &R,
+    alloc: Global,
+    graph: &Graph,
+    ranking: &Ranking,
+    claims: &Claims,
+    pool: &Pool<Fits>,
+    global: &RowList,
+    cut: u32,
+    share: Share,
+    work: &mut Work,
+    gate: &G,
+) -> Share
+    requires nodes { length ranking.now ≡ graph.now.n }
+    requires work { work.old ≡ graph.now.n }
+    requires claims_to { claims.now.n ≡ graph.now.n }
+    requires pool { IsPoolOf graph.now.edges ranking.now pool.now }
+    requires global { IsGathered graph.now.edges ranking.now global.now }
+    requires seats { AreSeatsOf claims.now pool.now 0 share.seats }
+    requires new { AreNew share.seats }
+    requires own { share.own ≡ nothing_of (length ranking.now) }
+    ensures work { work.new ≡ work.old }
+    ensures seats { AreSeatsOf claims.now pool.now 0 result.seats }
+    ensures done { IsDone graph.now.edges ranking.now result }
+{
+    let Share {
+        seats,
+        own,
+        memory: _,
+    } = share;
+    let Seats {
+        claims: mut claim_seat,
+        pool: pool_seat,
+    } = seats;
+    let mut view = PoolView::new(rt, pool, global, pool_seat, own);
+    let memory = grow_trees(
+        rt,
+        alloc,
+        graph,
+        ranking,
+        claims,
+        cut,
+        &mut claim_seat,
+        &mut view,
+        work,
+        gate,
+    );
+    let (pool_seat, own) = view.into_parts();
+    Share {
+        seats: Seats {
+            claims: claim_seat,
+            pool: pool_seat,
+        },
+        own,
+        memory,
+    }
+}
+
+/// Claims roots and grows their trees, until at least `cut` entries are put or no root is left. The only error is that memory
+/// ran out.
+fn grow_trees<R: Wait, G: Gate>(
+    rt: &R,
+    alloc: Global,
+    graph: &Graph,
+    ranking: &Ranking,
+    claims: &Claims,
+    cut: u32,
+    seat: &mut ClaimSeat,
+    view: &mut PoolView<'_, R>,
+    work: &mut Work,
+    gate: &G,
+) -> Result<(), AllocError>
+    requires nodes { length ranking.now ≡ graph.now.n }
+    requires work { work.old ≡ graph.now.n }
+    requires claims_to { claims.now.n ≡ graph.now.n }
+    requires seat { IsClaimSeatOf claims.now seat.old }
+    requires over { seat.old.over ≡ false }
+    requires edges { edges_of view.old.seat.pool.fact ≡ graph.now.edges }
+    requires order { order_of view.old.seat.pool.fact ≡ ranking.now }
+    ensures work { work.new ≡ work.old }
+    ensures seat { IsClaimSeatOf claims.now seat.new }
+    ensures left { seat.new.left ≡ seat.old.left }
+    ensures begun { (seat.new.over ≡ true) ⊎ (1 ≤ length seat.new.got) }
+    ensures kept { view_kept view.new ≡ view_kept view.old }
+    ensures grown { HasGrown graph.now.edges ranking.now (IsOk result) seat.old.got seat.new.got (puts_row view.old) (puts_row view.new) }
+{
+    let mut put = 0u64;
+    for _ in rt.forever() {
+        match next_tree(alloc, graph, ranking, claims, seat, view, work, gate) {
+            Ok(Some(puts)) => {
+                put = put.saturating_add(u64::from(puts));
+                if put >= u64::from(cut) {
+                    return Ok(());
+                }
+            }
+            Ok(None) => return Ok(()),
+            Err(fault) => return Err(fault),
+        }
+    }
+    unreachable!()
+}
+
+/// Claims a root and grows its tree. It answers how many entries were put, or None where no root is left. The only error is
+/// that memory ran out; the root is then claimed, and the entries put stay.
+fn next_tree<R: Wait, G: Gate>(
+    alloc: Global,
+    graph: &Graph,
+    ranking: &Ranking,
+    claims: &Claims,
+    seat: &mut ClaimSeat,
+    view: &mut PoolView<'_, R>,
+    work: &mut Work,
+    gate: &G,
+) -> Result<Option<u32>, AllocError>
+    requires nodes { length ranking.now ≡ graph.now.n }
+    requires work { work.old ≡ graph.now.n }
+    requires claims_to { claims.now.n ≡ graph.now.n }
+    requires seat { IsClaimSeatOf claims.now seat.old }
+    requires over { seat.old.over ≡ false }
+    requires edges { edges_of view.old.seat.pool.fact ≡ graph.now.edges }
+    requires order { order_of view.old.seat.pool.fact ≡ ranking.now }
+    ensures work { work.new ≡ work.old }
+    ensures seat { IsClaimSeatOf claims.now seat.new }
+    ensures left { seat.new.left ≡ seat.old.left }
+    ensures once { IsDistinct nat_eq seat.new.got }
+    ensures begun { (seat.new.over ≡ true) ⊎ (1 ≤ length seat.new.got) }
+    ensures goes_on { IfOk result (λ puts. IfSome puts (λ _. seat.new.over ≡ false)) }
+    ensures kept { view_kept view.new ≡ view_kept view.old }
+    ensures grown { HasGrown graph.now.edges ranking.now (IsOk result) seat.old.got seat.new.got (puts_row view.old) (puts_row view.new) }
+{
+    let p = match claims.claim(seat) {
+        Claim::Root(p) => p,
+        Claim::End => return Ok(None),
+    };
+    gate.begins(p);
+    let puts = grow(alloc, graph, ranking, p, view, work)?;
+    gate.ends(p, puts);
+    Ok(Some(puts))
+}

@@ -1,0 +1,201 @@
+//! One superstep, with what a build takes once.
+ghost use Rattle.std.specs.Prelude.{◌≡◌, ◌^◌, ◌<◌, ◌≤◌, All, IfOk, length, vec_len};
+ghost use Rattle.hub_index.specs.PlainRows.{IsGathered};
+ghost use Rattle.gll_build.specs.Shares.{HasWorked, IsBenchFor, IsPoolOf, IsReady};
+ghost use Rattle.gll_build.specs.Workshops.{IsGrownFrom, IsProgress, IsWorkshopFor};
+
+use crate::share::Seats;
+use crate::workers::{Bench, Harvest, Worker, benches_for, bring_in, seated};
+use desk_io::Gate;
+use hub_index::{NodeEntry, RowList};
+use label_clean::Cleaner;
+use label_pool::Pool;
+use pool_view::Fits;
+use rank_table::Ranking;
+use root_claims::Claims;
+use std::alloc::{AllocError, Global};
+use std::sync::Wait;
+use std::thread;
+use std::thread::Threads;
+use walk_laws::Graph;
+
+/// The most cells that the pool of a superstep has.
+const MOST_CELLS: u64 = 1_048_576;
+
+/// What a build takes once, and hands from superstep to superstep: a bench for each worker, and what cleaning takes.
+#[derive(Drop)]
+pub struct Workshop {
+    pub benches: Vec<Bench>,
+    pub cleaner: Cleaner,
+}
+
+/// Where a build has come: the rows, which are the labelling up to the position of the next root, and that position.
+#[derive(Drop)]
+pub struct Progress {
+    pub rows: RowList,
+    pub next: u32,
+}
+
+/// What the trees of some roots put, in any order, the position of the root that comes next, and the benches.
+#[derive(Drop)]
+pub struct Grown {
+    pub fresh: Vec<NodeEntry>,
+    pub next: u32,
+    pub benches: Vec<Bench>,
+}
+
+impl Workshop {
+    /// A workshop for so many workers over the nodes 1..n. The only error is that memory ran out.
+    pub fn new<R: Threads>(
+        rt: &R,
+        alloc: Global,
+        n: u32,
+        workers: u32,
+    ) -> Result<Workshop, AllocError>
+        requires workers { (1 ≤ workers) × (workers ≤ 64) }
+        ensures { IfOk result (IsWorkshopFor n) }
+    {
+        let benches = benches_for(alloc, n, workers)?;
+        let cleaner = Cleaner::new(rt, alloc, n)?;
+        Ok(Workshop { benches, cleaner })
+    }
+}
+
+/// One superstep: the workers grow the trees of the next roots, and the new entries are cleaned and join the rows. It costs
+/// its entries, and one pass over the heads of its pool. The only error is that memory ran out.
+pub fn next_step<R: Threads + Wait + Sync, G: Gate + Sync>(
+    rt: &R,
+    alloc: Global,
+    graph: &Graph,
+    ranking: &Ranking,
+    progress: Progress,
+    cut: u32,
+    workshop: Workshop,
+    gate: &G,
+) -> Result<(Progress, Workshop), AllocError>
+    requires nodes { length ranking.now ≡ graph.now.n }
+    requires progress { IsProgress graph.now.edges ranking.now progress }
+    requires more { progress.next < length ranking.now }
+    requires cut { 1 ≤ cut }
+    requires workshop { IsWorkshopFor (length ranking.now) workshop }
+    ensures progress { IfOk result (λ done. IsProgress graph.now.edges ranking.now done.0) }
+    ensures more { IfOk result (λ done. progress.next < done.0.next) }
+    ensures workshop { IfOk result (λ done. IsWorkshopFor (length ranking.now) done.1) }
+{
+    let ranked = ranking.n();
+    prove!(progress.next < ranked);
+    let Progress { rows, next: first } = progress;
+    let Workshop { benches, cleaner } = workshop;
+    let grown = grow_roots(rt, alloc, graph, ranking, &rows, first, cut, benches, gate)?;
+    let Grown {
+        fresh,
+        next,
+        benches,
+    } = grown;
+    let gone = cleaner.go_on(rt, alloc, ranking, rows, first, fresh.as_slice())?;
+    let (rows, cleaner) = gone;
+    Ok((Progress { rows, next }, Workshop { benches, cleaner }))
+}
+
+/// Lets the workers grow the trees of the next roots over the global rows. The only error is that memory ran out.
+fn grow_roots<R: Threads + Wait + Sync, G: Gate + Sync>(
+    rt: &R,
+    alloc: Global,
+    graph: &Graph,
+    ranking: &Ranking,
+    global: &RowList,
+    first: u32,
+    cut: u32,
+    benches: Vec<Bench>,
+    gate: &G,
+) -> Result<Grown, AllocError>
+    requires nodes { length ranking.now ≡ graph.now.n }
+    requires global { IsGathered graph.now.edges ranking.now global.now }
+    requires first { first < length ranking.now }
+    requires cut { 1 ≤ cut }
+    requires some { 1 ≤ vec_len benches }
+    requires few { vec_len benches ≤ 64 }
+    requires benches { All (IsBenchFor (length ranking.now)) benches.items }
+    ensures grown { IfOk result (IsGrownFrom graph.now.edges ranking.now first) }
+    ensures size { IfOk result (λ grown. vec_len grown.benches ≡ vec_len benches) }
+    ensures benches { IfOk result (λ grown. All (IsBenchFor (length ranking.now)) grown.benches.items) }
+{
+    let n = graph.n();
+    let ranked = ranking.n();
+    prove!(n == ranked);
+    let count = benches.len() as u32;
+    let (claims, claim_seat) = Claims::new(alloc, first, n, count)?;
+    let fact = Fits::of(graph, ranking);
+    let (pool, pool_seat) = Pool::new(alloc, n, cells_for(count, cut), count, fact)?;
+    let seats = Seats {
+        claims: claim_seat,
+        pool: pool_seat,
+    };
+    let mut workers = seated(alloc, n, &claims, &pool, seats, benches)?;
+    grow_all(
+        rt,
+        alloc,
+        graph,
+        ranking,
+        &claims,
+        &pool,
+        global,
+        cut,
+        workers.as_mut_slice(),
+        gate,
+    );
+    let harvest = bring_in(alloc, graph, ranking, &claims, &pool, workers)?;
+    let Harvest {
+        seats,
+        memory,
+        mut kept,
+        benches,
+    } = harvest;
+    memory?;
+    let mut fresh = pool.close_listed(seats.pool)?;
+    fresh.append(&mut kept)?;
+    let next = claims.close(seats.claims);
+    Ok(Grown {
+        fresh,
+        next,
+        benches,
+    })
+}
+
+/// How many cells the pool of a superstep has.
+fn cells_for(workers: u32, cut: u32) -> u32
+    requires { (1 ≤ workers) × (1 ≤ cut) }
+    ensures { (1 ≤ result) × (result ≤ 2 ^ 31) }
+{
+    (u64::from(workers) * u64::from(cut)).min(MOST_CELLS) as u32
+}
+
+/// Lets all workers grow trees, each in a thread of its own where one can be made.
+fn grow_all<R: Threads + Wait + Sync, G: Gate + Sync>(
+    rt: &R,
+    alloc: Global,
+    graph: &Graph,
+    ranking: &Ranking,
+    claims: &Claims,
+    pool: &Pool<Fits>,
+    global: &RowList,
+    cut: u32,
+    workers: &mut [Worker],
+    gate: &G,
+)
+    requires some { 1 ≤ length workers.old }
+    requires nodes { length ranking.now ≡ graph.now.n }
+    requires claims_to { claims.now.n ≡ graph.now.n }
+    requires pool { IsPoolOf graph.now.edges ranking.now pool.now }
+    requires global { IsGathered graph.now.edges ranking.now global.now }
+    requires ready { All (IsReady claims.now pool.now (length ranking.now)) workers.old }
+    ensures size { length workers.new ≡ length workers.old }
+    ensures worked { All (HasWorked claims.now pool.now graph.now.edges ranking.now) workers.new }
+{
+    let count = workers.len();
+    let grow = |_place: usize, worker: &mut Worker|
+        requires { (length ranking.now ≡ graph.now.n) × (claims.now.n ≡ graph.now.n) × IsPoolOf graph.now.edges ranking.now pool.now × IsGathered graph.now.edges ranking.now global.now × IsReady claims.now pool.now (length ranking.now) worker.now }
+        ensures { HasWorked claims.entry.now pool.entry.now graph.entry.now.edges ranking.entry.now worker.exit.now }
+    { worker.grow_trees(rt, alloc, graph, ranking, claims, pool, global, cut, gate) };
+    thread::for_each_mut(rt, workers, count, &grow);
+}
