@@ -5,6 +5,8 @@ use Rattle.std.specs.FinMap as finite_map
 use Rattle.std.proofs.lemmas.Bool.{le-ltb}
 use Rattle.desk_io.specs.Contents.{Files}
 use Rattle.desk_io.specs.Reading.{input_limit}
+use Rattle.grid_work.specs.Grid.{grid, grid_edges}
+use Rattle.grid_work.proofs.GridGraphs.{grid_weights}
 use Rattle.dimacs_text.proofs.TextsAccepted.{graph_accepted, pairs_accepted}
 use Rattle.hub_index.specs.HubIndex.{HubIndex}
 use Rattle.hub_index.specs.WellFormed.{IsWellFormed}
@@ -42,10 +44,10 @@ use Rattle.chl_inputs.proofs.StageLaws.{Answerable, Determined, decided_always, 
 use Rattle.chl_inputs.proofs.StagesInTurn.{same_value}
 use Rattle.chl_lines.specs.PrintedAnswers.{answer_lines}
 use Rattle.chl_lines.specs.PrintedRows.{lines_from}
-use Rattle.chl_cmd.specs.Commands.{Decides, stage_of, labelling_stage, solve_stage, query_stage, path_stage, audit_stage, degree_stage, answers_stage, AreAnswers, stage_if}
+use Rattle.chl_cmd.specs.Commands.{Decides, stage_of, labelling_stage, solve_stage, query_stage, path_stage, audit_stage, degree_stage, grid_stage, answers_stage, AreAnswers, stage_if}
 use Rattle.chl_words.specs.declared.asked.By.{By}
 use Rattle.chl_words.specs.declared.asked.Asked.{Asked}
-use Rattle.chl_words.specs.declared.asked.Asked.TheVariants.{List as ListRows, Build, Solve, Query, Path, Audit, Degree}
+use Rattle.chl_words.specs.declared.asked.Asked.TheVariants.{List as ListRows, Build, Solve, Query, Path, Audit, Degree, Grid}
 use Rattle.rank_table.proofs.DegreeRankings.{ranked_by_degree, IsByDegree-unique}
 use Rattle.chl_cmd.proofs.PairAnswers.{answers_exist, answers_unique, answers_told}
 
@@ -192,6 +194,16 @@ module _ (graph : List ℕ) (files : Files) where
   degree_once : Determined (degree_stage graph) files
   degree_once = λ g graph_is. (IsByDegree-unique g, λ at ranked. tt)
 
+module _ (side seed : ℕ) (files : Files) where
+  grid_always : Answerable (grid_stage side seed) files
+  grid_always =
+      let ranked = ranked_by_degree (grid side seed) in
+      let rows = IsChl-exists (Joined (grid_edges side seed)) ranked.0 ranked.1.ranking (IsCanonical-joined_decided (grid_edges side seed) (grid_weights side seed) ranked.0 ranked.1.ranking) in
+      (ranked.0, ranked.1, (rows.0, rows.1, tt))
+
+  grid_once : Determined (grid_stage side seed) files
+  grid_once = (IsByDegree-unique (grid side seed), λ at ranked. (IsChl-unique (Joined (grid_edges side seed)) at, λ rows chl. tt))
+
 -- a case for each command
 has_answer : (asked : Asked) (files : Files) → Answerable (stage_of asked) files
 has_answer (ListRows graph order) files = labelling_always (λ at rows. lines_from at 1 rows) graph order files
@@ -201,6 +213,7 @@ has_answer (Query index pairs) files = query_always index pairs files
 has_answer (Path graph index pairs) files = path_always graph index pairs files
 has_answer (Audit graph order index) files = audit_always graph order index files
 has_answer (Degree graph) files = degree_always graph files
+has_answer (Grid side seed workers) files = grid_always side seed files
 
 has_one_answer : (asked : Asked) (files : Files) → Determined (stage_of asked) files
 has_one_answer (ListRows graph order) files = labelling_once (λ at rows. lines_from at 1 rows) graph order files
@@ -210,6 +223,7 @@ has_one_answer (Query index pairs) files = query_once index pairs files
 has_one_answer (Path graph index pairs) files = path_once graph index pairs files
 has_one_answer (Audit graph order index) files = audit_once graph order index files
 has_one_answer (Degree graph) files = degree_once graph files
+has_one_answer (Grid side seed workers) files = grid_once side seed files
 
 pub decides_always : (asked : Asked) (files : Files) → (answer : Result (List ℕ) Stop) × Decides asked files answer
 decides_always asked files = decided_always (stage_of asked) files (has_answer asked files)

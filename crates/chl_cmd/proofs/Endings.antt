@@ -14,7 +14,7 @@ use Rattle.chl_inputs.specs.declared.stop.Stop.TheVariants as stops
 use Rattle.chl_inputs.proofs.StageLaws.{all_in_order, in_order_files, in_order_steady, went_decided, went_read, went_stopped, went_opens, none_yet}
 use Rattle.chl_inputs.proofs.ToldChanges.{chained, retold}
 use Rattle.chl_cmd.specs.Commands.{Decides, stage_of, place_of}
-use Rattle.chl_cmd.specs.Outcome.{Ends, Gives, GivesFront, GivesPart, Stops, given, HasInputsOf, OpensNoOther, ChangesNoOther}
+use Rattle.chl_cmd.specs.Outcome.{Ends, Gives, GivesPrefix, GivesPart, Stops, given, HasInputsOf, OpensNoOther, ChangesNoOther}
 use Rattle.chl_cmd.specs.Statuses.{status_of, status_after}
 use Rattle.chl_cmd.specs.declared.status.Status.{Status}
 use Rattle.chl_cmd.specs.declared.status.Status.TheVariants.{Done, Differs, Usage, GraphText, OrderText, PairsText, IndexBytes, Overflow, ReadFault, WriteFault, NoMemory, NotOfGraph, TooLong}
@@ -87,8 +87,8 @@ given_others None bytes name a other = refl
 given_others (Some out) bytes name a other = get-insert_other a.files out name bytes (λ same. other (ap Some same))
 
 module _ (asked : Asked) (status : Status) (a b : Contents) where
-  -- a front of the bytes that were given
-  front_of : (x : Contents) (bytes : List ℕ) (P : Contents → Type 0) → P x → ((k : ℕ) → P (given (place_of asked) (take k bytes) x)) → GivesFront (place_of asked) bytes x b → P b
+  -- a prefix of the bytes that were given
+  front_of : (x : Contents) (bytes : List ℕ) (P : Contents → Type 0) → P x → ((k : ℕ) → P (given (place_of asked) (take k bytes) x)) → GivesPrefix (place_of asked) bytes x b → P b
   front_of x bytes P none some (inl same) = subst P (sym same) none
   front_of x bytes P none some (inr front) = subst P (sym front.1) (some front.0)
 
@@ -162,11 +162,11 @@ done_from asked bytes old mid new made gave = chained old mid new made gave (λ 
   record { bytes = bytes; decided = went_decided (stage_of asked) bytes a b went; read = b; reads = went_read (stage_of asked) bytes a b went; gives = is },
 ))
 
-part_from : (asked : Asked) (bytes : List ℕ) (a b c : Contents) → Went (stage_of asked) (Ok bytes) a b → GivesFront (place_of asked) bytes b c → GivesPart asked a c
+part_from : (asked : Asked) (bytes : List ℕ) (a b c : Contents) → Went (stage_of asked) (Ok bytes) a b → GivesPrefix (place_of asked) bytes b c → GivesPart asked a c
 part_from asked bytes a b c went front = record { bytes = bytes; decided = went_decided (stage_of asked) bytes a b went; read = b; reads = went_read (stage_of asked) bytes a b went; gives = front }
 
 -- a writing that failed ends the command so, on a desk that is not steady
-pub failed_from : (asked : Asked) (bytes : List ℕ) (old mid new : Option Contents) → Tells old mid (Went (stage_of asked) (Ok bytes)) → Tells mid new (GivesFront (place_of asked) bytes) → (IsSteady mid → ⊥) → Tells old new (Ends asked WriteFault)
+pub failed_from : (asked : Asked) (bytes : List ℕ) (old mid new : Option Contents) → Tells old mid (Went (stage_of asked) (Ok bytes)) → Tells mid new (GivesPrefix (place_of asked) bytes) → (IsSteady mid → ⊥) → Tells old new (Ends asked WriteFault)
 failed_from asked bytes None None None made front steady = tt
 failed_from asked bytes None None (Some c) made front steady = front
 failed_from asked bytes None (Some b) new made front steady = absurd made
@@ -177,7 +177,7 @@ failed_from asked bytes (Some a) (Some b) (Some c) made front steady =
     inr (inl (refl, part_from asked bytes a b c made front, λ held. steady (subst IsTrue (sym kept) held)))
 
 -- and one for which memory ran out so
-pub lost_from : (asked : Asked) (bytes : List ℕ) (old mid new : Option Contents) → Tells old mid (Went (stage_of asked) (Ok bytes)) → Tells mid new (GivesFront (place_of asked) bytes) → Tells old new (Ends asked NoMemory)
+pub lost_from : (asked : Asked) (bytes : List ℕ) (old mid new : Option Contents) → Tells old mid (Went (stage_of asked) (Ok bytes)) → Tells mid new (GivesPrefix (place_of asked) bytes) → Tells old new (Ends asked NoMemory)
 lost_from asked bytes old mid new made front = chained old mid new made front (λ a b c went part. inr (inr (inl (refl, part_from asked bytes a b c went part))))
 
 -- a command without output ends so

@@ -3,6 +3,7 @@ pub mod OneCommand
 pub mod PairAnswers
 pub mod Decisions
 pub mod Endings
+pub mod Grids
 pub mod AuditAnswers
 pub mod BuiltAudits
 pub mod WalkAnswers

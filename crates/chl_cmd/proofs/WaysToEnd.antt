@@ -9,7 +9,7 @@ use Rattle.chl_inputs.specs.Stops.{HasMemoryOnce}
 use Rattle.chl_inputs.specs.declared.stop.Stop.{Stop}
 use Rattle.chl_inputs.specs.declared.stop.Stop.TheVariants as stops
 use Rattle.chl_cmd.specs.Commands.{stage_of, place_of}
-use Rattle.chl_cmd.specs.Outcome.{given, GivesFront, Runs}
+use Rattle.chl_cmd.specs.Outcome.{given, GivesPrefix, Runs}
 use Rattle.chl_cmd.specs.Statuses.{CarriesFaultsAlone, CountsInput, CountsOutput, status_of}
 use Rattle.chl_cmd.specs.declared.status.Status.TheVariants.{Done, WriteFault, NoMemory}
 use Rattle.chl_words.specs.declared.asked.Asked.{Asked}
@@ -76,8 +76,8 @@ module _ {D : Type 0} {desk : Ghosts D} (asked : Asked) where
       faults_alone = tt;
     }
 
-    -- with a front of it, as writing failed
-    pub runs_failed : Tells (desk.told mid) (desk.told new) (GivesFront (place_of asked) bytes) → (IsSteady (desk.told mid) → ⊥) → Rises (desk.output_faults mid) (desk.output_faults new) → Runs desk asked WriteFault old new
+    -- with a prefix of it, as writing failed
+    pub runs_failed : Tells (desk.told mid) (desk.told new) (GivesPrefix (place_of asked) bytes) → (IsSteady (desk.told mid) → ⊥) → Rises (desk.output_faults mid) (desk.output_faults new) → Runs desk asked WriteFault old new
     runs_failed front steady rises = record {
       told = failed_from asked bytes (desk.told old) (desk.told mid) (desk.told new) goes.told front steady;
       no_output = λ none. absurd (none.1 refl);
@@ -88,7 +88,7 @@ module _ {D : Type 0} {desk : Ghosts D} (asked : Asked) where
     }
 
     -- or as memory ran out
-    pub runs_lost : Tells (desk.told mid) (desk.told new) (GivesFront (place_of asked) bytes) → desk.output_faults new ≡ desk.output_faults mid → Runs desk asked NoMemory old new
+    pub runs_lost : Tells (desk.told mid) (desk.told new) (GivesPrefix (place_of asked) bytes) → desk.output_faults new ≡ desk.output_faults mid → Runs desk asked NoMemory old new
     runs_lost front outputs = record {
       told = lost_from asked bytes (desk.told old) (desk.told mid) (desk.told new) goes.told front;
       no_output = λ none. absurd (none.2 refl);

@@ -1,9 +1,11 @@
 -- The commands: what each reads and works out in turn, and where its bytes go. A new command is a stage and a case of
 -- `command_of`.
-use Rattle.std.specs.Prelude.{ℕ, List, [], ◌∷◌, ◌++◌, ◌==◌, Bool, true, false, length, codes, Option, Some, None, Result, Ok, Err, Vec}
+use Rattle.std.specs.Prelude.{◌≡◌, ℕ, ◌*◌, List, [], ◌∷◌, ◌++◌, ◌==◌, Bool, true, false, length, codes, Option, Some, None, Result, Ok, Err, Vec}
 use Rattle.std.specs.List.{AllZip}
 use Rattle.std.specs.Option.{option_or}
 use Rattle.desk_io.specs.Contents.{Files}
+use Rattle.grid_work.specs.Grid.{grid, grid_edges}
+use Rattle.grid_work.specs.Totals.{totals_of}
 use Rattle.hub_query.specs.Paths.{IsPathOf}
 use Rattle.hub_query.specs.declared.path_answer.Path.{Path as AnyPath}
 use Rattle.hub_query.specs.declared.path_answer.Path.TheVariants.{Sizes as OtherSizes, Unreachable, Walk, Stuck as StuckAt}
@@ -22,12 +24,14 @@ use Rattle.chl_inputs.specs.declared.stop.Stop.{Stop}
 use Rattle.chl_inputs.specs.declared.stop.Stop.TheVariants.{Differs, NotOfGraph}
 use Rattle.chl_inputs.specs.declared.stop.NotOf.TheVariants.{Sizes, Stuck}
 use Rattle.chl_lines.specs.PrintedAnswers.{answer_lines}
+use Rattle.chl_lines.specs.PrintedGrids.{grid_lines}
 use Rattle.chl_lines.specs.PrintedOrders.{order_lines}
 use Rattle.chl_lines.specs.PrintedRows.{lines_from}
 use Rattle.chl_lines.specs.PrintedWalks.{walk_lines}
+use Rattle.chl_lines.specs.declared.grid.GridReport.{GridReport}
 use Rattle.rank_table.specs.ByDegree.{IsByDegree}
 use Rattle.chl_words.specs.declared.asked.Asked.{Asked}
-use Rattle.chl_words.specs.declared.asked.Asked.TheVariants.{List as ListRows, Build, Solve, Query, Path, Audit, Degree}
+use Rattle.chl_words.specs.declared.asked.Asked.TheVariants.{List as ListRows, Build, Solve, Query, Path, Audit, Degree, Grid}
 
 -- a graph, a ranking of its nodes, and the bytes of the rows of its canonical hub labelling
 abbrev pub labelling_stage : (List ℕ → List (List Entry) → List ℕ) → List ℕ → List ℕ → Stage (List ℕ)
@@ -127,6 +131,31 @@ audit_stage graph order index =
 abbrev pub degree_stage : List ℕ → Stage (List ℕ)
 degree_stage graph = Reads (graph_input graph) (λ g. Works (λ at. IsByDegree g at) (λ at. Comes (Ok (order_lines at))))
 
+-- what there is to say of the grid of a side and a seed whose index has these rows, by whichever construction
+abbrev pub grid_report : ℕ → ℕ → List (List Entry) → GridReport
+grid_report side seed rows = record {
+  side = side;
+  seed = seed;
+  nodes = side * side;
+  edges = length (grid_edges side seed);
+  plant = totals_of rows;
+  lcc = totals_of rows;
+  gll = totals_of rows;
+}
+
+-- the text is that of the grid: its lines, for the rows of its canonical hub labelling under its ranking by degree
+abbrev pub IsGridText : ℕ → ℕ → List ℕ → Type 0
+IsGridText side seed text =
+    (at : List ℕ) × IsByDegree (grid side seed) at
+    × ((rows : List (List Entry)) × IsChl (Joined (grid_edges side seed)) at rows × (text ≡ grid_lines (grid_report side seed rows)))
+
+-- `grid`: the grid of a side and a seed, its ranking by degree, the rows of its labelling, and their lines. No file is read.
+abbrev pub grid_stage : ℕ → ℕ → Stage (List ℕ)
+grid_stage side seed =
+    Works (λ at. IsByDegree (grid side seed) at) (λ at.
+    Works (λ rows. IsChl (Joined (grid_edges side seed)) at rows) (λ rows.
+    Comes (Ok (grid_lines (grid_report side seed rows)))))
+
 -- a command: its stage, and the file that it creates for its bytes, or none where it says them
 pub record Command : Type 1 where
   pub stage : Stage (List ℕ)
@@ -140,6 +169,7 @@ command_of (Query index pairs) = record { stage = query_stage index pairs; place
 command_of (Path graph index pairs) = record { stage = path_stage graph index pairs; place = None }
 command_of (Audit graph order index) = record { stage = audit_stage graph order index; place = None }
 command_of (Degree graph) = record { stage = degree_stage graph; place = None }
+command_of (Grid side seed workers) = record { stage = grid_stage side seed; place = None }
 
 abbrev pub stage_of : Asked → Stage (List ℕ)
 stage_of asked = (command_of asked).stage

@@ -17,9 +17,9 @@ abbrev pub given : Option (List ℕ) → List ℕ → Contents → Contents
 given None bytes a = record a { said = a.said ++ bytes }
 given (Some out) bytes a = record a { files = finite_map.insert a.files out bytes; out = out }
 
--- a front of the bytes was given, or nothing, not even a file
-abbrev pub GivesFront : Option (List ℕ) → List ℕ → Contents → Contents → Type 0
-GivesFront place bytes a b = (b ≡ a) ⊎ ((k : ℕ) × (b ≡ given place (take k bytes) a))
+-- a prefix of the bytes was given, or nothing, not even a file
+abbrev pub GivesPrefix : Option (List ℕ) → List ℕ → Contents → Contents → Type 0
+GivesPrefix place bytes a b = (b ≡ a) ⊎ ((k : ℕ) × (b ≡ given place (take k bytes) a))
 
 -- All inputs were opened in order, and each was accepted and read to its end; then the bytes that the files decide were
 -- given, and nothing else has changed.
@@ -30,13 +30,13 @@ pub record Gives (asked : Asked) (a b : Contents) : Type 0 where
   pub reads : ReadsAll (stage_of asked) a read
   pub gives : b ≡ given (place_of asked) bytes read
 
--- the same of a front of these bytes
+-- the same of a prefix of these bytes
 pub record GivesPart (asked : Asked) (a b : Contents) : Type 0 where
   pub bytes : List ℕ
   pub decided : Decides asked a.files (Ok bytes)
   pub read : Contents
   pub reads : ReadsAll (stage_of asked) a read
-  pub gives : GivesFront (place_of asked) bytes read b
+  pub gives : GivesPrefix (place_of asked) bytes read b
 
 -- The command stopped as the files decide, or for want of memory, or as a call of a desk that is not steady failed. Nothing
 -- was given. Each input before the last one opened was accepted and read to its end, and of that nothing was read once a line

@@ -7,6 +7,7 @@ ghost use Rattle.chl_words.specs.Asking.{IsWithinLimits};
 mod audit;
 mod build;
 mod degree;
+mod grid;
 mod list;
 mod path;
 mod query;
@@ -19,6 +20,7 @@ use chl_inputs::Stop;
 use chl_words::{Asked, Name};
 use degree::degree_output;
 use desk_io::{Desk, Gate};
+use grid::grid_text;
 use list::list_output;
 use path::path_output;
 use query::query_output;
@@ -99,6 +101,14 @@ pub fn output<R: Threads + Wait + Sync, D: Desk, G: Gate + Sync>(
             index,
         } => audit_output(alloc, graph.text(), order.text(), index.text(), desk),
         Asked::Degree { graph } => degree_output(alloc, graph.text(), desk),
+        Asked::Grid {
+            side,
+            seed,
+            workers,
+        } => {
+            let text = grid_text(rt, alloc, *side, *seed, *workers, gate)?;
+            Ok(text)
+        }
     }
 }
 
@@ -112,7 +122,8 @@ pub fn out_file(asked: &Asked) -> Option<&Name>
         | Asked::Query { .. }
         | Asked::Path { .. }
         | Asked::Audit { .. }
-        | Asked::Degree { .. } => None,
+        | Asked::Degree { .. }
+        | Asked::Grid { .. } => None,
         Asked::Build { out, .. } => Some(out),
     }
 }

@@ -3,7 +3,7 @@ ghost use Rattle.std.specs.Option.{option_copied};
 ghost use Rattle.desk_io.specs.Contents.{Tells, IsSteady};
 ghost use Rattle.desk_io.specs.Counts.{CountsFailure};
 ghost use Rattle.desk_io.specs.declared.desk.DeskFault.TheVariants.{Failed};
-ghost use Rattle.chl_cmd.specs.Outcome.{given, GivesFront};
+ghost use Rattle.chl_cmd.specs.Outcome.{given, GivesPrefix};
 
 use chl_words::Name;
 use desk_io::{Desk, DeskFault, Out, write_all};
@@ -11,7 +11,7 @@ use desk_io::{Desk, DeskFault, Out, write_all};
 /// Gives bytes: to the file of this name, which it creates, or to standard output.
 pub fn give<D: Desk>(desk: &mut D, out: Option<&Name>, bytes: &[u8]) -> Result<(), DeskFault>
     ensures ok { OnOk result (Tells (D.told desk.old) (D.told desk.new) (λ a b. b ≡ given (option_copied out.entry) bytes.now a)) }
-    ensures err { OnErr result (Tells (D.told desk.old) (D.told desk.new) (GivesFront (option_copied out.entry) bytes.now)) }
+    ensures err { OnErr result (Tells (D.told desk.old) (D.told desk.new) (GivesPrefix (option_copied out.entry) bytes.now)) }
     ensures steady { IsSteady (D.told desk.old) → result ≢ Err Failed }
     ensures no_place { option_copied out.entry ≡ None → D.is_created desk.new ≡ D.is_created desk.old }
     ensures input_count { D.input_faults desk.new ≡ D.input_faults desk.old }
@@ -26,7 +26,7 @@ pub fn give<D: Desk>(desk: &mut D, out: Option<&Name>, bytes: &[u8]) -> Result<(
 /// Says the bytes.
 fn say<D: Desk>(desk: &mut D, bytes: &[u8]) -> Result<(), DeskFault>
     ensures ok { OnOk result (Tells (D.told desk.old) (D.told desk.new) (λ a b. b ≡ given None bytes.now a)) }
-    ensures err { OnErr result (Tells (D.told desk.old) (D.told desk.new) (GivesFront None bytes.now)) }
+    ensures err { OnErr result (Tells (D.told desk.old) (D.told desk.new) (GivesPrefix None bytes.now)) }
     ensures steady { IsSteady (D.told desk.old) → result ≢ Err Failed }
     ensures no_place { D.is_created desk.new ≡ D.is_created desk.old }
     ensures input_count { D.input_faults desk.new ≡ D.input_faults desk.old }
@@ -38,7 +38,7 @@ fn say<D: Desk>(desk: &mut D, bytes: &[u8]) -> Result<(), DeskFault>
 /// Creates the named file, and writes the bytes to it.
 fn write_file<D: Desk>(desk: &mut D, name: &Name, bytes: &[u8]) -> Result<(), DeskFault>
     ensures ok { OnOk result (Tells (D.told desk.old) (D.told desk.new) (λ a b. b ≡ given (Some name.now) bytes.now a)) }
-    ensures err { OnErr result (Tells (D.told desk.old) (D.told desk.new) (GivesFront (Some name.now) bytes.now)) }
+    ensures err { OnErr result (Tells (D.told desk.old) (D.told desk.new) (GivesPrefix (Some name.now) bytes.now)) }
     ensures steady { IsSteady (D.told desk.old) → result ≢ Err Failed }
     ensures input_count { D.input_faults desk.new ≡ D.input_faults desk.old }
     ensures output_count { CountsFailure result (D.output_faults desk.old) (D.output_faults desk.new) }

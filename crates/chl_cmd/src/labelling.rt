@@ -6,6 +6,7 @@ ghost use Rattle.chl_words.specs.Asking.{AreWithinLimits};
 use crate::construction::Construction;
 use chl_words::By;
 use desk_io::Gate;
+use gll_build::build_gll;
 use hub_index::Index;
 use lcc_build::build_lcc;
 use plant_build::build_plant;
@@ -40,5 +41,14 @@ pub fn labelling<R: Threads + Wait + Sync, G: Gate + Sync>(
             gate,
         ),
         By::Lcc => build_lcc(rt, alloc, graph, ranking, construction.workers, gate),
+        By::Gll => build_gll(
+            rt,
+            alloc,
+            graph,
+            ranking,
+            construction.workers,
+            construction.cut,
+            gate,
+        ),
     }
 }

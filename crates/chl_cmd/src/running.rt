@@ -54,11 +54,11 @@ pub fn run<R: Threads + Wait + Sync, D: Desk, G: Gate + Sync>(
         → Tells (D.told desk.old) (D.told desk.new) (λ a b. Decides asked a.files answer
         → (result ≡ status_after answer) ⊎ (result ≡ NoMemory) ⊎ (((result ≡ ReadFault) ⊎ (result ≡ WriteFault)) × ¬ (IsTrue a.steady))) }
 
-    // A write fault comes after a front of the bytes that the files decide, and never over a steady desk.
+    // A write fault comes after a prefix of the bytes that the files decide, and never over a steady desk.
     ensures write_fault { (asked : Command) → IsCommand (map string_bytes words.now) asked → result ≡ WriteFault
         → Tells (D.told desk.old) (D.told desk.new) (λ a b. GivesPart asked a b × ¬ (IsTrue a.steady)) }
 
-    // Without memory nothing was given, or a front of the bytes that the files decide.
+    // Without memory nothing was given, or a prefix of the bytes that the files decide.
     ensures no_memory { (asked : Command) → IsCommand (map string_bytes words.now) asked → result ≡ NoMemory
         → Tells (D.told desk.old) (D.told desk.new) (λ a b. OpensInOrder (stage_of asked) a b ⊎ GivesPart asked a b) }
 

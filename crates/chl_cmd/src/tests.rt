@@ -2,6 +2,7 @@ ghost use Rattle.std.specs.Prelude.{◌<◌};
 
 mod audits;
 mod desks;
+mod grids;
 mod pairs;
 mod texts;
 mod walks;

@@ -123,6 +123,10 @@ degree_is : IsJudged literal.degree
 unfolding clap_on_literals
 degree_is = record { enters = record { walks = refl; turns = refl; found = refl }; distinct = (refl, tt); pass = (refl, tt) }
 
+grid_is : IsJudged literal.grid
+unfolding clap_on_literals
+grid_is = record { enters = record { walks = refl; turns = refl; found = refl }; distinct = (refl, (refl, (refl, tt))); pass = (refl, (refl, (refl, tt))) }
+
 pub is_judged : (s : Shape) → Contains commands s → IsJudged s
 is_judged s (zero, lt, is) = subst IsJudged is list_is
 is_judged s (suc zero, lt, is) = subst IsJudged is build_is
@@ -131,4 +135,5 @@ is_judged s (suc (suc (suc zero)), lt, is) = subst IsJudged is query_is
 is_judged s (suc (suc (suc (suc zero))), lt, is) = subst IsJudged is path_is
 is_judged s (suc (suc (suc (suc (suc zero)))), lt, is) = subst IsJudged is audit_is
 is_judged s (suc (suc (suc (suc (suc (suc zero))))), lt, is) = subst IsJudged is degree_is
-is_judged s (suc (suc (suc (suc (suc (suc (suc k)))))), lt, is) = absurd (omega arith)
+is_judged s (suc (suc (suc (suc (suc (suc (suc zero)))))), lt, is) = subst IsJudged is grid_is
+is_judged s (suc (suc (suc (suc (suc (suc (suc (suc k))))))), lt, is) = absurd (omega arith)

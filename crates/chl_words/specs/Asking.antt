@@ -7,22 +7,25 @@ use Rattle.clap.specs.ValueTests.{is_numeral}
 use Rattle.chl_words.specs.Literal.{program}
 use Rattle.chl_words.specs.declared.reading.Building.{Building}
 use Rattle.chl_words.specs.declared.asked.By.{By}
-use Rattle.chl_words.specs.declared.asked.By.TheVariants.{Plant, Lcc}
+use Rattle.chl_words.specs.declared.asked.By.TheVariants.{Plant, Lcc, Gll}
 use Rattle.chl_words.specs.declared.asked.Asked.{Asked}
-use Rattle.chl_words.specs.declared.asked.Asked.TheVariants.{List as ListRows, Build, Solve, Query, Path, Audit, Degree}
+use Rattle.chl_words.specs.declared.asked.Asked.TheVariants.{List as ListRows, Build, Solve, Query, Path, Audit, Degree, Grid}
 
 -- what each option has as its value, if any
 abbrev pub Values : Type 0
 Values = Text → Option Text
 
--- one step behind another, where it has a value
+-- one step after another, where it has a value
 infixl 20 ◌>>=◌
 abbrev pub ◌>>=◌ : {A B : Type 0} → Option A → (A → Option B) → Option B
 value >>= next = option_and_then next value
 
 -- the construction that a word names
 abbrev pub construction_of : Text → Option By
-construction_of word = if bytes_eq word (codes "plant") then Some Plant else (if bytes_eq word (codes "lcc") then Some Lcc else None)
+construction_of word =
+    if bytes_eq word (codes "plant") then Some Plant
+    else (if bytes_eq word (codes "lcc") then Some Lcc
+    else (if bytes_eq word (codes "gll") then Some Gll else None))
 
 -- the number below 2^32 that a word is: digits, which may have zeros or one plus in front
 abbrev pub any_number_of : Text → Option ℕ
@@ -30,13 +33,13 @@ any_number_of word =
     let digits = without_leading_plus word in
     if is_numeral digits && nat_lt (digits_value 10 digits) (2 ^ 32) then Some (digits_value 10 digits) else None
 
--- the number, where it is from 1 to the limit
-abbrev pub within : ℕ → ℕ → Option ℕ
-within most n = if nat_le 1 n && nat_le n most then Some n else None
+-- the number, where it is between two limits
+abbrev pub within : ℕ → ℕ → ℕ → Option ℕ
+within least most n = if nat_le least n && nat_le n most then Some n else None
 
--- the number from 1 to the limit that a word is
-abbrev pub number_of : ℕ → Text → Option ℕ
-number_of most word = any_number_of word >>= within most
+-- the number between two limits that a word is
+abbrev pub number_of : ℕ → ℕ → Text → Option ℕ
+number_of least most word = any_number_of word >>= within least most
 
 -- how many workers there may be, and how many roots one may take at a time
 abbrev pub most_workers : ℕ
@@ -45,12 +48,19 @@ most_workers = 64
 abbrev pub most_roots : ℕ
 most_roots = 2 ^ 30
 
+-- how long the side of a grid may be, and how great the seed of its weights
+abbrev pub longest_side : ℕ
+longest_side = 256
+
+abbrev pub greatest_seed : ℕ
+greatest_seed = 2147483647
+
 -- how an index is to be built, by the options that may be left out
 abbrev pub building_of : Values → Option Building
 building_of value =
     value (codes "by") >>= construction_of
-    >>= λ by. value (codes "workers") >>= number_of most_workers
-    >>= λ workers. value (codes "cut") >>= number_of most_roots
+    >>= λ by. value (codes "workers") >>= number_of 1 most_workers
+    >>= λ workers. value (codes "cut") >>= number_of 1 most_roots
     >>= λ cut. Some (record { by = by; workers = workers; cut = cut })
 
 -- what each command asks for, by the values of its options
@@ -75,6 +85,13 @@ audit_of value = value (codes "graph") >>= λ graph. value (codes "order") >>= �
 abbrev pub degree_of : Values → Option Asked
 degree_of value = value (codes "graph") >>= λ graph. Some (Degree graph)
 
+abbrev pub grid_of : Values → Option Asked
+grid_of value =
+    value (codes "side") >>= number_of 1 longest_side
+    >>= λ side. value (codes "seed") >>= number_of 0 greatest_seed
+    >>= λ seed. value (codes "workers") >>= number_of 1 most_workers
+    >>= λ workers. Some (Grid side seed workers)
+
 -- what the command of this name asks for
 abbrev pub asked_of : Text → Values → Option Asked
 asked_of name value =
@@ -85,7 +102,8 @@ asked_of name value =
     else (if bytes_eq name (codes "path") then path_of value
     else (if bytes_eq name (codes "audit") then audit_of value
     else (if bytes_eq name (codes "degree") then degree_of value
-    else None))))))
+    else (if bytes_eq name (codes "grid") then grid_of value
+    else None)))))))
 
 -- the values of the options in what was found
 abbrev pub values_in : List Row → Values
@@ -109,8 +127,13 @@ asked_by words = unless_refused (fault_of program words) (asked_in (subcommand_o
 abbrev pub AreWithinLimits : ℕ → ℕ → Type 0
 AreWithinLimits workers cut = (1 ≤ workers) × (workers ≤ most_workers) × (1 ≤ cut) × (cut ≤ most_roots)
 
+-- the side of a grid, its seed and the number of workers are
+abbrev pub IsGridWithinLimits : ℕ → ℕ → ℕ → Type 0
+IsGridWithinLimits side seed workers = (1 ≤ side) × (side ≤ longest_side) × (seed ≤ greatest_seed) × (1 ≤ workers) × (workers ≤ most_workers)
+
 -- those of a command are
 abbrev pub IsWithinLimits : Asked → Type 0
 IsWithinLimits (Build graph order out by workers cut) = AreWithinLimits workers cut
 IsWithinLimits (Solve graph order pairs by workers cut) = AreWithinLimits workers cut
+IsWithinLimits (Grid side seed workers) = IsGridWithinLimits side seed workers
 IsWithinLimits asked = Unit {0}

@@ -17,12 +17,12 @@ CommandsAreJudgedByTheirUses = (program : Text) (s : Shape) (uses : List Use) �
 abbrev pub NoCommandIsNone : Type 0
 NoCommandIsNone = (asked_by [] ≡ None) × ((program : Text) → asked_by (program ∷ []) ≡ None)
 
--- a word that does not begin with a dash, behind uses, is stray: whatever follows, the words ask for nothing
+-- a word that does not begin with a dash, after uses, is stray: whatever follows, the words ask for nothing
 abbrev pub StrayWordsAreNoCommand : Type 0
 StrayWordsAreNoCommand = (program : Text) (s : Shape) (uses : List Use) (word : Text) (rest : List Text) → Contains commands s → AreTyped uses → begins_with_dash word ≡ false
     → asked_by (program ∷ s.name ∷ (words_of uses ++ word ∷ rest)) ≡ None
 
--- where the first word behind the program's name is no command's name, as `help`, `--help` and `-h`, the words ask for nothing,
+-- where the first word after the program's name is no command's name, as `help`, `--help` and `-h`, the words ask for nothing,
 -- whatever follows
 abbrev pub UnknownCommandsAreNone : Type 0
 UnknownCommandsAreNone = (program name : Text) (rest : List Text) → list_any (λ s. bytes_eq s.name name) commands ≡ false → asked_by (program ∷ name ∷ rest) ≡ None

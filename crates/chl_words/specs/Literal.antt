@@ -21,6 +21,10 @@ file name = record (option_named name) { required = true }
 abbrev pub construction : Rule
 construction = record (option_named (codes "by")) { defaults = codes "plant" ∷ [] }
 
+-- one that must be there, with a number between two limits
+abbrev pub number_needed : Text → ℕ → ℕ → Rule
+number_needed name least most = record (option_named name) { parser = Some (Unsigned least most); required = true }
+
 -- one with a number from 1 to a limit, and this number where it is left out
 abbrev pub number : Text → ℕ → Text → Rule
 number name most default = record (option_named name) { parser = Some (Unsigned 1 most); defaults = default ∷ [] }
@@ -55,8 +59,11 @@ audit = command (codes "audit") (file (codes "graph") ∷ file (codes "order") �
 abbrev pub degree : Shape
 degree = command (codes "degree") (file (codes "graph") ∷ [])
 
+abbrev pub grid : Shape
+grid = command (codes "grid") (number_needed (codes "side") 1 256 ∷ number_needed (codes "seed") 0 2147483647 ∷ number (codes "workers") 64 (codes "1") ∷ [])
+
 abbrev pub commands : List Shape
-commands = list ∷ build ∷ solve ∷ query ∷ path ∷ audit ∷ degree ∷ []
+commands = list ∷ build ∷ solve ∷ query ∷ path ∷ audit ∷ degree ∷ grid ∷ []
 
 -- the program: it takes one of its commands, and has no help
 abbrev pub program : App

@@ -42,6 +42,8 @@ pub enum By {
     Plant,
     /// Pruned trees: each root prunes its tree by the rows that stand already, and the rows are cleaned in the end.
     Lcc,
+    /// Pruned trees in supersteps: each superstep cleans its own entries, and the next one reads what is clean.
+    Gll,
 }
 
 /// What a command line asks for.
@@ -95,6 +97,15 @@ pub enum Asked {
     /// Print the order of a graph's nodes by falling degree.
     Degree {
         graph: Name,
+    },
+    /// Print what the index of a square grid comes to by each construction, under the order by falling degree.
+    Grid {
+        /// How many rows and columns the grid has: 1..256.
+        side: u32,
+        /// What its weights come from: 0..2^31-1.
+        seed: u32,
+        /// How many workers build: 1..64.
+        workers: u32,
     },
 }
 

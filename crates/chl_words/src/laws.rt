@@ -13,12 +13,12 @@ pub fn no_command_is_none()
     ensures { NoCommandIsNone }
 {}
 
-/// A word that does not begin with a dash, behind uses, is stray: whatever follows, the words ask for nothing.
+/// A word that does not begin with a dash, after uses, is stray: whatever follows, the words ask for nothing.
 pub fn stray_words_are_no_command()
     ensures { StrayWordsAreNoCommand }
 {}
 
-/// Where the first word behind the program's name is no command's name, as `help`, `--help` and `-h`, the words ask for
+/// Where the first word after the program's name is no command's name, as `help`, `--help` and `-h`, the words ask for
 /// nothing, whatever follows.
 pub fn unknown_commands_are_none()
     ensures { UnknownCommandsAreNone }

@@ -15,6 +15,12 @@ pub const MOST_WORKERS: u32 = 64;
 /// The most roots that a worker may take at a time.
 pub const MOST_ROOTS: u32 = 1 << 30;
 
+/// The longest side of a grid.
+pub const LONGEST_SIDE: u32 = 256;
+
+/// The greatest seed of a grid's weights.
+pub const GREATEST_SEED: u32 = (1 << 31) - 1;
+
 /// How many roots a worker takes at a time, where the command line doesn't say.
 const USUAL_ROOTS: &str = "1024";
 
@@ -32,7 +38,8 @@ pub fn program<'a>(alloc: Global) -> Result<Command<'a>, AllocError>
         .subcommand(query(alloc)?)?
         .subcommand(path(alloc)?)?
         .subcommand(audit(alloc)?)?
-        .subcommand(degree(alloc)?)
+        .subcommand(degree(alloc)?)?
+        .subcommand(grid(alloc)?)
 }
 
 fn list<'a>(alloc: Global) -> Result<Command<'a>, AllocError>
@@ -99,6 +106,15 @@ fn degree<'a>(alloc: Global) -> Result<Command<'a>, AllocError>
     Command::new(alloc, "degree").arg(file(alloc, "graph"))
 }
 
+fn grid<'a>(alloc: Global) -> Result<Command<'a>, AllocError>
+    ensures { IfOk result (IsProgram (command_alone literal.grid)) }
+{
+    Command::new(alloc, "grid")
+        .arg(number_needed(alloc, "side", 1, LONGEST_SIDE))?
+        .arg(number_needed(alloc, "seed", 0, GREATEST_SEED))?
+        .arg(number(alloc, "workers", MOST_WORKERS, "1"))
+}
+
 /// An option that must be there, with the name of a file.
 fn file<'a>(alloc: Global, name: &'a str) -> Arg<'a>
     ensures { IsOption (literal.file name.entry.now) result }
@@ -111,6 +127,16 @@ fn construction<'a>(alloc: Global) -> Arg<'a>
     ensures { IsOption literal.construction result }
 {
     Arg::new(alloc, "by").long("by").default_value("plant")
+}
+
+/// An option that must be there, with a number between two limits.
+fn number_needed<'a>(alloc: Global, name: &'a str, least: u32, most: u32) -> Arg<'a>
+    ensures { IsOption (literal.number_needed name.entry.now least most) result }
+{
+    Arg::new(alloc, name)
+        .long(name)
+        .required(true)
+        .value_parser(ValueParser::unsigned(u64::from(least), u64::from(most)))
 }
 
 /// An option with a number from 1 to a limit, and this number where it is left out.

@@ -1,12 +1,12 @@
 ghost use Rattle.std.specs.Prelude.{◌≡◌, ◌≢◌, ◌≤◌, ℕ, List, Option, Some, None, codes, map, string_bytes, option_and_then, IfOk, IfErr, IfSome, IfNone};
 ghost use Rattle.clap.specs.Words.{found_of, kind_of, rows_of, subcommand_rows_of};
 ghost use Rattle.clap.specs.declared.error.kind.ErrorKind.TheVariants.{OutOfMemory};
-ghost use Rattle.chl_words.specs.Asking.{AreWithinLimits, IsWithinLimits, any_number_of, asked_in, asked_of, audit_of, build_of, building_of, asked_by, construction_of, degree_of, list_of, number_of, path_of, query_of, solve_of, values_in, within};
+ghost use Rattle.chl_words.specs.Asking.{AreWithinLimits, IsWithinLimits, any_number_of, asked_in, asked_of, audit_of, build_of, building_of, asked_by, construction_of, degree_of, grid_of, list_of, number_of, path_of, query_of, solve_of, values_in, within};
 ghost use Rattle.chl_words.specs.Reading.{IsRead};
 ghost use Rattle.chl_words.specs.declared.asked.AskFault.TheVariants.{Usage};
 
 use crate::asked::{AskFault, Asked, By, Name};
-use crate::literal::{MOST_ROOTS, MOST_WORKERS, program};
+use crate::literal::{GREATEST_SEED, LONGEST_SIDE, MOST_ROOTS, MOST_WORKERS, program};
 use clap::error::ErrorKind;
 use clap::{ArgMatches, Error};
 use std::alloc::Global;
@@ -67,6 +67,7 @@ fn read_command(alloc: Global, name: &str, found: &ArgMatches<'_>) -> Result<Ask
         "path" => read_path(alloc, found),
         "audit" => read_audit(alloc, found),
         "degree" => read_degree(alloc, found),
+        "grid" => read_grid(found),
         _ => Err(AskFault::Usage),
     }
 }
@@ -161,6 +162,20 @@ fn read_degree(alloc: Global, found: &ArgMatches<'_>) -> Result<Asked, AskFault>
     Ok(Asked::Degree { graph })
 }
 
+fn read_grid(found: &ArgMatches<'_>) -> Result<Asked, AskFault>
+    ensures read { IsRead (grid_of (values_in (rows_of (found_of found.now)))) result }
+    ensures limits { IfOk result IsWithinLimits }
+{
+    let side = number(found, "side", 1, LONGEST_SIDE)?;
+    let seed = number(found, "seed", 0, GREATEST_SEED)?;
+    let workers = number(found, "workers", 1, MOST_WORKERS)?;
+    Ok(Asked::Grid {
+        side,
+        seed,
+        workers,
+    })
+}
+
 /// The name of the file that this option has.
 fn file(alloc: Global, found: &ArgMatches<'_>, option: &str) -> Result<Name, AskFault>
     ensures { IsRead (values_in (rows_of (found_of found.now)) option.now) result }
@@ -177,8 +192,8 @@ fn read_building(found: &ArgMatches<'_>) -> Result<Building, AskFault>
     ensures limits { IfOk result (λ built. AreWithinLimits built.workers built.cut) }
 {
     let by = construction(found)?;
-    let workers = number(found, "workers", MOST_WORKERS)?;
-    let cut = number(found, "cut", MOST_ROOTS)?;
+    let workers = number(found, "workers", 1, MOST_WORKERS)?;
+    let cut = number(found, "cut", 1, MOST_ROOTS)?;
     Ok(Building { by, workers, cut })
 }
 
@@ -195,15 +210,15 @@ fn construction(found: &ArgMatches<'_>) -> Result<By, AskFault>
     }
 }
 
-/// The number that this option has.
-fn number(found: &ArgMatches<'_>, option: &str, most: u32) -> Result<u32, AskFault>
-    ensures read { IsRead (option_and_then (number_of most) (values_in (rows_of (found_of found.now)) option.now)) result }
-    ensures limits { IfOk result (λ n. (1 ≤ n) × (n ≤ most)) }
+/// The number that this option has, between two limits.
+fn number(found: &ArgMatches<'_>, option: &str, least: u32, most: u32) -> Result<u32, AskFault>
+    ensures read { IsRead (option_and_then (number_of least most) (values_in (rows_of (found_of found.now)) option.now)) result }
+    ensures limits { IfOk result (λ n. (least ≤ n) × (n ≤ most)) }
 {
     let Some(text) = value(found, option) else {
         return Err(AskFault::Usage);
     };
-    match number_of(text, most) {
+    match number_of(text, least, most) {
         Some(number) => Ok(number),
         None => Err(AskFault::Usage),
     }
@@ -227,26 +242,29 @@ fn construction_named(word: &str) -> Option<By>
     if word == "lcc" {
         return Some(By::Lcc);
     }
+    if word == "gll" {
+        return Some(By::Gll);
+    }
     None
 }
 
-/// The number from 1 to the limit that a word is.
-fn number_of(word: &str, most: u32) -> Option<u32>
-    ensures value { result ≡ number_of most word.now }
-    ensures limits { IfSome result (λ n. (1 ≤ n) × (n ≤ most)) }
+/// The number between two limits that a word is.
+fn number_of(word: &str, least: u32, most: u32) -> Option<u32>
+    ensures value { result ≡ number_of least most word.now }
+    ensures limits { IfSome result (λ n. (least ≤ n) × (n ≤ most)) }
 {
     match any_number_of(word) {
-        Some(number) => within(number, most),
+        Some(number) => within(number, least, most),
         None => None,
     }
 }
 
-/// The number, where it is from 1 to the limit.
-fn within(number: u32, most: u32) -> Option<u32>
-    ensures value { result ≡ within most number }
-    ensures limits { IfSome result (λ n. (1 ≤ n) × (n ≤ most)) }
+/// The number, where it is between two limits.
+fn within(number: u32, least: u32, most: u32) -> Option<u32>
+    ensures value { result ≡ within least most number }
+    ensures limits { IfSome result (λ n. (least ≤ n) × (n ≤ most)) }
 {
-    if 1 <= number && number <= most {
+    if least <= number && number <= most {
         Some(number)
     } else {
         None

@@ -64,6 +64,13 @@ fn told(alloc: Global, words: &[String]) -> Result<String, AllocError> {
             },
         ) => format!(in alloc; "audit {} {} {}", graph.text(), order.text(), index.text()),
         Ok(Asked::Degree { graph }) => format!(in alloc; "degree {}", graph.text()),
+        Ok(
+            Asked::Grid {
+                side,
+                seed,
+                workers,
+            },
+        ) => format!(in alloc; "grid {side} {seed} {workers}"),
         Err(AskFault::Usage) => String::from_str(alloc, "usage"),
         Err(AskFault::NoMemory) => String::from_str(alloc, "no memory"),
     }
@@ -87,7 +94,7 @@ struct Row(
     &'static str,
 );
 
-const ROWS: [Row; 7] = [
+const ROWS: [Row; 8] = [
     Row("list", &[("graph", "g"), ("order", "o")], 2, "list g o"),
     Row(
         "build",
@@ -129,6 +136,12 @@ const ROWS: [Row; 7] = [
         "audit g o x",
     ),
     Row("degree", &[("graph", "g")], 1, "degree g"),
+    Row(
+        "grid",
+        &[("side", "256"), ("seed", "2147483647"), ("workers", "4")],
+        2,
+        "grid 256 2147483647 4",
+    ),
 ];
 
 /// The words of an option, in one of its two forms.
@@ -212,7 +225,7 @@ fn required_options_are_there_and_none_comes_twice(rt: HostRuntime) -> Result<()
 }
 
 /// A line, and what it asks for.
-const LINES: [(&str, &str); 45] = [
+const LINES: [(&str, &str); 52] = [
     ("chl list --order=o --graph g", "list g o"),
     (
         "chl build --graph g --order o --out x",
@@ -254,7 +267,11 @@ const LINES: [(&str, &str); 45] = [
     ),
     ("chl build --graph g --order o --out x --cut -5", "usage"),
     ("chl build --graph g --order o --out x --cut 5x", "usage"),
-    ("chl build --graph g --order o --out x --by gll", "usage"),
+    (
+        "chl build --graph g --order o --out x --by gll",
+        "build g o x Gll 1 1024",
+    ),
+    ("chl build --graph g --order o --out x --by GLL", "usage"),
     ("chl build --graph g --order o --out x --by=", "usage"),
     ("chl build --graph g", "usage"),
     ("chl build --graph --order o --out x", "usage"),
@@ -280,7 +297,13 @@ const LINES: [(&str, &str); 45] = [
     ("chl --graph g degree", "usage"),
     ("chl -- degree --graph g", "usage"),
     ("chl degrees --graph g", "usage"),
-    ("chl grid --side 2 --seed 1", "usage"),
+    ("chl grid --side 2 --seed 1", "grid 2 1 1"),
+    ("chl grid --seed=0 --side=1", "grid 1 0 1"),
+    ("chl grid --side 0 --seed 1", "usage"),
+    ("chl grid --side 257 --seed 1", "usage"),
+    ("chl grid --side 2 --seed 2147483648", "usage"),
+    ("chl grid --side 2 --seed 1 --workers 65", "usage"),
+    ("chl grid --side 2 --seed 1 --cut 1", "usage"),
     ("chl --help", "usage"),
     ("chl -h", "usage"),
     ("chl help", "usage"),

@@ -64,6 +64,10 @@ fn one_file_for_all_workers(rt: HostRuntime) -> Result<(), Fail> {
         "chl build --graph g --order o --out x --by lcc --workers 1 --cut 1",
         "chl build --graph g --order o --out x --by lcc --workers 2 --cut 1",
         "chl build --graph g --order o --out x --by lcc --workers 64 --cut 1",
+        "chl build --graph g --order o --out x --by gll --workers 1 --cut 1",
+        "chl build --graph g --order o --out x --by gll --workers 2 --cut 1",
+        "chl build --graph g --order o --out x --by gll --workers 64 --cut 1",
+        "chl build --graph g --order o --out x --by gll --cut 1073741824",
     ] {
         desk.put_file(
             "x",
@@ -102,7 +106,7 @@ pub fn order_by_steps(alloc: Global) -> Result<String, AllocError> {
     Ok(text)
 }
 
-/// Both constructions give one file for the town and for a grid.
+/// All constructions give one file for the town and for a grid.
 #[test]
 fn one_file_for_all_constructions(rt: HostRuntime) -> Result<(), Fail> {
     let grid = grid_of_side_6(rt.alloc())?;
@@ -111,21 +115,20 @@ fn one_file_for_all_constructions(rt: HostRuntime) -> Result<(), Fail> {
         let mut desk = desk_of(rt.alloc(), 4096, &[], graph, order)?;
         expect(&rt, &mut desk, BUILD, "chl: done", "")?;
         let planted = hex_of(rt.alloc(), &desk, "x")?;
-        expect(
-            &rt,
-            &mut desk,
+        for words in [
             "chl build --graph g --order o --out x --by lcc",
-            "chl: done",
-            "",
-        )?;
-        assert_eq!(rt; hex_of(rt.alloc(), &desk, "x")?.as_str(), planted.as_str());
+            "chl build --graph g --order o --out x --by gll --cut 2",
+        ] {
+            expect(&rt, &mut desk, words, "chl: done", "")?;
+            assert_eq!(rt; hex_of(rt.alloc(), &desk, "x")?.as_str(), planted.as_str());
+        }
     }
     Ok(())
 }
 
-/// A failed write leaves a front of the bytes, a failed create no file, and a second run writes them all.
+/// A failed write leaves a prefix of the bytes, a failed create no file, and a second run writes them all.
 #[test]
-fn failed_writes_leave_a_front(rt: HostRuntime) -> Result<(), Fail> {
+fn failed_writes_leave_a_prefix(rt: HostRuntime) -> Result<(), Fail> {
     let mut desk = desk_of(rt.alloc(), 40, &[(Call::Write, 3)], PATH, PATH_ORDER)?;
     expect(&rt, &mut desk, BUILD, "chl: write failed", "")?;
     assert_eq!(rt; hex_of(rt.alloc(), &desk, "x")?.len(), 160);

@@ -33,7 +33,7 @@ pub fn index_file(alloc: Global, nodes: &[u32], rows: &[Row]) -> Result<Vec<u8>,
 }
 
 /// The first 150 of the 152 bytes of the square's index file.
-pub fn index_front(alloc: Global) -> Result<Vec<u8>, AllocError> {
+pub fn index_prefix(alloc: Global) -> Result<Vec<u8>, AllocError> {
     let mut bytes = index_file(alloc, &ROUND, &SQUARE_ROWS)?;
     bytes.truncate(150);
     Ok(bytes)
@@ -185,7 +185,7 @@ fn each_change_of_the_square_is_found(rt: HostRuntime) -> Result<(), Fail> {
 }
 
 /// The index of the town is its own. Faults of the order come before those of the index, and these before what differs; a
-/// failed call leaves a front of the line.
+/// failed call leaves a prefix of the line.
 #[test]
 fn a_built_index_is_the_same(rt: HostRuntime) -> Result<(), Fail> {
     let mut desk = desk_of(rt.alloc(), 4096, &[], TOWN, TOWN_ORDER)?;
@@ -194,7 +194,7 @@ fn a_built_index_is_the_same(rt: HostRuntime) -> Result<(), Fail> {
     expect(&rt, &mut desk, AUDIT, "chl: done", "same\n")?;
     let mut desk = desk_of(rt.alloc(), 4, &[(Call::Say, 2)], SQUARE, "1\n1\n")?;
     let bytes = index_file(rt.alloc(), &ROUND, &SQUARE_ROWS)?;
-    desk.put_file("x", &index_front(rt.alloc())?)?;
+    desk.put_file("x", &index_prefix(rt.alloc())?)?;
     let line = "chl: order line 2: repeated node 1";
     expect(&rt, &mut desk, AUDIT, line, "")?;
     desk.put_file("o", b"2\n1\n3\n4\n")?;

@@ -54,7 +54,7 @@ fn words_and_names_are_judged(rt: HostRuntime) -> Result<(), Fail> {
             "chl: usage",
         ),
         (
-            "chl build --graph g --order o --out x --by gll",
+            "chl build --graph g --order o --out x --by pll",
             "chl: usage",
         ),
         ("chl build --graph g --order o --out x --cut", "chl: usage"),

@@ -207,7 +207,7 @@ fn index_files_are_judged(rt: HostRuntime) -> Result<(), Fail> {
     expect_of_index(&rt, &bytes, "chl: index: short 95", "")
 }
 
-/// Faults of the graph and its overflow come before those of the pairs, and no failed call leaves more than a front.
+/// Faults of the graph and its overflow come before those of the pairs, and no failed call leaves more than a prefix.
 #[test]
 fn pairs_come_last(rt: HostRuntime) -> Result<(), Fail> {
     let mut desk = desk_of(

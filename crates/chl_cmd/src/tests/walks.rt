@@ -1,5 +1,5 @@
 //! Walks by index files, each of which the reader accepts.
-use super::audits::{ROUND, ROUND_ORDER, Row, SQUARE_ROWS, index_file, index_front};
+use super::audits::{ROUND, ROUND_ORDER, Row, SQUARE_ROWS, index_file, index_prefix};
 use super::*;
 
 const WALKS: &str = "chl path --graph g --index x --pairs p";
@@ -154,12 +154,12 @@ fn an_index_of_another_graph_is_stuck(rt: HostRuntime) -> Result<(), Fail> {
     Ok(())
 }
 
-/// Faults of the graph come before those of the index, these before sizes, and a failed call leaves a front of the lines.
+/// Faults of the graph come before those of the index, these before sizes, and a failed call leaves a prefix of the lines.
 #[test]
-fn a_failed_say_leaves_a_front(rt: HostRuntime) -> Result<(), Fail> {
+fn a_failed_say_leaves_a_prefix(rt: HostRuntime) -> Result<(), Fail> {
     let mut desk = desk_of(rt.alloc(), 4, &[(Call::Say, 2)], "p sp 3\n", "")?;
     let index = index_file(rt.alloc(), &ROUND, &SQUARE_ROWS)?;
-    desk.put_file("x", &index_front(rt.alloc())?)?;
+    desk.put_file("x", &index_prefix(rt.alloc())?)?;
     desk.put_file("p", b"p aux sp p2p 1\nq 2 4\n")?;
     expect(&rt, &mut desk, WALKS, "chl: graph line 1: bad field", "")?;
     desk.put_file("g", PATH.as_bytes())?;

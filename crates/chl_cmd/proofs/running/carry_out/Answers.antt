@@ -2,7 +2,7 @@ use Rattle.std.proofs.Common.{◌≡◌, ◌∙◌, ap, subst, sym}
 use Rattle.std.specs.Prelude.{Err}
 use Rattle.std.specs.Option.{option_copied}
 use Rattle.desk_io.specs.Contents.{Tells}
-use Rattle.chl_cmd.specs.Outcome.{given, GivesFront, Runs}
+use Rattle.chl_cmd.specs.Outcome.{given, GivesPrefix, Runs}
 use Rattle.chl_cmd.proofs.WaysToEnd.{runs_done, runs_failed, runs_lost, runs_stopped}
 use Rattle.chl_cmd.proofs.running.carry_out.Goals as goal
 
@@ -16,16 +16,16 @@ returns-in-Ok-give-clause-runs g c =
 pub returns-in-Err-Failed-clause-runs : goal.returns-in-Err-Failed-clause-runs
 returns-in-Err-Failed-clause-runs g c =
     let gave = c.in-Err-Failed.ensures in
-    let bytes = subst (λ bs. Tells (g.D.Desk.told c.output.new.desk) (g.D.Desk.told c.give.new.desk) (GivesFront (option_copied c.out_file.result) bs)) c.deref.ensures.value gave.err in
-    let front = subst (λ p. Tells (g.D.Desk.told c.output.new.desk) (g.D.Desk.told c.give.new.desk) (GivesFront p c.in-Ok.bytes.items)) c.out_file.ensures bytes in
+    let bytes = subst (λ bs. Tells (g.D.Desk.told c.output.new.desk) (g.D.Desk.told c.give.new.desk) (GivesPrefix (option_copied c.out_file.result) bs)) c.deref.ensures.value gave.err in
+    let front = subst (λ p. Tells (g.D.Desk.told c.output.new.desk) (g.D.Desk.told c.give.new.desk) (GivesPrefix p c.in-Ok.bytes.items)) c.out_file.ensures bytes in
     runs_failed c.args.asked.now c.in-Ok.ensures (λ none. gave.no_place (c.out_file.ensures ∙ none)) gave.input_count front
     (λ steady. gave.steady steady (ap Err c.in-Err-Failed.field-0-is)) (rw c.in-Err-Failed.field-0-is at gave.output_count)
 
 pub returns-in-Ok-clause-runs : goal.returns-in-Ok-clause-runs
 returns-in-Ok-clause-runs g c =
     let gave = c.in-Err-NoMemory.ensures in
-    let bytes = subst (λ bs. Tells (g.D.Desk.told c.output.new.desk) (g.D.Desk.told c.give.new.desk) (GivesFront (option_copied c.out_file.result) bs)) c.deref.ensures.value gave.err in
-    let front = subst (λ p. Tells (g.D.Desk.told c.output.new.desk) (g.D.Desk.told c.give.new.desk) (GivesFront p c.in-Ok.bytes.items)) c.out_file.ensures bytes in
+    let bytes = subst (λ bs. Tells (g.D.Desk.told c.output.new.desk) (g.D.Desk.told c.give.new.desk) (GivesPrefix (option_copied c.out_file.result) bs)) c.deref.ensures.value gave.err in
+    let front = subst (λ p. Tells (g.D.Desk.told c.output.new.desk) (g.D.Desk.told c.give.new.desk) (GivesPrefix p c.in-Ok.bytes.items)) c.out_file.ensures bytes in
     runs_lost c.args.asked.now c.in-Ok.ensures (λ none. gave.no_place (c.out_file.ensures ∙ none)) gave.input_count front (rw c.in-Err-NoMemory.field-0-is at gave.output_count)
 
 pub returns-clause-runs : goal.returns-clause-runs

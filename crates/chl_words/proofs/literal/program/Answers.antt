@@ -30,4 +30,5 @@ returns c =
     let four = with_command _ _ _ _ _ three c.in_ok-query.ensures c.in_ok-subcommand-4.ensures in
     let five = with_command _ _ _ _ _ four c.in_ok-path.ensures c.in_ok-subcommand-5.ensures in
     let six = with_command _ _ _ _ _ five c.in_ok-audit.ensures c.in_ok-subcommand-6.ensures in
-    IfOk-weaker c.subcommand-7.result _ (IsProgram literal.program) (λ r adds. with_command _ _ _ _ _ six c.in_ok-degree.ensures adds) c.subcommand-7.ensures
+    let seven = with_command _ _ _ _ _ six c.in_ok-degree.ensures c.in_ok-subcommand-7.ensures in
+    IfOk-weaker c.subcommand-8.result _ (IsProgram literal.program) (λ r adds. with_command _ _ _ _ _ seven c.in_ok-grid.ensures adds) c.subcommand-8.ensures
