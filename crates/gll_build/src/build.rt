@@ -8,15 +8,15 @@ use desk_io::Gate;
 use hub_index::{Index, RowList};
 use label_clean::laws::the_whole_is_the_labelling;
 use rank_table::Ranking;
+use renumbering::WorkingCopy;
 use std::alloc::{AllocError, Global};
 use std::sync::Wait;
 use std::thread::Threads;
 use walk_laws::Graph;
-use walk_laws::laws::the_lightest_edges_keep_the_labelling;
 
-/// The index of the canonical hub labelling of a graph under a ranking of its nodes. It begins with the edges that matter: of
-/// those between two nodes the lightest. Then it goes on by supersteps until no root is left. The gate is told of each root
-/// when its tree begins and when it ends. The only error is that memory ran out.
+/// The index of the canonical hub labelling of a graph under a ranking of its nodes. It begins with a copy of both in which
+/// neighbours stand near one another ([`WorkingCopy`]). Then it goes on by supersteps until no root is left. The gate is told
+/// of each root when its tree begins and when it ends. The only error is that memory ran out.
 pub fn build_gll<R: Threads + Wait + Sync, G: Gate + Sync>(
     rt: &R,
     alloc: Global,
@@ -34,15 +34,10 @@ pub fn build_gll<R: Threads + Wait + Sync, G: Gate + Sync>(
     ensures order { IfOk result (λ index. index.order ≡ ranking.now) }
     ensures labelling { IfOk result (λ index. IsChl (Joined graph.now.edges) ranking.now index.rows) }
 {
-    let n = graph.n();
-    let ranked = ranking.n();
-    prove!(n == ranked);
-    let order = ranking.copy(alloc)?;
-    let light = graph.lightest(alloc)?;
-    let rows = all_steps(rt, alloc, &light, ranking, workers, cut, gate)?;
+    let copy = WorkingCopy::new(alloc, graph, ranking)?;
+    let rows = all_steps(rt, alloc, &copy.graph, &copy.ranking, workers, cut, gate)?;
     the_whole_is_the_labelling();
-    the_lightest_edges_keep_the_labelling();
-    Ok(Index::new(order, rows))
+    copy.index(alloc, graph, ranking, rows)
 }
 
 /// The rows that all supersteps come to.
