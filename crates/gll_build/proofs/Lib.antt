@@ -1,4 +1,5 @@
 pub mod DoneShares
+pub mod EmptyTables
 pub mod FreshEntries
 pub mod Harvests
 pub mod PutBy

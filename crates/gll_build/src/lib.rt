@@ -11,6 +11,8 @@
 mod build;
 mod share;
 mod step;
+#[cfg(test)]
+mod tests;
 mod workers;
 
 pub use build::{build_gll, superstep};

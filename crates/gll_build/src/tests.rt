@@ -1,0 +1,131 @@
+ghost use Rattle.std.specs.Prelude.{◌≡◌, ◌<◌, ◌≤◌, ◌^◌, length, IfOk};
+ghost use Rattle.walk_laws.specs.Worked.{first_four, square as square_edges};
+ghost use Rattle.label_clean.specs.Below.{IsChlBelow};
+
+use crate::{build_gll, superstep};
+use desk_io::FreeGate;
+use hub_index::RowList;
+use rank_table::Ranking;
+use std::alloc::Global;
+use std::process::Abort;
+use std::sync::Wait;
+use std::test::Fail;
+use std::thread::Threads;
+use walk_laws::{Edge, Entry, Graph};
+
+fn entry(pos: u32, dist: u64) -> Entry {
+    Entry { pos, dist }
+}
+
+/// The square 1-2-3-4-1, each side of weight 1.
+fn square(alloc: Global) -> Result<Graph, Fail>
+    ensures n { IfOk result (λ graph. graph.n ≡ 4) }
+    ensures edges { IfOk result (λ graph. graph.edges ≡ square_edges) }
+{
+    let edges = vec![in alloc;
+        Edge { u: 1, v: 2, w: 1 },
+        Edge { u: 2, v: 3, w: 1 },
+        Edge { u: 3, v: 4, w: 1 },
+        Edge { u: 4, v: 1, w: 1 },
+    ]?;
+    Ok(Graph::new(alloc, 4, edges)?)
+}
+
+/// The ranking in which a smaller number ranks higher.
+fn one_to_four(alloc: Global) -> Result<Ranking, Fail>
+    ensures { IfOk result (λ ranking. ranking ≡ first_four) }
+{
+    Ok(Ranking::new(alloc, vec![in alloc; 1, 2, 3, 4]?)?)
+}
+
+/// One superstep of one worker that stops at its first entry: it takes the root `first`, and the next one is `next`.
+fn one_root<R: Abort + AllocGlobal + Threads + Wait + Sync>(
+    rt: &R,
+    graph: &Graph,
+    ranking: &Ranking,
+    global: RowList,
+    first: u32,
+    next: u32,
+) -> Result<RowList, Fail>
+    requires nodes { length ranking.now ≡ graph.now.n }
+    requires global { IsChlBelow graph.now.edges ranking.now first global }
+    requires first { first < length ranking.now }
+    ensures { IfOk result (IsChlBelow graph.now.edges ranking.now next) }
+{
+    let (rows, reached) = superstep(
+        rt,
+        rt.alloc(),
+        graph,
+        ranking,
+        global,
+        first,
+        1,
+        1,
+        &FreeGate,
+    )?;
+    assert_eq!(rt; reached, next);
+    Ok(rows)
+}
+
+/// Compares rows with those of the square under that ranking.
+fn expect_square<R: Abort>(rt: &R, rows: &[&[Entry]]) {
+    let wanted: [&[Entry]; 4] = [
+        &[entry(0, 0)],
+        &[entry(0, 1), entry(1, 0)],
+        &[entry(0, 2), entry(1, 1), entry(2, 0)],
+        &[entry(0, 1), entry(2, 1), entry(3, 0)],
+    ];
+    for (row, expected) in rows.iter().zip(&wanted) {
+        assert_eq!(rt; *row, *expected);
+    }
+}
+
+#[test]
+fn a_worker_that_stops_at_once_takes_root_by_root(rt: HostRuntime) -> Result<(), Fail> {
+    let graph = square(rt.alloc())?;
+    let ranking = one_to_four(rt.alloc())?;
+    let none = RowList::new(rt.alloc(), 4)?;
+    let rows = one_root(&rt, &graph, &ranking, none, 0, 1)?;
+    let rows = one_root(&rt, &graph, &ranking, rows, 1, 2)?;
+    let rows = one_root(&rt, &graph, &ranking, rows, 2, 3)?;
+    let rows = one_root(&rt, &graph, &ranking, rows, 3, 4)?;
+    assert_eq!(rt; rows.n(), 4);
+    expect_square(&rt, &[rows.row(1), rows.row(2), rows.row(3), rows.row(4)]);
+    Ok(())
+}
+
+/// Builds the index of the square, and compares its rows. With the cut 1 the pool has one cell a worker, and the tree of the
+/// first root alone puts four entries, so that most of them go to the rows that a worker keeps for itself.
+fn build_square<R: Abort + AllocGlobal + Threads + Wait + Sync>(
+    rt: &R,
+    workers: u32,
+    cut: u32,
+) -> Result<(), Fail>
+    requires workers_from { 1 ≤ workers }
+    requires workers_to { workers ≤ 64 }
+    requires cut_from { 1 ≤ cut }
+    requires cut_to { cut ≤ 2 ^ 30 }
+{
+    let graph = square(rt.alloc())?;
+    let ranking = one_to_four(rt.alloc())?;
+    let index = build_gll(rt, rt.alloc(), &graph, &ranking, workers, cut, &FreeGate)?;
+    assert_eq!(rt; index.n(), 4);
+    expect_square(
+        rt,
+        &[index.row(1), index.row(2), index.row(3), index.row(4)],
+    );
+    Ok(())
+}
+
+#[test]
+fn workers_and_cuts_change_no_row(rt: HostRuntime) -> Result<(), Fail> {
+    build_square(&rt, 1, 1)?;
+    build_square(&rt, 1, 2)?;
+    build_square(&rt, 1, 1024)?;
+    build_square(&rt, 2, 1)?;
+    build_square(&rt, 2, 2)?;
+    build_square(&rt, 2, 1024)?;
+    build_square(&rt, 64, 1)?;
+    build_square(&rt, 64, 2)?;
+    build_square(&rt, 64, 1024)
+}
