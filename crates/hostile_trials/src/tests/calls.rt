@@ -49,9 +49,9 @@ fn desk_of(alloc: Global, call: Call, k: u32) -> Result<MemDesk, AllocError> {
     Ok(desk)
 }
 
-/// Whether the first bytes are a front of the others.
-fn is_front(front: &[u8], whole: &[u8]) -> bool {
-    whole.get(..front.len()) == Some(front)
+/// Whether the first bytes are a prefix of the others.
+fn is_prefix(prefix: &[u8], whole: &[u8]) -> bool {
+    whole.get(..prefix.len()) == Some(prefix)
 }
 
 /// What the created file holds; None where there is none.
@@ -60,7 +60,7 @@ fn written(desk: &MemDesk) -> Option<&[u8]> {
 }
 
 /// Lets the k-th call of a kind fail, and runs the command twice on that desk: whether the first run was done. Where it was
-/// not, it ends with the fault of that kind, which is counted once, after a front of the bytes; and there is no file where
+/// not, it ends with the fault of that kind, which is counted once, after a prefix of the bytes; and there is no file where
 /// none was created. The second run gives all bytes, behind what the first has said.
 fn fails_once<R: Abort + AllocGlobal + Threads + Wait + Sync>(
     rt: &R,
@@ -77,8 +77,8 @@ fn fails_once<R: Abort + AllocGlobal + Threads + Wait + Sync>(
     if !is_done {
         assert_eq!(rt; status, wanted.0);
         assert_eq!(rt; desk.faults(), wanted.1);
-        assert!(rt; is_front(desk.said(), said.as_bytes()));
-        assert!(rt; is_front(written(&desk).unwrap_or(b""), SQUARE_FILE));
+        assert!(rt; is_prefix(desk.said(), said.as_bytes()));
+        assert!(rt; is_prefix(written(&desk).unwrap_or(b""), SQUARE_FILE));
         assert_eq!(rt; written(&desk).is_some(), fails.0 == Call::Write);
         all.extend_from_slice(desk.said())?;
         let again = status_of(rt, rt.alloc(), &words, &mut desk);
