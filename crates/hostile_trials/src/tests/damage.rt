@@ -40,7 +40,8 @@ where
     ended
 }
 
-/// A text that is refused: the number of its first faulty line, and the fault.
+/// A text that is refused: the number of its first faulty line, and the fault. Some declare so much that a reader which made
+/// room for it would find no memory.
 type BadText = (&'static str, u64, TextKind);
 
 const GRAPHS: [BadText; 12] = [
