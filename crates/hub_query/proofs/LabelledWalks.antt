@@ -1,5 +1,5 @@
 -- Where the rows are the canonical hub labelling, the walk by them is the first shortest.
-use Rattle.std.proofs.Common.{◌≡◌, ◌≢◌, ℕ, ◌+◌, ◌-◌, ◌≤◌, ◌<◌, List, [], ◌∷◌, All, length, Some, None, Option, refl, sym, ap, subst, ◌∙◌, arith}
+use Rattle.std.proofs.Common.{◌≡◌, ◌≢◌, ℕ, ◌-◌, ◌≤◌, List, [], ◌∷◌, All, length, Some, None, Option, refl, sym, subst, arith}
 use Rattle.walk_laws.specs.declared.graph.Edge.{Edge}
 use Rattle.walk_laws.specs.Graph.{WeightedGraph, IsGraph, IsEdge}
 use Rattle.walk_laws.specs.Joined.{Joined}
@@ -15,7 +15,7 @@ use Rattle.hub_index.specs.HubIndex.{HubIndex}
 use Rattle.hub_index.specs.WellFormed.{IsWellFormed}
 use Rattle.hub_query.specs.declared.path_answer.Path.{Path}
 use Rattle.hub_query.specs.declared.path_answer.Path.TheVariants.{Sizes, Unreachable, Walk, Stuck}
-use Rattle.hub_query.specs.Paths.{AreApartBy, IsOnward, IsFirstOnward, ComesTo, IsPathOf, TellsTheWalk}
+use Rattle.hub_query.specs.Paths.{AreApartBy, IsOnward, ComesTo, IsPathOf, TellsTheWalk}
 use Rattle.hub_query.proofs.Meetings.{meet_exists}
 
 module _ (edges : List Edge) (index : HubIndex) (edge : All (IsEdge (length index.order)) edges) (well : IsWellFormed index.order index.rows) (chl : IsChl (Joined edges) index.order index.rows) (v : ℕ) (v_node : 1 ≤ v) (v_within : v ≤ length index.order) where

@@ -1,8 +1,7 @@
 -- Walks by the rows of an index: how they are put together, and what they come to.
-use Rattle.std.proofs.Common.{◌≡◌, ◌≢◌, ◌⊎◌, ℕ, ◌+◌, ◌-◌, ◌≤◌, ◌<◌, List, [], ◌∷◌, ◌++◌, length, Some, refl, sym, ap, subst, ◌∙◌, inl, inr, arith}
+use Rattle.std.proofs.Common.{◌≡◌, ◌≢◌, ◌⊎◌, ℕ, ◌+◌, ◌-◌, ◌≤◌, List, [], ◌∷◌, ◌++◌, length, Some, refl, sym, ap, subst, ◌∙◌, inl, inr, arith}
 use Rattle.std.proofs.lemmas.Option.{same_Some}
 use Rattle.walk_laws.specs.declared.graph.Arc.{Arc}
-use Rattle.walk_laws.specs.Labelling.{label_row}
 use Rattle.walk_laws.specs.Walk.{Step, IsWalk, walk_length, nodes_of}
 use Rattle.walk_laws.proofs.CommonHubs.{IsMeet-unique}
 use Rattle.hub_index.specs.HubIndex.{HubIndex}

@@ -8,15 +8,14 @@ use Rattle.walk_laws.specs.Joined.{Joined}
 use Rattle.walk_laws.specs.Meet.{IsMeet}
 use Rattle.walk_laws.proofs.Arcs.{Joined-from_arcs_at, Contains-arcs_at}
 use Rattle.walk_laws.proofs.JoinedEdges.{IsEdge-joined}
-use Rattle.walk_laws.proofs.Search.{Found, Found-decided, LeastNumber, LeastNumber-below}
-use Rattle.walk_laws.proofs.CommonHubs.{IsMeet-unique}
+use Rattle.walk_laws.proofs.Search.{Found-decided, LeastNumber-below}
 use Rattle.hub_index.specs.HubIndex.{HubIndex}
 use Rattle.hub_index.specs.WellFormed.{IsWellFormed}
 use Rattle.hub_query.specs.declared.path_answer.Path.{Path}
 use Rattle.hub_query.specs.declared.path_answer.Path.TheVariants.{Sizes, Unreachable, Walk, Stuck}
 use Rattle.hub_query.specs.Paths.{AreApartBy, IsOnward, IsFirstOnward, ComesTo, IsRowWalk, IsStuckAt, IsPathOf}
 use Rattle.hub_query.proofs.Meetings.{meet_exists}
-use Rattle.hub_query.proofs.Onward.{one_rest, no_way_left, row_walk, IsLast, one_way}
+use Rattle.hub_query.proofs.Onward.{one_rest, no_way_left, row_walk, one_way}
 
 -- as far as one comes from x, by the rows
 record Farthest (J : ℕ → ℕ → ℕ → Type 0) (index : HubIndex) (v x d : ℕ) : Type 0 where

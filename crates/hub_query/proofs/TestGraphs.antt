@@ -1,7 +1,6 @@
 -- The graphs of the tests.
-use Rattle.std.proofs.Common.{ℕ, ◌≤◌, List, [], ◌∷◌, arith}
+use Rattle.std.proofs.Common.{[], ◌∷◌, arith}
 use Rattle.std.proofs.lemmas.List.Elements.{All-from_recursion}
-use Rattle.walk_laws.specs.declared.graph.Edge.{Edge}
 use Rattle.walk_laws.specs.Graph.{IsGraph, IsEdge}
 use Rattle.walk_laws.specs.Worked.{edge}
 use Rattle.hub_query.proofs.TestRows.{side}

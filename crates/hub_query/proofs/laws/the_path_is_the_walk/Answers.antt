@@ -1,4 +1,3 @@
-use Rattle.std.proofs.Common.{refl}
 use Rattle.hub_query.proofs.LabelledWalks.{path_tells}
 use Rattle.hub_query.proofs.laws.the_path_is_the_walk.Goals as goal
 

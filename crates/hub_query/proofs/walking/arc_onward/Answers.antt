@@ -1,9 +1,8 @@
-use Rattle.std.proofs.Common.{◌+◌, ◌-◌, ◌≡◌, ℕ, ◌≤◌, false, All, get_or, refl, subst, sym, arith}
+use Rattle.std.proofs.Common.{false, get_or, refl, arith}
 use Rattle.std.specs.Prelude.{IsTrue}
 use Rattle.std.proofs.lemmas.List.Elements.{All-contains, Contains-get_or}
 use Rattle.walk_laws.specs.declared.graph.Arc.{Arc}
 use Rattle.hub_index.proofs.CoveredEntries.{All-one_more, All-whole}
-use Rattle.hub_query.specs.Paths.{AreApartBy}
 use Rattle.hub_query.proofs.ArcsInOrder.{no_arc, arc_at, no_lesser}
 use Rattle.hub_query.proofs.Onward.{LeadsNowhere, as_arc}
 use Rattle.hub_query.proofs.walking.arc_onward.Goals as goal

@@ -1,8 +1,7 @@
-use Rattle.std.proofs.Common.{◌≡◌, ◌≤◌, ◌++◌, ◌∷◌, [], List, ℕ, length, ap, subst, sym, ◌∙◌, arith}
+use Rattle.std.proofs.Common.{arith}
 use Rattle.walk_laws.specs.Joined.{Joined}
 use Rattle.walk_laws.proofs.JoinedEdges.{IsEdge-joined}
-use Rattle.hub_query.specs.Paths.{IsRowWalk}
-use Rattle.hub_query.proofs.Onward.{HasCome, HasCome-start, HasCome-step, HasCome-end}
+use Rattle.hub_query.proofs.Onward.{HasCome-step, HasCome-end}
 use Rattle.hub_query.proofs.walking.walk.Goals as goal
 
 pub loop-at-preserved : goal.loop-at-preserved
