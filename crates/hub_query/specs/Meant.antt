@@ -8,7 +8,7 @@ use Rattle.hub_query.specs.declared.answer.Answer.TheVariants.{Far, Near}
 -- the distance and the hub, or None where the two nodes share no hub
 abbrev pub meant : Answer → Option (ℕ × ℕ)
 meant Far = None
-meant (Near dist hub) = Some (dist, hub)
+meant (Near hub dist) = Some (dist, hub)
 
 -- the answer is what the rows of the pair's nodes say
 abbrev pub IsMeetOf : HubIndex → ℕ × ℕ → Answer → Type 0
