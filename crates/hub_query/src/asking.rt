@@ -2,8 +2,9 @@ ghost use Rattle.std.specs.Prelude.{◌≡◌, ℕ, ◌^◌, ◌<◌, ◌≤◌,
 ghost use Rattle.std.specs.List.{AllZip};
 ghost use Rattle.walk_laws.specs.Labelling.{label_row};
 ghost use Rattle.walk_laws.specs.Meet.{IsMeet};
-ghost use Rattle.hub_query.specs.HubTables.{HoldsRow, ArePlaces, AreJoined};
+ghost use Rattle.hub_query.specs.HubTables.{HoldsRow, ArePlaces};
 ghost use Rattle.hub_query.specs.Meant.{meant, IsMeetOf};
+ghost use Rattle.hub_query.specs.Parts.{AreJoined};
 
 use crate::answer::Answer;
 use crate::answers::Answers;
@@ -16,7 +17,7 @@ use std::alloc::{AllocError, Global};
 use std::thread::Threads;
 
 /// The most pairs of a part.
-const MOST: usize = 131072;
+const MOST: usize = 262144;
 
 /// The answers of pairs of nodes of the index, in the order of the pairs, by as many threads as there are processors. The
 /// pairs are asked in parts, and in each part by rising first node, whose row is laid out once for all its pairs there. Want
@@ -35,7 +36,7 @@ pub fn ask_all<R: Threads + Sync>(
         .par_chunks(part_len(rt, pairs.len()))
         .map(
             |part: &[(u32, u32)]| -> Result<Answers, AllocError>
-                requires { (length part.now ≤ 131072) × All (λ p. (1 ≤ p.0) × (p.0 ≤ length index.now.order) × (1 ≤ p.1) × (p.1 ≤ length index.now.order)) part.now }
+                requires { (length part.now ≤ 262144) × All (λ p. (1 ≤ p.0) × (p.0 ≤ length index.now.order) × (1 ≤ p.1) × (p.1 ≤ length index.now.order)) part.now }
                 ensures { IfOk result (λ answers. AllZip (IsMeetOf index.entry.now) part.entry.now answers) }
             { ask_part(alloc, index, part) },
         )
@@ -43,17 +44,17 @@ pub fn ask_all<R: Threads + Sync>(
     join_parts(alloc, parts)
 }
 
-/// How many pairs a part has of so many: two parts for each thread, none of them too large.
+/// How many pairs a part has of so many: one part for each thread, so that few rows are laid out twice, and none too large.
 fn part_len<R: Threads>(rt: &R, count: usize) -> usize
     ensures some { 0 < result }
-    ensures most { result ≤ 131072 }
+    ensures most { result ≤ 262144 }
 {
-    (count / current_num_threads(rt) / 2).clamp(1024, MOST)
+    (count / current_num_threads(rt)).clamp(1024, MOST)
 }
 
 /// The answers of all parts, one behind another. The only error is that memory ran out.
 fn join_parts(alloc: Global, parts: Vec<Result<Answers, AllocError>>) -> Result<Answers, AllocError>
-    ensures { IfOk result (λ answers. AreJoined parts.items answers) }
+    ensures { IfOk result (λ answers. AreJoined (λ part. part) parts.items answers) }
 {
     let mut answers = Vec::new(alloc);
     for part in parts {
@@ -79,40 +80,39 @@ fn ask_part(alloc: Global, index: &Index, pairs: &[(u32, u32)]) -> Result<Answer
 }
 
 /// Puts the answers of pairs at their places, in the order of `places`, by a table that holds the row of the node `held`, a
-/// number from 1.
+/// number from 1. The pairs are read where they stand beside their places, and `_pairs` is for the contract alone.
 fn ask_places(
     index: &Index,
-    pairs: &[(u32, u32)],
-    places: &[(u32, u32)],
+    _pairs: &[(u32, u32)],
+    places: &[((u32, u32), u32)],
     held: u32,
     table: &mut [u64],
     answers: &mut [Answer],
 )
-    requires nodes { All (λ p. (1 ≤ p.0) × (p.0 ≤ length index.now.order) × (1 ≤ p.1) × (p.1 ≤ length index.now.order)) pairs.now }
-    requires places { ArePlaces pairs.now places.now }
+    requires nodes { All (λ p. (1 ≤ p.0) × (p.0 ≤ length index.now.order) × (1 ≤ p.1) × (p.1 ≤ length index.now.order)) _pairs.now }
+    requires places { ArePlaces _pairs.now places.now }
     requires held { (1 ≤ held) × (held ≤ length index.now.order) }
     requires size { length table.old ≡ length index.now.order }
     requires row { HoldsRow (label_row index.now.rows held) table.old }
-    requires room { length answers.old ≡ length pairs.now }
-    ensures { AllZip (IsMeetOf index.now) pairs.now answers.new }
+    requires room { length answers.old ≡ length _pairs.now }
+    ensures { AllZip (IsMeetOf index.now) _pairs.now answers.new }
 {
     let mut turned = held;
-    for (u, place) in places {
-        let place = *place as usize;
-        answers[place] = ask_from(index, table, turned, *u, pairs[place].1);
-        turned = *u;
+    for (pair, place) in places {
+        answers[*place as usize] = ask_from(index, table, turned, pair.0, pair.1);
+        turned = pair.0;
     }
 }
 
-/// The first nodes of the pairs, numbers from 1, with the places of their pairs, from 0, by rising node. The only error is
-/// that memory ran out.
-fn by_first_node(alloc: Global, pairs: &[(u32, u32)]) -> Result<Vec<(u32, u32)>, AllocError>
+/// The pairs, nodes from 1, with their places, from 0, by rising first node, and those of one first node by rising second
+/// node. The only error is that memory ran out.
+fn by_first_node(alloc: Global, pairs: &[(u32, u32)]) -> Result<Vec<((u32, u32), u32)>, AllocError>
     requires { length pairs.now < 2 ^ 32 }
     ensures { IfOk result (λ places. ArePlaces pairs.now places.items) }
 {
     let mut places = Vec::with_capacity(alloc, pairs.len())?;
     for (place, pair) in pairs.iter().enumerate() {
-        places.push((pair.0, place as u32))?;
+        places.push((*pair, place as u32))?;
     }
     places.sort_unstable();
     Ok(places)
