@@ -1,5 +1,5 @@
 -- The printed answers of pairs.
-use Rattle.std.specs.Prelude.{ℕ, List, [], ◌∷◌, ◌++◌, Option, Some, None, codes}
+use Rattle.std.specs.Prelude.{ℕ, ◌*◌, List, [], ◌∷◌, ◌++◌, Option, Some, None, codes, take, drop}
 use Rattle.std.specs.Fmt.{decimal}
 
 -- `d S T D H`: a walk of least length D, and the highest-ranked node H on the shortest walks; or `u S T`: no walk. Ended by
@@ -14,3 +14,7 @@ abbrev pub answer_lines : List (ℕ × ℕ) → List (Option (ℕ × ℕ)) → L
 answer_lines [] answers = []
 answer_lines (pair ∷ pairs) [] = []
 answer_lines (pair ∷ pairs) (answer ∷ answers) = answer_line pair answer ++ answer_lines pairs answers
+
+-- the lines of a part of them, 65536 pairs, where parts count from 0
+abbrev pub part_lines : List (ℕ × ℕ) → List (Option (ℕ × ℕ)) → ℕ → List ℕ
+part_lines pairs answers part = answer_lines (take 65536 (drop (part * 65536) pairs)) (take 65536 (drop (part * 65536) answers))

@@ -1,7 +1,8 @@
-ghost use Rattle.std.specs.Prelude.{◌≡◌, ℕ, ◌<◌, [], ◌∷◌, ◌++◌, codes, flat_map, map, slice_index, IfOk, OnOk, length};
+ghost use Rattle.std.specs.Prelude.{◌≡◌, ℕ, ◌*◌, ◌<◌, ◌≤◌, [], ◌∷◌, ◌++◌, codes, flat_map, map, slice_index, IfOk, OnOk, length};
 ghost use Rattle.std.specs.Fmt.{decimal};
 ghost use Rattle.hub_query.specs.Meant.{meant};
-ghost use Rattle.chl_lines.specs.PrintedAnswers.{answer_line, answer_lines as lines_of_answers};
+ghost use Rattle.hub_query.specs.Parts.{AreJoined};
+ghost use Rattle.chl_lines.specs.PrintedAnswers.{answer_line, answer_lines as lines_of_answers, part_lines as lines_of_part};
 ghost use Rattle.chl_lines.specs.PrintedOrders.{node_line, order_lines as lines_of_nodes};
 ghost use Rattle.chl_lines.specs.PrintedWalks.{node_word, walk_line, walk_lines as lines_of_walks};
 ghost use Rattle.chl_lines.specs.PrintedRows.{entry_words, row_line, lines_from, HasPositions};
@@ -11,7 +12,11 @@ use hub_query::{Answer, Path};
 use itoa::Buffer;
 use rank_table::Ranking;
 use std::alloc::{AllocError, Global};
+use std::thread::{self, Threads};
 use walk_laws::Entry;
+
+/// How many pairs have their lines printed by one thread at a time.
+const PART: usize = 65536;
 
 /// The lines `l V H D ..` of all nodes by rising node V, each with the hubs H of its row and their distances D, by
 /// falling rank of the hub.
@@ -61,8 +66,47 @@ fn hub_of(ranking: &Ranking, entry: Entry) -> u32
     ranking.at(entry.pos)
 }
 
-/// The lines of pairs with their answers: `d S T D H` or `u S T` for the nodes S and T.
-pub fn answer_lines(
+/// The lines of pairs with their answers: `d S T D H` or `u S T` for the nodes S and T. Parts of them are printed side by
+/// side, on all cores, and then put one behind another. The only error is that memory ran out.
+pub fn answer_lines<R: Threads + Sync>(
+    rt: &R,
+    alloc: Global,
+    pairs: &[(u32, u32)],
+    answers: &[Answer],
+) -> Result<Vec<u8>, AllocError>
+    requires { length answers.now ≡ length pairs.now }
+    ensures { IfOk result (λ text. text.items ≡ lines_of_answers pairs.now (map meant answers.now)) }
+{
+    let parts = thread::map_indices(
+        rt,
+        alloc,
+        pairs.len() / PART + 1,
+        &|part: usize| -> Result<Vec<u8>, AllocError>
+            requires { (length answers.now ≡ length pairs.now) × (part * 65536 ≤ length pairs.now) }
+            ensures { IfOk result (λ text. text.items ≡ lines_of_part pairs.entry.now (map meant answers.entry.now) part) }
+        { part_lines(alloc, pairs, answers, part) },
+    )?;
+    join_texts(alloc, parts)
+}
+
+/// The lines of the pairs of a part, which counts from 0. The only error is that memory ran out.
+fn part_lines(
+    alloc: Global,
+    pairs: &[(u32, u32)],
+    answers: &[Answer],
+    part: usize,
+) -> Result<Vec<u8>, AllocError>
+    requires same { length answers.now ≡ length pairs.now }
+    requires within { part * 65536 ≤ length pairs.now }
+    ensures { IfOk result (λ text. text.items ≡ lines_of_part pairs.now (map meant answers.now) part) }
+{
+    let begin = part * PART;
+    let end = begin + PART.min(pairs.len() - begin);
+    lines_in_order(alloc, &pairs[begin..end], &answers[begin..end])
+}
+
+/// The lines of pairs with their answers, by one thread. The only error is that memory ran out.
+fn lines_in_order(
     alloc: Global,
     pairs: &[(u32, u32)],
     answers: &[Answer],
@@ -73,6 +117,17 @@ pub fn answer_lines(
     let mut text = Vec::new(alloc);
     for i in 0..pairs.len() {
         print_answer(&mut text, pairs[i], answers[i])?;
+    }
+    Ok(text)
+}
+
+/// The texts of all parts, one behind another. The only error is that memory ran out.
+fn join_texts(alloc: Global, parts: Vec<Result<Vec<u8>, AllocError>>) -> Result<Vec<u8>, AllocError>
+    ensures { IfOk result (λ text. AreJoined (λ part. part.items) parts.items text.items) }
+{
+    let mut text = Vec::new(alloc);
+    for part in parts {
+        text.extend_from_slice(&part?)?;
     }
     Ok(text)
 }

@@ -43,5 +43,5 @@ pub fn replies_text<R: Threads + Sync>(
         × (text.items ≡ lines_of_answers pairs.now answers)) }
 {
     let answers = ask_all(rt, alloc, index, pairs)?;
-    answer_lines(alloc, pairs.list(), answers.list())
+    answer_lines(rt, alloc, pairs.list(), answers.list())
 }

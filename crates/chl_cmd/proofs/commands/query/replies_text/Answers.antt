@@ -7,7 +7,7 @@ use Rattle.chl_cmd.proofs.PairAnswers.{answers_meant}
 use Rattle.chl_cmd.proofs.commands.query.replies_text.Goals as goal
 
 pub answer_lines-requires : goal.answer_lines-requires
-answer_lines-requires g c = rw (c.list.ensures, c.list-2.ensures) (AllZip-long _ _ _ c.in_ok-answers.ensures)
+answer_lines-requires g c = (c.type_bounds.sync-R, rw (c.list.ensures, c.list-2.ensures) (AllZip-long _ _ _ c.in_ok-answers.ensures))
 
 pub returns : goal.returns
 returns g c =

@@ -1,7 +1,7 @@
 use Rattle.std.proofs.Common.{◌≡◌, ◌++◌, drop, map}
 use Rattle.hub_query.specs.Meant.{meant}
 use Rattle.chl_lines.specs.PrintedAnswers.{answer_lines}
-use Rattle.chl_lines.proofs.printed.answer_lines.Given as goal
+use Rattle.chl_lines.proofs.printed.lines_in_order.Given as goal
 
 -- the lines so far, and then those of the other pairs
 abbrev pub invariant-loop-i : goal.invariant-loop-i
