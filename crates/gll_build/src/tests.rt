@@ -67,19 +67,6 @@ fn one_root<R: Abort + AllocGlobal + Threads + Wait + Sync>(
     Ok(rows)
 }
 
-/// Compares rows with those of the square under that ranking.
-fn expect_square<R: Abort>(rt: &R, rows: &[&[Entry]]) {
-    let wanted: [&[Entry]; 4] = [
-        &[entry(0, 0)],
-        &[entry(0, 1), entry(1, 0)],
-        &[entry(0, 2), entry(1, 1), entry(2, 0)],
-        &[entry(0, 1), entry(2, 1), entry(3, 0)],
-    ];
-    for (row, expected) in rows.iter().zip(&wanted) {
-        assert_eq!(rt; *row, *expected);
-    }
-}
-
 #[test]
 fn a_worker_that_stops_at_once_takes_root_by_root(rt: HostRuntime) -> Result<(), Fail> {
     let graph = square(rt.alloc())?;
@@ -90,7 +77,16 @@ fn a_worker_that_stops_at_once_takes_root_by_root(rt: HostRuntime) -> Result<(),
     let rows = one_root(&rt, &graph, &ranking, rows, 2, 3)?;
     let rows = one_root(&rt, &graph, &ranking, rows, 3, 4)?;
     assert_eq!(rt; rows.n(), 4);
-    expect_square(&rt, &[rows.row(1), rows.row(2), rows.row(3), rows.row(4)]);
+    let wanted: [&[Entry]; 4] = [
+        &[entry(0, 0)],
+        &[entry(0, 1), entry(1, 0)],
+        &[entry(0, 2), entry(1, 1), entry(2, 0)],
+        &[entry(0, 1), entry(2, 1), entry(3, 0)],
+    ];
+    for (place, row) in wanted.iter().enumerate() {
+        let v = place as u32 + 1;
+        assert_eq!(rt; rows.row(v), *row, "{v}");
+    }
     Ok(())
 }
 
@@ -110,10 +106,16 @@ fn build_square<R: Abort + AllocGlobal + Threads + Wait + Sync>(
     let ranking = one_to_four(rt.alloc())?;
     let index = build_gll(rt, rt.alloc(), &graph, &ranking, workers, cut, &FreeGate)?;
     assert_eq!(rt; index.n(), 4);
-    expect_square(
-        rt,
-        &[index.row(1), index.row(2), index.row(3), index.row(4)],
-    );
+    let wanted: [&[Entry]; 4] = [
+        &[entry(0, 0)],
+        &[entry(0, 1), entry(1, 0)],
+        &[entry(0, 2), entry(1, 1), entry(2, 0)],
+        &[entry(0, 1), entry(2, 1), entry(3, 0)],
+    ];
+    for (place, row) in wanted.iter().enumerate() {
+        let v = place as u32 + 1;
+        assert_eq!(rt; index.row(v), *row, "{v}");
+    }
     Ok(())
 }
 
