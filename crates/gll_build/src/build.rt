@@ -59,7 +59,7 @@ fn all_steps<R: Threads + Wait + Sync, G: Gate + Sync>(
     let n = graph.n();
     let ranked = ranking.n();
     prove!(n == ranked);
-    let mut workshop = Workshop::new(rt, alloc, n, workers)?;
+    let mut workshop = Workshop::new(alloc, n, workers)?;
     let mut progress = Progress {
         rows: RowList::new(alloc, n)?,
         next: 0,
@@ -97,7 +97,7 @@ pub fn superstep<R: Threads + Wait + Sync, G: Gate + Sync>(
     let n = graph.n();
     let ranked = ranking.n();
     prove!(n == ranked);
-    let workshop = Workshop::new(rt, alloc, n, workers)?;
+    let workshop = Workshop::new(alloc, n, workers)?;
     let progress = Progress {
         rows: global,
         next: first,

@@ -46,17 +46,12 @@ pub struct Grown {
 
 impl Workshop {
     /// A workshop for so many workers over the nodes 1..n. The only error is that memory ran out.
-    pub fn new<R: Threads>(
-        rt: &R,
-        alloc: Global,
-        n: u32,
-        workers: u32,
-    ) -> Result<Workshop, AllocError>
+    pub fn new(alloc: Global, n: u32, workers: u32) -> Result<Workshop, AllocError>
         requires workers { (1 ≤ workers) × (workers ≤ 64) }
         ensures { IfOk result (IsWorkshopFor n) }
     {
         let benches = benches_for(alloc, n, workers)?;
-        let cleaner = Cleaner::new(rt, alloc, n)?;
+        let cleaner = Cleaner::new(alloc, n, workers)?;
         Ok(Workshop { benches, cleaner })
     }
 }

@@ -13,13 +13,12 @@ use crate::placing::with_fresh;
 use crate::shortening::{Shortened, replace_rows, shortened_rows};
 use hub_index::{NodeEntry, RootTable, RowList};
 use rank_table::Ranking;
-use rayon::current_num_threads;
 use std::alloc::{AllocError, Global};
 use std::marker::Model;
 use std::thread::{self, Threads};
 
-/// What a builder who goes on with a table takes once, whatever is cleaned later: a table of distances for each core. Contracts
-/// see the number of nodes.
+/// What a builder who goes on with a table takes once, whatever is cleaned later: a table of distances for each of its workers.
+/// Contracts see the number of nodes.
 #[derive(Drop)]
 pub struct Cleaner {
     n: u32,
@@ -44,13 +43,14 @@ pub struct Tester {
 }
 
 impl Cleaner {
-    /// A cleaner of rows for the nodes 1..n. The only error is that memory ran out.
-    pub fn new<R: Threads>(rt: &R, alloc: Global, n: u32) -> Result<Cleaner, AllocError>
+    /// A cleaner of rows for the nodes 1..n, whose entries so many workers test side by side. The only error is that memory
+    /// ran out.
+    pub fn new(alloc: Global, n: u32, workers: u32) -> Result<Cleaner, AllocError>
+        requires { 1 ≤ workers }
         ensures { IfOk result (λ cleaner. cleaner ≡ n) }
     {
-        let count = current_num_threads(rt).clamp(1, 64);
-        let mut testers = Vec::with_capacity(alloc, count)?;
-        for _ in 0..count {
+        let mut testers = Vec::with_capacity(alloc, workers as usize)?;
+        for _ in 0..workers {
             testers.push(Tester {
                 table: RootTable::new(alloc, n)?,
                 found: Ok(Vec::new(alloc)),
@@ -63,7 +63,7 @@ impl Cleaner {
     /// `first`: where the fresh entries are, with positions from `first` on and below the other one, entries that may stand
     /// in the rows of their nodes, at most one of each hub, and every canonical one, Ok is exactly the canonical ones up to
     /// that position, each row by rising position. The fresh entries come in any order. Each is put into its row in place,
-    /// and tested against whole rows, on all cores. No other row is gone through, and memory is taken for the entries, for
+    /// and tested against whole rows, by all workers. No other row is gone through, and memory is taken for the entries, for
     /// the nodes that they touch, and for a copy of each row that loses one. The cleaner comes back. The only error is that
     /// memory ran out, and then both are given up. (Planting Trees, PVLDB 2019.)
     pub fn go_on<R: Threads + Sync>(

@@ -162,7 +162,7 @@ fn a_table_is_gone_on_with_in_place(rt: HostRuntime) -> Result<(), Fail> {
         &[entry(0, 2), entry(1, 1), entry(2, 0)],
         &[entry(0, 1), entry(2, 1), entry(3, 0)],
     ];
-    let cleaner = Cleaner::new(&rt, rt.alloc(), 4)?;
+    let cleaner = Cleaner::new(rt.alloc(), 4, 2)?;
     let (rows, _cleaner) = cleaner.go_on(&rt, rt.alloc(), &ranking, global, 1, fresh.as_slice())?;
     assert_eq!(rt; rows.n(), 4);
     for (place, row) in table.iter().enumerate() {
