@@ -2,7 +2,7 @@
 use super::*;
 
 /// A command, and the bytes that it says; none for a build, which writes the index file.
-const COMMANDS: [(&str, &str); 8] = [
+const COMMANDS: [(&str, &str); 10] = [
     (
         "chl list --graph g --order o",
         "l 1 1 0\nl 2 1 1 2 0\nl 3 1 2 2 1 3 0\nl 4 1 1 3 1 4 0\n",
@@ -10,6 +10,10 @@ const COMMANDS: [(&str, &str); 8] = [
     ("chl build --graph g --order o --out y", ""),
     (
         "chl build --graph g --order o --out y --by lcc --workers 2",
+        "",
+    ),
+    (
+        "chl build --graph g --order o --out y --by gll --workers 2",
         "",
     ),
     (
@@ -23,6 +27,10 @@ const COMMANDS: [(&str, &str); 8] = [
     ),
     ("chl audit --graph g --order o --index x", "same\n"),
     ("chl degree --graph g", ROUND_ORDER),
+    (
+        "chl grid --side 2 --seed 1",
+        "grid 2 1\nnodes 4 edges 4\nplant 10 35\nlcc 10 35\ngll 10 35\n",
+    ),
 ];
 
 /// Each kind of call, the status where one fails, and how many calls of the input and of the output have failed then.
