@@ -5,7 +5,6 @@ use super::files::{grid_of_side_6, order_by_steps};
 use super::*;
 use desk_io::{Feed, Gate, Reader};
 use dimacs_text::GrReader;
-use gll_build::build_gll;
 use hub_index::Index;
 use index_file::encode;
 use lcc_build::build_lcc;
@@ -159,14 +158,10 @@ fn read<R: Abort>(rt: &R, alloc: Global, graph: &str, order: &str) -> Result<(Gr
 
 const SQUARE_ORDER: &str = "1\n2\n3\n4\n";
 
-const PRUNED: [&str; 2] = [
-    "chl build --graph g --order o --out x --by lcc --workers 2",
-    "chl build --graph g --order o --out x --by gll --workers 2",
-];
+const BY_LCC: &str = "chl build --graph g --order o --out x --by lcc --workers 2";
 
 /// Two workers have roots 0 and 1 of the square 1-2-3-4-1 at the same time. The tree of root 1 puts three entries where it
-/// grows before that of root 0, and two after it: it finds then that node 1 covers the way to node 4. So it is by both
-/// constructions that prune.
+/// grows before that of root 0, and two after it: it finds then that node 1 covers the way to node 4.
 #[test]
 fn two_roots_at_once(rt: HostRuntime) -> Result<(), Fail> {
     let (graph, ranking) = read(&rt, rt.alloc(), SQUARE, SQUARE_ORDER)?;
@@ -176,34 +171,26 @@ fn two_roots_at_once(rt: HostRuntime) -> Result<(), Fail> {
     let gate = first_before_second();
     build_lcc(&rt, rt.alloc(), &graph, &ranking, 2, &gate)?;
     assert_eq!(rt; gate.seen.puts(), Some(2));
-    let gate = second_before_first();
-    build_gll(&rt, rt.alloc(), &graph, &ranking, 2, 1024, &gate)?;
-    assert_eq!(rt; gate.seen.puts(), Some(3));
-    let gate = first_before_second();
-    build_gll(&rt, rt.alloc(), &graph, &ranking, 2, 1024, &gate)?;
-    assert_eq!(rt; gate.seen.puts(), Some(2));
     Ok(())
 }
 
 /// The same through a run: it grows pruned trees, in two threads, over rows that both write.
 #[test]
 fn two_roots_at_once_in_a_run(rt: HostRuntime) -> Result<(), Fail> {
-    for line in PRUNED {
-        let mut desk = desk_of(rt.alloc(), 4096, &[], SQUARE, SQUARE_ORDER)?;
-        let words = words_of(rt.alloc(), line)?;
-        let gate = second_before_first();
-        assert_eq!(rt;
-            run(&rt, rt.alloc(), words.as_slice(), &mut desk, &gate),
-            Status::Done
-        );
-        assert_eq!(rt; gate.seen.puts(), Some(3));
-        let gate = first_before_second();
-        assert_eq!(rt;
-            run(&rt, rt.alloc(), words.as_slice(), &mut desk, &gate),
-            Status::Done
-        );
-        assert_eq!(rt; gate.seen.puts(), Some(2));
-    }
+    let mut desk = desk_of(rt.alloc(), 4096, &[], SQUARE, SQUARE_ORDER)?;
+    let words = words_of(rt.alloc(), BY_LCC)?;
+    let gate = second_before_first();
+    assert_eq!(rt;
+        run(&rt, rt.alloc(), words.as_slice(), &mut desk, &gate),
+        Status::Done
+    );
+    assert_eq!(rt; gate.seen.puts(), Some(3));
+    let gate = first_before_second();
+    assert_eq!(rt;
+        run(&rt, rt.alloc(), words.as_slice(), &mut desk, &gate),
+        Status::Done
+    );
+    assert_eq!(rt; gate.seen.puts(), Some(2));
     Ok(())
 }
 
@@ -294,11 +281,6 @@ fn each_root_begins_and_ends_once(rt: HostRuntime) -> Result<(), Fail> {
         assert!(rt; workers <= 64);
         let roots = Roots::new(rt.alloc(), 36)?;
         let index = build_lcc(&rt, rt.alloc(), &graph, &ranking, workers, &roots)?;
-        expect_each_once(&rt, &roots);
-        expect_puts(&rt, &roots, &index, workers == 1);
-        assert_eq!(rt; encode(rt.alloc(), &index)?.as_slice(), wanted.as_slice());
-        let roots = Roots::new(rt.alloc(), 36)?;
-        let index = build_gll(&rt, rt.alloc(), &graph, &ranking, workers, 16, &roots)?;
         expect_each_once(&rt, &roots);
         expect_puts(&rt, &roots, &index, workers == 1);
         assert_eq!(rt; encode(rt.alloc(), &index)?.as_slice(), wanted.as_slice());
