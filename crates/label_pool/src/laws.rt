@@ -2,12 +2,13 @@
 ghost use Rattle.std.specs.Prelude.{◌≡◌, ◌↔◌, ℕ};
 ghost use Rattle.atomic_table.specs.Table.{Step};
 ghost use Rattle.label_pool.specs.declared.rule.About.{About as AboutPool};
+ghost use Rattle.label_pool.specs.Layout.{head_at};
 ghost use Rattle.label_pool.specs.Lawful.{IsLawful, Sitter, Table as PoolTable};
 ghost use Rattle.label_pool.specs.Laws.{HoldsAtFirst, DrawsKeep, FillsKeep, FindsKeep, LinksKeep, SplitsKeep, JoinsKeep, ChainsAreShort, ChainsAreApart};
 
-use crate::rule::{About, FillsDist, FillsNext, Law, LinkFact, Reads, View};
+use crate::rule::{About, Draws, FillsDist, FillsNext, Handing, Law, LinkFact, Links, Reads, View};
 use atomic_table::{Play, TableRule};
-use table_seats::SeatView;
+use table_seats::{Looks, SeatView};
 
 /// The rule holds of a new pool, and each step of a seat keeps it, whatever the other seats have done before. Of a chain it
 /// says that no cell of it stands in another, that none is open for a seat, and that it has no more cells than there are.
@@ -24,10 +25,13 @@ pub fn the_rule_is_kept<F: LinkFact>()
 {}
 
 /// The rule is the one that the table of a pool is held to, between any two steps; and of the steps that a seat takes by
-/// itself neither a fill nor the load of a cell's word adds a look.
+/// itself only the load of a head adds a look: no draw, no fill, no link, no load of a cell's word, and not being looked at.
 pub fn the_table_is_held_to_the_rule<F: LinkFact>()
     ensures rule { (about : AboutPool F) (words : PoolTable F) → ⟦<Law as TableRule<(), SeatView<View<F>>, About<F>>>⟧.holds about words ↔ IsLawful F.fact about words }
+    ensures draw { (step : Step (Unit {0})) (me : Sitter F) (number : ℕ) (after : Sitter F) → ⟦<Draws as Play<(), SeatView<View<F>>>>⟧.then step me number after → after.0.knows.looks ≡ me.0.knows.looks }
     ensures next { (step : Step (Unit {0})) (me : Sitter F) (number : ℕ) (after : Sitter F) → ⟦<FillsNext as Play<(), SeatView<View<F>>>>⟧.then step me number after → after.0.knows.looks ≡ me.0.knows.looks }
     ensures dist { (step : Step (Unit {0})) (me : Sitter F) (number : ℕ) (after : Sitter F) → ⟦<FillsDist as Play<(), SeatView<View<F>>>>⟧.then step me number after → after.0.knows.looks ≡ me.0.knows.looks }
+    ensures link { (step : Step (Unit {0})) (me : Sitter F) (number : ℕ) (after : Sitter F) (v : ℕ) → step.word ≡ head_at v → ⟦<Links as Play<(), SeatView<View<F>>>>⟧.then step me number after → after.0.knows.looks ≡ me.0.knows.looks }
     ensures read { (step : Step (Unit {0})) (me : Sitter F) (number : ℕ) (after : Sitter F) → ⟦<Reads as Play<(), SeatView<View<F>>>>⟧.then step me number after → after.0.knows.looks ≡ me.0.knows.looks }
+    ensures look { (step : Step (Unit {0})) (me : Sitter F) (number : ℕ) (after : Sitter F) → ⟦<Looks<Handing> as Play<(), SeatView<View<F>>>>⟧.then step me number after → after.0.knows.looks ≡ me.0.knows.looks }
 {}
