@@ -5,6 +5,7 @@ use super::files::{grid_of_side_6, order_by_steps};
 use super::*;
 use desk_io::{Feed, Gate, Reader};
 use dimacs_text::GrReader;
+use gll_build::build_gll;
 use hub_index::Index;
 use index_file::encode;
 use lcc_build::build_lcc;
@@ -158,39 +159,81 @@ fn read<R: Abort>(rt: &R, alloc: Global, graph: &str, order: &str) -> Result<(Gr
 
 const SQUARE_ORDER: &str = "1\n2\n3\n4\n";
 
-const BY_LCC: &str = "chl build --graph g --order o --out x --by lcc --workers 2";
+/// The square 1-2-3-4-1, built by two workers by LCC.
+fn square_by_lcc<R: Abort + AllocGlobal + Threads + Wait + Sync, G: Gate + Sync>(
+    rt: &R,
+    gate: &G,
+) -> Result<(), Fail> {
+    let (graph, ranking) = read(rt, rt.alloc(), SQUARE, SQUARE_ORDER)?;
+    build_lcc(rt, rt.alloc(), &graph, &ranking, 2, gate)?;
+    Ok(())
+}
+
+/// The same by supersteps, of which the first takes all roots.
+fn square_by_gll<R: Abort + AllocGlobal + Threads + Wait + Sync, G: Gate + Sync>(
+    rt: &R,
+    gate: &G,
+) -> Result<(), Fail> {
+    let (graph, ranking) = read(rt, rt.alloc(), SQUARE, SQUARE_ORDER)?;
+    build_gll(rt, rt.alloc(), &graph, &ranking, 2, 1024, gate)?;
+    Ok(())
+}
+
+/// A run of the words over a desk with the square, which ends with Done.
+fn run_square<R: Abort + AllocGlobal + Threads + Wait + Sync, G: Gate + Sync>(
+    rt: &R,
+    line: &str,
+    gate: &G,
+) -> Result<(), Fail> {
+    let mut desk = desk_of(rt.alloc(), 4096, &[], SQUARE, SQUARE_ORDER)?;
+    desk.put_file("q", "p aux sp p2p 1\nq 2 4\n".as_bytes())?;
+    let words = words_of(rt.alloc(), line)?;
+    assert_eq!(rt;
+        run(rt, rt.alloc(), words.as_slice(), &mut desk, gate),
+        Status::Done
+    );
+    Ok(())
+}
 
 /// Two workers have roots 0 and 1 of the square 1-2-3-4-1 at the same time. The tree of root 1 puts three entries where it
 /// grows before that of root 0, and two after it: it finds then that node 1 covers the way to node 4.
 #[test]
-fn two_roots_at_once(rt: HostRuntime) -> Result<(), Fail> {
-    let (graph, ranking) = read(&rt, rt.alloc(), SQUARE, SQUARE_ORDER)?;
+fn two_roots_at_once_by_lcc(rt: HostRuntime) -> Result<(), Fail> {
     let gate = second_before_first();
-    build_lcc(&rt, rt.alloc(), &graph, &ranking, 2, &gate)?;
+    square_by_lcc(&rt, &gate)?;
     assert_eq!(rt; gate.seen.puts(), Some(3));
     let gate = first_before_second();
-    build_lcc(&rt, rt.alloc(), &graph, &ranking, 2, &gate)?;
+    square_by_lcc(&rt, &gate)?;
     assert_eq!(rt; gate.seen.puts(), Some(2));
     Ok(())
 }
 
-/// The same through a run: it grows pruned trees, in two threads, over rows that both write.
+/// The same in a superstep.
 #[test]
-fn two_roots_at_once_in_a_run(rt: HostRuntime) -> Result<(), Fail> {
-    let mut desk = desk_of(rt.alloc(), 4096, &[], SQUARE, SQUARE_ORDER)?;
-    let words = words_of(rt.alloc(), BY_LCC)?;
+fn two_roots_at_once_by_gll(rt: HostRuntime) -> Result<(), Fail> {
     let gate = second_before_first();
-    assert_eq!(rt;
-        run(&rt, rt.alloc(), words.as_slice(), &mut desk, &gate),
-        Status::Done
-    );
+    square_by_gll(&rt, &gate)?;
     assert_eq!(rt; gate.seen.puts(), Some(3));
     let gate = first_before_second();
-    assert_eq!(rt;
-        run(&rt, rt.alloc(), words.as_slice(), &mut desk, &gate),
-        Status::Done
-    );
+    square_by_gll(&rt, &gate)?;
     assert_eq!(rt; gate.seen.puts(), Some(2));
+    Ok(())
+}
+
+/// The same through a run, by both constructions that prune: it grows trees, in two threads, over rows that both write.
+#[test]
+fn two_roots_at_once_in_a_run(rt: HostRuntime) -> Result<(), Fail> {
+    for line in [
+        "chl build --graph g --order o --out x --by lcc --workers 2",
+        "chl build --graph g --order o --out x --by gll --workers 2",
+    ] {
+        let gate = second_before_first();
+        run_square(&rt, line, &gate)?;
+        assert_eq!(rt; gate.seen.puts(), Some(3));
+        let gate = first_before_second();
+        run_square(&rt, line, &gate)?;
+        assert_eq!(rt; gate.seen.puts(), Some(2));
+    }
     Ok(())
 }
 
@@ -233,13 +276,13 @@ impl Gate for Roots {
     }
 }
 
-/// Checks that each root began once and ended once.
-fn expect_each_once<R: Abort>(rt: &R, roots: &Roots) {
+/// Checks that each root began and ended so many times.
+fn expect_each<R: Abort>(rt: &R, roots: &Roots, times: u32) {
     for begun in &roots.begun {
-        assert_eq!(rt; begun.load(Ordering::SeqCst), 1);
+        assert_eq!(rt; begun.load(Ordering::SeqCst), times);
     }
     for ended in &roots.ended {
-        assert_eq!(rt; ended.load(Ordering::SeqCst), 1);
+        assert_eq!(rt; ended.load(Ordering::SeqCst), times);
     }
 }
 
@@ -266,29 +309,117 @@ fn expect_puts<R: Abort>(rt: &R, roots: &Roots, index: &Index, exact: bool) {
     }
 }
 
-/// Whatever the construction and the number of workers, each root of a grid of side 6 begins once and ends once, and the file
-/// is the same. Planted trees put the entries of the index; pruned ones of one worker, too, and of many maybe more, which
-/// cleaning deletes.
-#[test]
-fn each_root_begins_and_ends_once(rt: HostRuntime) -> Result<(), Fail> {
+/// A grid of side 6, and its nodes in an order by steps.
+fn grid<R: Abort + AllocGlobal>(rt: &R) -> Result<(Graph, Ranking), Fail>
+    ensures { IfOk result (λ read. length read.1 ≡ read.0.n) }
+{
     let grid = grid_of_side_6(rt.alloc())?;
     let steps = order_by_steps(rt.alloc())?;
-    let (graph, ranking) = read(&rt, rt.alloc(), grid.as_str(), steps.as_str())?;
-    let index = build_plant(&rt, rt.alloc(), &graph, &ranking, 1, 1024, &FreeGate)?;
-    let wanted = encode(rt.alloc(), &index)?;
+    read(rt, rt.alloc(), grid.as_str(), steps.as_str())
+}
+
+/// Builds the index of the grid, watched by the roots.
+fn grid_by_plant<R: Abort + AllocGlobal + Threads + Wait + Sync>(
+    rt: &R,
+    workers: u32,
+    roots: &Roots,
+) -> Result<Index, Fail>
+    requires from { 1 ≤ workers }
+    requires to { workers ≤ 64 }
+{
+    let (graph, ranking) = grid(rt)?;
+    Ok(build_plant(rt, rt.alloc(), &graph, &ranking, workers, 1, roots)?)
+}
+
+fn grid_by_lcc<R: Abort + AllocGlobal + Threads + Wait + Sync>(
+    rt: &R,
+    workers: u32,
+    roots: &Roots,
+) -> Result<Index, Fail>
+    requires from { 1 ≤ workers }
+    requires to { workers ≤ 64 }
+{
+    let (graph, ranking) = grid(rt)?;
+    Ok(build_lcc(rt, rt.alloc(), &graph, &ranking, workers, roots)?)
+}
+
+fn grid_by_gll<R: Abort + AllocGlobal + Threads + Wait + Sync>(
+    rt: &R,
+    workers: u32,
+    roots: &Roots,
+) -> Result<Index, Fail>
+    requires from { 1 ≤ workers }
+    requires to { workers ≤ 64 }
+{
+    let (graph, ranking) = grid(rt)?;
+    Ok(build_gll(rt, rt.alloc(), &graph, &ranking, workers, 16, roots)?)
+}
+
+/// Checks that each root of the grid began once, ended once and put what the index has of it, or no less, and that the file
+/// of the index is that of planted trees by one worker.
+fn expect_whole<R: Abort + AllocGlobal + Threads + Wait + Sync>(
+    rt: &R,
+    roots: &Roots,
+    index: &Index,
+    exact: bool,
+) -> Result<(), Fail> {
+    expect_each(rt, roots, 1);
+    expect_puts(rt, roots, index, exact);
+    let (graph, ranking) = grid(rt)?;
+    let wanted = build_plant(rt, rt.alloc(), &graph, &ranking, 1, 1024, &FreeGate)?;
+    let wanted = encode(rt.alloc(), &wanted)?;
+    assert_eq!(rt; encode(rt.alloc(), index)?.as_slice(), wanted.as_slice());
+    Ok(())
+}
+
+/// Whatever the number of workers, each root of the grid begins once and ends once, and the file is the same. Planted trees
+/// put the entries of the index.
+#[test]
+fn each_root_is_planted_once(rt: HostRuntime) -> Result<(), Fail> {
     for workers in [1u32, 2, 4] {
-        assert!(rt; 1 <= workers);
-        assert!(rt; workers <= 64);
+        assert!(rt; 1 <= workers && workers <= 64);
         let roots = Roots::new(rt.alloc(), 36)?;
-        let index = build_lcc(&rt, rt.alloc(), &graph, &ranking, workers, &roots)?;
-        expect_each_once(&rt, &roots);
-        expect_puts(&rt, &roots, &index, workers == 1);
-        assert_eq!(rt; encode(rt.alloc(), &index)?.as_slice(), wanted.as_slice());
+        let index = grid_by_plant(&rt, workers, &roots)?;
+        expect_whole(&rt, &roots, &index, true)?;
+    }
+    Ok(())
+}
+
+/// Pruned trees of one worker put the entries of the index, and of many maybe more, which cleaning deletes.
+#[test]
+fn each_root_grows_once_by_lcc(rt: HostRuntime) -> Result<(), Fail> {
+    for workers in [1u32, 2, 4] {
+        assert!(rt; 1 <= workers && workers <= 64);
         let roots = Roots::new(rt.alloc(), 36)?;
-        let index = build_plant(&rt, rt.alloc(), &graph, &ranking, workers, 1, &roots)?;
-        expect_each_once(&rt, &roots);
-        expect_puts(&rt, &roots, &index, true);
-        assert_eq!(rt; encode(rt.alloc(), &index)?.as_slice(), wanted.as_slice());
+        let index = grid_by_lcc(&rt, workers, &roots)?;
+        expect_whole(&rt, &roots, &index, workers == 1)?;
+    }
+    Ok(())
+}
+
+#[test]
+fn each_root_grows_once_by_gll(rt: HostRuntime) -> Result<(), Fail> {
+    for workers in [1u32, 2, 4] {
+        assert!(rt; 1 <= workers && workers <= 64);
+        let roots = Roots::new(rt.alloc(), 36)?;
+        let index = grid_by_gll(&rt, workers, &roots)?;
+        expect_whole(&rt, &roots, &index, workers == 1)?;
+    }
+    Ok(())
+}
+
+/// A run tells its gate of each root: once for a build or a solve, and three times for a grid, which is built by three
+/// constructions.
+#[test]
+fn a_run_tells_of_each_root(rt: HostRuntime) -> Result<(), Fail> {
+    for (line, times) in [
+        ("chl build --graph g --order o --out x --by plant --workers 2", 1u32),
+        ("chl solve --graph g --order o --pairs q --by gll", 1),
+        ("chl grid --side 2 --seed 1 --workers 2", 3),
+    ] {
+        let roots = Roots::new(rt.alloc(), 4)?;
+        run_square(&rt, line, &roots)?;
+        expect_each(&rt, &roots, times);
     }
     Ok(())
 }
