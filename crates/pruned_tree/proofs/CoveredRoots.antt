@@ -16,7 +16,7 @@ use Rattle.walk_laws.proofs.Positions.{position-get_or, slice_get-at_position}
 use Rattle.hub_index.specs.RootDistances.{root_distance, IsCover, IsLeastAt, HoldsRow}
 use Rattle.pruned_tree.specs.Grown.{HoldsHigher}
 
-abbrev at_position : ℕ → ℕ → Entry
+abbrev pub at_position : ℕ → ℕ → Entry
 at_position p d = record { pos = p; dist = d }
 
 -- a row with an entry at a position has a least one there
@@ -77,7 +77,7 @@ least_or_none (e ∷ row) q =
     ]
 
 -- so a table that holds the row has that position at no greater distance
-table_has : (table : List (Option ℕ)) (row : List Entry) (q a : ℕ) → HoldsRow table row → Contains row (at_position q a) → (b : ℕ) × (root_distance table q ≡ Some b) × (b ≤ a)
+pub table_has : (table : List (Option ℕ)) (row : List Entry) (q a : ℕ) → HoldsRow table row → Contains row (at_position q a) → (b : ℕ) × (root_distance table q ≡ Some b) × (b ≤ a)
 table_has table row q a held there = elim (least_or_none row q) [
   | inl least ↦ (least.0, (held q least.0).1 least.1, least.1.least a there)
   | inr none ↦ absurd (none a there)

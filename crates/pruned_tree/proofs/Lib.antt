@@ -1,3 +1,4 @@
+pub mod ApartPuts
 pub mod CompleteTrees
 pub mod CoveredRoots
 pub mod GrownRows

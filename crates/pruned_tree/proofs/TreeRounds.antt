@@ -121,7 +121,8 @@ module _ (n : ℕ) (edges : List Edge) (at : List ℕ) (h p : ℕ) (graph : IsGr
     least_next : (c : ℕ) → IsCanonical (Joined edges) at h v c → f.dist ≡ c
     least_next = next_is_least (Joined edges) positive at h p (root_position at h p ranking root) before rows nodes puts complete growth v f queued nearest
 
-    none_yet : puts v ≡ before v
+    -- it has gained none so far
+    pub none_yet : puts v ≡ before v
     none_yet = queued_gains_none (Joined edges) at h p before nodes puts growth v f (growth.from_one v f.dist there) queued
 
     module _ (row : List Entry) (found : IsFound (EntryFits (Joined edges) at v) (seen v) row) (others : ℕ → List Entry) where

@@ -6,6 +6,7 @@ use Rattle.walk_laws.specs.declared.graph.Edge.{Edge}
 use Rattle.walk_laws.specs.Canonical.{IsCanonical}
 use Rattle.walk_laws.specs.Joined.{Joined}
 use Rattle.walk_laws.specs.Labelling.{EntryFits, IsHubEntry}
+use Rattle.walk_laws.specs.Meet.{HasSum}
 
 -- the entries of the node v are those of before, with one at the position p and the distance d behind them
 abbrev pub Gains : (ℕ → List Entry) → (ℕ → List Entry) → ℕ → ℕ → ℕ → Type 0
@@ -34,9 +35,10 @@ HoldsHigher J at p rows = (v : ℕ) (e : Entry) → 1 ≤ v → e.pos < p → Is
 abbrev pub entries_of : List ℕ → (ℕ → List Entry) → ℕ
 entries_of nodes rows = sum_by (λ v. length (rows v)) nodes
 
--- What the tree of the node at the position p leaves of entries put before, where these lists were seen before: it is pruned, and where it is whole it counts what it put, each node that has the root for a hub got it, and no other node did where each hub that ranks above the root was seen
+-- What the tree of the node at the position p leaves of entries put before, where these lists were seen before: it is pruned, and where it is whole it counts what it put, each node that has the root for a hub got it, and no other node did where each hub that ranks above the root was seen; and whole or not, each hub above the root that the root and a node were seen to share makes a longer way than what was put at the node
 pub record IsGrown (edges : List Edge) (at : List ℕ) (p : ℕ) (seen before after : ℕ → List Entry) (result : Result ℕ AllocError) : Type 0 where
   pub pruned : IsPruned (Joined edges) at before after p
   pub count : IfOk result (λ count. entries_of at after ≡ entries_of at before + count)
   pub complete : IfOk result (λ _. (h v d : ℕ) → slice_get at p ≡ Some h → IsCanonical (Joined edges) at h v d → Gains before after p v d)
   pub exact : IfOk result (λ _. HoldsHigher (Joined edges) at p seen → (h v d : ℕ) → slice_get at p ≡ Some h → 1 ≤ v → Gains before after p v d → IsCanonical (Joined edges) at h v d)
+  pub apart : (h v d q s : ℕ) → slice_get at p ≡ Some h → 1 ≤ v → Gains before after p v d → HasSum (seen h) (seen v) q s → q < p → d < s

@@ -8,7 +8,8 @@ use Rattle.hub_index.specs.Views.{IsFound}
 use Rattle.hub_index.proofs.FoundRows.{IsFound-weaker}
 use Rattle.pruned_tree.specs.Grown.{Gains, HoldsHigher, IsGrown}
 use Rattle.pruned_tree.specs.Loaded.{IsRootTable}
-use Rattle.pruned_tree.proofs.TreeRounds.{StillStand, StillStand-found, fits_by}
+use Rattle.pruned_tree.proofs.ApartPuts.{IsShorter-fewer}
+use Rattle.pruned_tree.proofs.TreeRounds.{root_node, StillStand, StillStand-found, fits_by}
 use Rattle.pruned_tree.proofs.growing.grow.Given as given
 use Rattle.pruned_tree.proofs.growing.grow.Goals as goal
 use Rattle.pruned_tree.proofs.growing.grow.Goals.{After-load_root}
@@ -51,4 +52,8 @@ returns-clause-grown g c =
       complete = grown.complete;
       exact = if_ok_then c.grow_from.result (λ _. Exact (g.R.RowView.seen c.load_root.new.self)) (λ _. Exact (g.R.RowView.seen c.args.view.now))
           (λ _ exact higher. exact (λ v e from_one above hub. stand g up v e from_one (higher v e from_one above hub))) grown.exact;
+      apart = λ h v d q s root from_one gained sum above.
+          let node = root_node c.args.ranking.now h c.args.p c.n-ranked.ensures.ranking root in
+          IsShorter-fewer c.args.p (g.R.RowView.seen c.args.view.now h) (g.R.RowView.seen c.args.view.now v) (g.R.RowView.seen c.load_root.new.self h) (g.R.RowView.seen c.load_root.new.self v) d (λ e there. stand g up h e node.0 there) (λ e there. stand g up v e from_one there)
+          (λ r t. grown.apart h v d r t root from_one gained) q s sum above;
     }

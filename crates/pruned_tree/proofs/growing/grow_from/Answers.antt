@@ -11,15 +11,17 @@ use Rattle.frontier.specs.declared.reach.Reach.{Reach}
 use Rattle.frontier.specs.declared.reach.Reach.TheVariants.{Unreached}
 use Rattle.frontier.specs.Reaches.{settled, with_offer}
 use Rattle.hub_index.specs.declared.row_view.Offer.TheVariants.{Put}
+use Rattle.hub_index.specs.RootDistances.{IsCover}
 use Rattle.hub_index.specs.Views.{IsFound}
 use Rattle.hub_index.proofs.FoundRows.{IsFound-weaker, IsSeenAfter-still}
 use Rattle.pruned_tree.specs.declared.bare.Bare.{Bare}
 use Rattle.pruned_tree.specs.Relaxed.{IsRelaxed}
+use Rattle.pruned_tree.proofs.ApartPuts.{AreApart, AreApart-start, AreApart-same, AreApart-put}
 use Rattle.pruned_tree.proofs.CompleteTrees.{IsComplete, all_gained}
 use Rattle.pruned_tree.proofs.GrownRows.{IsGrowth, IsPruned-from_growth}
 use Rattle.pruned_tree.proofs.OfferedNodes.{node_inside, queued_distance}
 use Rattle.pruned_tree.proofs.TreeCounts.{unsettled, unsettled-le, unsettled-settled, unsettled-same, IsBounded, IsBounded-start, IsBounded-settled, IsBounded-relaxed, room_of_next, fits_64, arcs_of_row, entries-put, entries-kept}
-use Rattle.pruned_tree.proofs.TreeRounds.{first_come, started, same_at_all, weights_positive, only_root, IsGrowth-start, IsComplete-start, offer_fits, StillStand-found, fits_by, root_position, IsGrowth-round_over, IsComplete-round_over, IsGrowth-round_put, IsGrowth-round, IsComplete-round}
+use Rattle.pruned_tree.proofs.TreeRounds.{first_come, started, same_at_all, weights_positive, only_root, IsGrowth-start, IsComplete-start, offer_fits, StillStand-found, fits_by, root_position, none_yet, IsGrowth-round_over, IsComplete-round_over, IsGrowth-round_put, IsGrowth-round, IsComplete-round}
 use Rattle.pruned_tree.proofs.growing.grow_from.Given as given
 use Rattle.pruned_tree.proofs.growing.grow_from.Goals as goal
 use Rattle.pruned_tree.proofs.growing.grow_from.Goals.{In_ok-offer, In-Some, In-Put}
@@ -51,6 +53,7 @@ loop-v-init g c =
       growth = λ h root. IsGrowth-start c.args.graph.now.n c.args.graph.now.edges c.args.ranking.now h c.args.p c.requires.graph c.requires.ranked c.requires.ranking root (g.R.RowView.puts c.args.view.now) (g.R.RowView.seen c.args.view.now) c.offer.new.self (now h (same h root)) (inside h (same h root));
       complete = λ h root. IsComplete-start c.args.graph.now.n c.args.graph.now.edges c.args.ranking.now h c.args.p c.requires.graph c.requires.ranked c.requires.ranking root (g.R.RowView.puts c.args.view.now) (g.R.RowView.seen c.args.view.now) c.offer.new.self (now h (same h root)) (inside h (same h root));
       seen = λ x e from_one there. there;
+      apart = λ h root. AreApart-start (Joined c.args.graph.now.edges) c.args.ranking.now h c.args.p (g.R.RowView.seen c.args.view.now) (g.R.RowView.puts c.args.view.now);
       counted = omega arith;
       few = omega (arith, unsettled-le c.offer.new.self, size);
     }
@@ -135,6 +138,23 @@ growth_put g c row now found put same h root =
     c.loop-v.frontier (g.R.RowView.puts c.loop-v.view) (g.R.RowView.seen c.loop-v.view) c.args.table.now (c.requires.root h root) (c.loop-v.invariant.growth h root) (c.loop-v.invariant.complete h root) c.loop-v.invariant.seen c.in-Some.v c.in-Some.found c.in-Some.ensures.queued c.in-Some.ensures.nearest
     row found now put same
 
+-- what was put is shorter than what was seen, where nothing more is put
+apart_over : (g : given.Over) (c : In-Some g) (now : ℕ → List Entry) → ((x : ℕ) → 1 ≤ x → now x ≡ g.R.RowView.puts c.loop-v.view x) → (h : ℕ) → slice_get c.args.ranking.now c.args.p ≡ Some h → AreApart h c.args.p (g.R.RowView.seen c.args.view.now) (g.R.RowView.puts c.args.view.now) now
+apart_over g c now same h root =
+    AreApart-same (Joined c.args.graph.now.edges) c.args.ranking.now h c.args.p (g.R.RowView.seen c.args.view.now) (g.R.RowView.puts c.args.view.now) (g.R.RowView.puts c.loop-v.view) (c.loop-v.invariant.apart h root) now same
+
+-- and where the entry is
+apart_put : (g : given.Over) (c : In-Some g) (row : List Entry) (now : ℕ → List Entry) → IsFound (EntryFits (Joined c.args.graph.now.edges) c.args.ranking.now c.in-Some.v) (g.R.RowView.seen c.loop-v.view c.in-Some.v) row → ((e : Entry) → Contains row e → ¬ IsCover c.args.table.now c.args.p c.in-Some.found.dist e)
+    → now c.in-Some.v ≡ g.R.RowView.puts c.loop-v.view c.in-Some.v ++ record { pos = c.args.p; dist = c.in-Some.found.dist } ∷ [] → ((x : ℕ) → 1 ≤ x → x ≢ c.in-Some.v → now x ≡ g.R.RowView.puts c.loop-v.view x)
+    → (h : ℕ) → slice_get c.args.ranking.now c.args.p ≡ Some h → AreApart h c.args.p (g.R.RowView.seen c.args.view.now) (g.R.RowView.puts c.args.view.now) now
+apart_put g c row now found uncovered put same h root =
+    let inv = c.loop-v.invariant in
+    AreApart-put (Joined c.args.graph.now.edges) c.args.ranking.now h c.args.p (g.R.RowView.seen c.args.view.now) (g.R.RowView.puts c.args.view.now) (g.R.RowView.puts c.loop-v.view) (inv.apart h root) now
+    (g.R.RowView.seen c.loop-v.view) (EntryFits (Joined c.args.graph.now.edges) c.args.ranking.now c.in-Some.v) c.args.table.now (c.requires.root h root).held inv.seen c.in-Some.v c.in-Some.found.dist row found uncovered
+    (none_yet c.args.graph.now.n c.args.graph.now.edges c.args.ranking.now h c.args.p c.requires.graph c.requires.ranked c.requires.ranking root (g.R.RowView.puts c.args.view.now) (g.R.RowView.seen c.args.view.now)
+    c.loop-v.frontier (g.R.RowView.puts c.loop-v.view) (g.R.RowView.seen c.loop-v.view) c.args.table.now (c.requires.root h root) (inv.growth h root) (inv.complete h root) inv.seen c.in-Some.v c.in-Some.found c.in-Some.ensures.queued c.in-Some.ensures.nearest)
+    put same
+
 pub loop-v-preserved-in-Covered : goal.loop-v-preserved-in-Covered
 loop-v-preserved-in-Covered g c =
     let up = (goal.at.loop-v-preserved-in-Covered g c).In-Some in
@@ -155,6 +175,7 @@ loop-v-preserved-in-Covered g c =
           c.loop-v.frontier (g.R.RowView.puts c.loop-v.view) (g.R.RowView.seen c.loop-v.view) c.args.table.now (c.requires.root h root) (inv.growth h root) (inv.complete h root) inv.seen c.in-Some.v c.in-Some.found c.in-Some.ensures.queued c.in-Some.ensures.nearest
           offered.found.0 found (g.R.RowView.puts c.offer-in-Some.new.self) (record { pos = c.in-Covered.pos; dist = c.in-Covered.dist }) offered.found.2.0 offered.found.2.1 same);
       seen = StillStand-found (g.R.RowView.seen c.args.view.now) (g.R.RowView.seen c.loop-v.view) (g.R.RowView.seen c.offer-in-Some.new.self) c.in-Some.v offered.found.0 inv.seen found.still (λ e there. subst (λ xs. Contains xs e) (sym offered.found.3) there) offered.others_seen;
+      apart = λ h root. apart_over g up (g.R.RowView.puts c.offer-in-Some.new.self) same h root;
       counted = entries-kept c.args.ranking.now (g.R.RowView.puts c.loop-v.view) (g.R.RowView.puts c.offer-in-Some.new.self) c.requires.ranking same ∙ inv.counted;
       few = omega (arith, ap unsettled now, unsettled-settled c.loop-v.frontier c.in-Some.v c.in-Some.found c.in-Some.ensures.queued, inv.few);
     }
@@ -188,6 +209,7 @@ loop-v-preserved g c =
           offered.found.0 found (g.R.RowView.puts c.offer-in-Some.new.self) offered.puts offered.others_puts c.arcs.result.now c.arcs.ensures.joined c.relax.new.frontier relaxed offered.found.2;
       seen = StillStand-found (g.R.RowView.seen c.args.view.now) (g.R.RowView.seen c.loop-v.view) (g.R.RowView.seen c.offer-in-Some.new.self) c.in-Some.v offered.found.0 inv.seen found.still
           (IsSeenAfter-still offered.found.0 (record { pos = c.args.p; dist = c.in-Some.found.dist }) Put (g.R.RowView.seen c.offer-in-Some.new.self c.in-Some.v) offered.found.3) offered.others_seen;
+      apart = λ h root. apart_put g up offered.found.0 (g.R.RowView.puts c.offer-in-Some.new.self) found offered.found.2 offered.puts offered.others_puts h root;
       counted = omega (arith, inv.counted, entries-put c.args.ranking.now (g.R.RowView.puts c.loop-v.view) (g.R.RowView.puts c.offer-in-Some.new.self) c.in-Some.v (record { pos = c.args.p; dist = c.in-Some.found.dist }) c.requires.ranking t.from_one (omega (arith, t.up_to_n, c.requires.ranked)) offered.puts offered.others_puts);
       few = omega (arith, unsettled-same c.relax.new.frontier (settled c.loop-v.frontier c.in-Some.v c.in-Some.found) relaxed.size relaxed.settled, unsettled-settled c.loop-v.frontier c.in-Some.v c.in-Some.found c.in-Some.ensures.queued, inv.few);
     }
@@ -202,6 +224,8 @@ returns-in_err-relax-clause-grown g c =
       count = IfOk-from_err c.from_residual-in_err-relax.result _ c.from_residual-in_err-relax.ensures.0;
       complete = IfOk-from_err c.from_residual-in_err-relax.result _ c.from_residual-in_err-relax.ensures.0;
       exact = IfOk-from_err c.from_residual-in_err-relax.result _ c.from_residual-in_err-relax.ensures.0;
+      apart = λ h v d q s root from_one gained sum above.
+          apart_put g up offered.found.0 (g.R.RowView.puts c.offer-in-Some.new.self) (found_here g up offered.found.0 offered.found.1) offered.found.2 offered.puts offered.others_puts h root v d from_one gained q s sum above;
     }
 
 pub returns-in-NoMemory-clause-grown : goal.returns-in-NoMemory-clause-grown
@@ -215,6 +239,7 @@ returns-in-NoMemory-clause-grown g c =
       count = tt;
       complete = tt;
       exact = tt;
+      apart = λ h v d q s root from_one gained sum above. apart_over g up (g.R.RowView.puts c.offer-in-Some.new.self) same h root v d from_one gained q s sum above;
     }
 
 pub returns-clause-grown : goal.returns-clause-grown
@@ -225,4 +250,5 @@ returns-clause-grown g c = record {
       all_gained (Joined c.args.graph.now.edges) (weights_positive c.args.graph.now.n c.args.graph.now.edges c.requires.graph) c.args.ranking.now h c.args.p (root_position c.args.ranking.now h c.args.p c.requires.ranking root) (g.R.RowView.puts c.args.view.now) (g.R.RowView.seen c.args.view.now)
       c.loop-v.frontier (g.R.RowView.puts c.loop-v.view) (c.loop-v.invariant.complete h root) (λ x f queued. c.in_default.ensures.none x f queued) v d hub;
   exact = λ higher h v d root from_one gained. (c.loop-v.invariant.complete h root).exact v d from_one gained higher;
+  apart = λ h v d q s root from_one gained sum above. c.loop-v.invariant.apart h root v d from_one gained q s sum above;
 }
