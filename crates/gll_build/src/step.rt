@@ -51,7 +51,7 @@ impl Workshop {
         ensures { IfOk result (IsWorkshopFor n) }
     {
         let benches = benches_for(alloc, n, workers)?;
-        let cleaner = Cleaner::new(alloc, n, workers)?;
+        let cleaner = Cleaner::new(alloc, n)?;
         Ok(Workshop { benches, cleaner })
     }
 }
@@ -87,7 +87,7 @@ pub fn next_step<R: Threads + Wait + Sync, G: Gate + Sync>(
         next,
         benches,
     } = grown;
-    let gone = cleaner.go_on(rt, alloc, ranking, rows, first, fresh.as_slice())?;
+    let gone = cleaner.go_on(alloc, ranking, rows, first, fresh.as_slice())?;
     let (rows, cleaner) = gone;
     Ok((Progress { rows, next }, Workshop { benches, cleaner }))
 }

@@ -27,7 +27,7 @@ module _ (at : List ℕ) (ranking : IsRanking at) where
   hub_place p h is =
       subst (λ y. position_of at y ≡ p) (get_or_from_slice_get at p h 0 is) (position-get_or at p 0 ranking.once (slice_get_within at p h is))
 
-  hub_node : (p h : ℕ) → slice_get at p ≡ Some h → (1 ≤ h) × (h ≤ length at)
+  pub hub_node : (p h : ℕ) → slice_get at p ≡ Some h → (1 ≤ h) × (h ≤ length at)
   hub_node p h is =
       let node = ranking.node p 0 (slice_get_within at p h is) in
       subst (λ y. (1 ≤ y) × (y ≤ length at)) (get_or_from_slice_get at p h 0 is) node

@@ -12,7 +12,9 @@ use Rattle.hub_index.specs.Views.{IsNode}
 use Rattle.label_clean.specs.Below.{HoldsBelow, IsRowBelow, IsChlBelow}
 use Rattle.label_clean.specs.Between.{HoldsBetween}
 use Rattle.label_clean.specs.Shortened.{ArePut, AreShort, Goes}
-use Rattle.label_clean.proofs.Cleaned.{hub_place, hub_stays, others_go}
+use Rattle.label_clean.specs.Needless.{IsNeedless}
+use Rattle.label_clean.proofs.Cleaned.{hub_node, hub_place, hub_stays, others_go}
+use Rattle.label_clean.proofs.Covering.{covered, entry}
 use Rattle.label_clean.proofs.KeptRows.{once_from_rising}
 
 -- a hub's entry may stand in the row
@@ -52,27 +54,57 @@ module _ (edges : List Edge) (at : List ℕ) (ranking : IsRanking at) (p c : ℕ
     ]);
   }
 
-  module _ (short : List (List Entry)) (are : AreShort at p rows short) (v : ℕ) (from_one : 1 ≤ v) (up_to_n : v ≤ length at) where
-    is_hub : (e : Entry) → Contains (label_row rows v) e → ¬ Goes at p rows v e → IsHubEntry (Joined edges) at v e
-    is_hub e there stays = elim (cases_lt e.pos p) [
-      | inl before ↦ elim (Contains-append_cases (label_row global v) (entries v) e (((put.sorted v (node v from_one up_to_n)).each e).0 there)) [
-        | inl here ↦ (early v from_one up_to_n e here).0
-        | inr later ↦ absurd (omega (arith, before, All-contains (λ (x : Entry). p ≤ x.pos) (entries v) e (holds.from v from_one up_to_n) later))
-      ]
-      | inr from ↦ others_go at ranking edges c [] rows HoldsBelow-put v from_one up_to_n e there (λ needless. stays (from, needless))
+  -- an entry from p on of a row is a later entry of its node
+  later_in : (v : ℕ) → IsNode (length at) v → (e : Entry) → Contains (label_row rows v) e → p ≤ e.pos → Contains (entries v) e
+  later_in v is e there from = elim (Contains-append_cases (label_row global v) (entries v) e (((put.sorted v is).each e).0 there)) [
+    | inl here ↦ absurd (omega (arith, from, (early v is.from_one is.up_to_n e here).1))
+    | inr later ↦ later
+  ]
+
+  -- one before p stands in the global row
+  earlier_in : (v : ℕ) → IsNode (length at) v → (e : Entry) → Contains (label_row rows v) e → e.pos < p → Contains (label_row global v) e
+  earlier_in v is e there before = elim (Contains-append_cases (label_row global v) (entries v) e (((put.sorted v is).each e).0 there)) [
+    | inl here ↦ here
+    | inr later ↦ absurd (omega (arith, before, All-contains (λ (x : Entry). p ≤ x.pos) (entries v) e (holds.from v is.from_one is.up_to_n) later))
+  ]
+
+  module _ (apart : (v : ℕ) → IsNode (length at) v → All (λ e. ¬ IsNeedless at [] global v e) (entries v)) where
+    -- where the global rows cover no later entry, one that is needless is so by entries from p on
+    Goes-from_needless : (v : ℕ) → IsNode (length at) v → (e : Entry) → Contains (label_row rows v) e → p ≤ e.pos → IsNeedless at [] rows v e → Goes at p rows v e
+    Goes-from_needless v is e there from n = elim (cases_lt n.covered.position p) [
+      | inl before ↦
+          let shared = n.covered.shared in
+          let hub = hub_node at ranking e.pos n.hub n.hub_is in
+          absurd (All-contains (λ x. ¬ IsNeedless at [] global v x) (entries v) e (apart v is) (later_in v is e there from) (record {
+            hub = n.hub;
+            hub_is = n.hub_is;
+            covered =
+                covered (label_row global n.hub) (label_row global v) e.pos e.dist n.covered.position shared.before shared.after n.covered.above
+                (earlier_in n.hub (node n.hub hub.0 hub.1) (entry n.covered.position shared.before) shared.in_first before)
+                (earlier_in v is (entry n.covered.position shared.after) shared.in_second before)
+                (omega (arith, shared.long, n.covered.short));
+          }))
+      | inr late ↦ (n, late)
     ]
 
-    -- what stays is exactly the hubs up to c
-    pub IsRowBelow-short : IsRowBelow edges at c v (label_row short v)
-    IsRowBelow-short =
-        let row = are.row v (node v from_one up_to_n) in
-        record {
-          rising = row.rising;
-          each = λ e. (
-            λ here. let known = (row.each e).0 here in (is_hub e known.0 known.1, All-contains (λ (x : Entry). x.pos < c) (label_row rows v) e (HoldsBelow-put.below v from_one up_to_n) known.0),
-            λ hub. (row.each e).1 (HoldsBelow-put.hubs v from_one up_to_n e hub.0 hub.1, λ goes. hub_stays at ranking edges c [] rows HoldsBelow-put v from_one up_to_n e hub.0 goes.1),
-          );
-        }
+    module _ (short : List (List Entry)) (are : AreShort at p rows short) (v : ℕ) (from_one : 1 ≤ v) (up_to_n : v ≤ length at) where
+      is_hub : (e : Entry) → Contains (label_row rows v) e → ¬ Goes at p rows v e → IsHubEntry (Joined edges) at v e
+      is_hub e there stays = elim (cases_lt e.pos p) [
+        | inl before ↦ (early v from_one up_to_n e (earlier_in v (node v from_one up_to_n) e there before)).0
+        | inr from ↦ others_go at ranking edges c [] rows HoldsBelow-put v from_one up_to_n e there (λ needless. stays (Goes-from_needless v (node v from_one up_to_n) e there from needless))
+      ]
 
-  pub IsChlBelow-short : (short : List (List Entry)) → AreShort at p rows short → IsChlBelow edges at c short
-  IsChlBelow-short short are = record { size = are.size; row = IsRowBelow-short short are }
+      -- what stays is exactly the hubs up to c
+      pub IsRowBelow-short : IsRowBelow edges at c v (label_row short v)
+      IsRowBelow-short =
+          let row = are.row v (node v from_one up_to_n) in
+          record {
+            rising = row.rising;
+            each = λ e. (
+              λ here. let known = (row.each e).0 here in (is_hub e known.0 known.1, All-contains (λ (x : Entry). x.pos < c) (label_row rows v) e (HoldsBelow-put.below v from_one up_to_n) known.0),
+              λ hub. (row.each e).1 (HoldsBelow-put.hubs v from_one up_to_n e hub.0 hub.1, λ goes. hub_stays at ranking edges c [] rows HoldsBelow-put v from_one up_to_n e hub.0 goes.0),
+            );
+          }
+
+    pub IsChlBelow-short : (short : List (List Entry)) → AreShort at p rows short → IsChlBelow edges at c short
+    IsChlBelow-short short are = record { size = are.size; row = IsRowBelow-short short are }

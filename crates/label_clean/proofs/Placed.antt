@@ -1,10 +1,10 @@
 -- Entries put at their places in rows by rising position.
-use Rattle.std.proofs.Common.{◌≡◌, ◌≢◌, ◌⊎◌, ℕ, ◌+◌, ◌<◌, ◌≤◌, false, eqb, inl, inr, List, [], ◌∷◌, ◌++◌, All, Contains, length, map, get_or, take, drop, drop-cons, add-one, append_assoc, sym, ap, subst, ◌∙◌, arith}
+use Rattle.std.proofs.Common.{◌≡◌, ◌≢◌, ◌⊎◌, ℕ, ◌+◌, ◌-◌, ◌<◌, ◌≤◌, false, eqb, inl, inr, List, [], ◌∷◌, ◌++◌, All, Contains, length, map, get_or, take, drop, drop-cons, add-one, append_assoc, sym, ap, subst, ◌∙◌, arith}
 use Rattle.std.specs.List.{insert}
 use Rattle.std.specs.List.Sorted.{IsStrictlyIncreasing, IsNonDecreasingBy}
 use Rattle.std.proofs.lemmas.Bool.{cases_lt, cases_eq, ne_eqb}
-use Rattle.std.proofs.lemmas.List.{append-nil, get_or-map, length-map, take_all, take-append-drop}
-use Rattle.std.proofs.lemmas.List.Elements.{All-contains, All-contains_itself, All-map, All-weaker, recursion_from_All, Contains-append_left, Contains-append_right, Contains-append_cases}
+use Rattle.std.proofs.lemmas.List.{append-nil, get_or-map, get_or_default, length-map, take_all, take-append-drop}
+use Rattle.std.proofs.lemmas.List.Elements.{All-contains, All-contains_itself, All-map, All-weaker, recursion_from_All, Contains-append_left, Contains-append_right, Contains-append_cases, Contains-get_or}
 use Rattle.std.proofs.lemmas.List.Kept.{AllPairs-from_increasing}
 use Rattle.std.proofs.lemmas.List.Sorted.{IsNonDecreasingBy-insert, IsPermutation-insert}
 use Rattle.std.proofs.lemmas.Map.Keys.{IsDistinct-cons}
@@ -17,7 +17,7 @@ use Rattle.hub_index.specs.Views.{IsNode}
 use Rattle.hub_index.proofs.GatheredRows.{entries_of_node-append, entries_of_node-more, entries_of_node-one, entry_if-other, entry_if-same}
 use Rattle.label_clean.specs.Between.{IsEarlierRow, IsLaterRow}
 use Rattle.label_clean.specs.RawRows.{HasEachOnce}
-use Rattle.label_clean.specs.Shortened.{ArePut, HasLater}
+use Rattle.label_clean.specs.Shortened.{ArePut, HasLater, HasTwoLater}
 use Rattle.label_clean.specs.Sorted.{IsSortedRow}
 use Rattle.label_clean.proofs.Covering.{pos_of}
 use Rattle.label_clean.proofs.GoneOn.{one_part}
@@ -62,9 +62,35 @@ HasEachOnce-cons e row up new =
     (All-map (λ q. eqb e.pos q ≡ false) pos_of row (All-weaker (Contains row) (λ (f : Entry). eqb e.pos f.pos ≡ false) (λ f h. ne_eqb e.pos f.pos (new f h)) row (All-contains_itself row))))
     (once_from_rising row up)
 
--- the last entry of a row
-pub HasLater-last : (row : List Entry) (p k : ℕ) (e : Entry) → k < length row → get_or row k e ≡ e → p ≤ e.pos → HasLater p row
-HasLater-last row p k e within is from = (e, (k, within, is), from)
+-- two neighbours of a rising row
+pub HasTwoLater-neighbours : (row : List Entry) (p k : ℕ) (d : Entry) → IsStrictlyIncreasing (map pos_of row) → k + 1 < length row → p ≤ (get_or row k d).pos → HasTwoLater p row
+HasTwoLater-neighbours row p k d up within from = record {
+  lower = get_or row k d;
+  upper = get_or row (k + 1) d;
+  lower_in = Contains-get_or row k d (omega (arith, within));
+  upper_in = Contains-get_or row (k + 1) d within;
+  from = from;
+  apart =
+      omega (arith, AllPairs-from_increasing (map pos_of row) up k (k + 1) 0 (omega arith) (omega (arith, within, length-map row pos_of)), get_or-map pos_of row k d 0 (omega (arith, within)), get_or-map pos_of row (k + 1) d 0 within);
+}
+
+-- no entry of a rising row is above the last one
+pub below_last : (row : List Entry) (e d : Entry) → IsStrictlyIncreasing (map pos_of row) → Contains row e → e.pos ≤ (get_or row (length row - 1) d).pos
+below_last row e d up (k, within, is) =
+    let last : length row - 1 < length row = omega (arith, within) in
+    let here = ap pos_of is in
+    let same = ap pos_of (get_or_default row k d e within) in
+    omega (arith, never_falls row up k (length row - 1) d (omega (arith, within)) last, here, same)
+
+-- two entries from p on of a row that has taken one in: both were there, or one was
+pub two_later : (p : ℕ) (x : Entry) (row now : List Entry) → IsSortedRow (x ∷ row) now → HasTwoLater p now → HasLater p row
+two_later p x row now put two = elim (Contains-cons_cases x two.lower row ((put.each two.lower).0 two.lower_in)) [
+  | inr there ↦ (two.lower, there, two.from)
+  | inl is ↦ elim (Contains-cons_cases x two.upper row ((put.each two.upper).0 two.upper_in)) [
+    | inr there ↦ (two.upper, there, omega (arith, two.from, two.apart))
+    | inl same ↦ absurd (omega (arith, two.apart, ap pos_of is, ap pos_of same))
+  ]
+]
 
 module _ (n p : ℕ) (global : List (List Entry)) (fresh : List NodeEntry) where
   abbrev so_many : ℕ → ℕ → List Entry
@@ -78,7 +104,7 @@ module _ (n p : ℕ) (global : List (List Entry)) (fresh : List NodeEntry) where
         subst (λ rs. IsSortedRow (label_row global v ++ []) (label_row rs v)) (sym same)
         (record { rising = (earlier v node).rising; each = λ e. (λ h. Contains-append_left (label_row global v) [] e h, λ h. subst (λ xs. Contains xs e) (append-nil (label_row global v)) h) });
     nodes = subst (All (IsNode n)) (sym none) (λ k d within. absurd (omega (arith, within)));
-    touches = λ v node e h from. absurd (omega (arith, from, All-contains (λ (x : Entry). x.pos < p) (label_row global v) e (earlier v node).before (subst (λ rs. Contains (label_row rs v) e) same h)));
+    touches = λ v node two. absurd (omega (arith, two.from, All-contains (λ (x : Entry). x.pos < p) (label_row global v) two.lower (earlier v node).before (subst (λ rs. Contains (label_row rs v) two.lower) same two.lower_in)));
   }
 
   module _ (i : ℕ) (d : NodeEntry) (within : i < length fresh) where
@@ -109,7 +135,7 @@ module _ (n p : ℕ) (global : List (List Entry)) (fresh : List NodeEntry) where
             | inr there ↦ one_part (so_many i it.node) (entries_of_node (drop i fresh) it.node) f (entry_of it) (subst HasEachOnce (parted it.node) (later it.node node).once) there among (sym same)
           ])
 
-      module _ (after : List (List Entry)) (now : List ℕ) (size : length after ≡ length before) (row : IsSortedRow (entry_of it ∷ label_row before it.node) (label_row after it.node)) (others : (v : ℕ) → 1 ≤ v → v ≢ it.node → label_row after v ≡ label_row before v) (nodes : All (IsNode n) now) (kept : (v : ℕ) → Contains touched v → Contains now v) (noted : Contains now it.node ⊎ HasLater p (label_row before it.node)) where
+      module _ (after : List (List Entry)) (now : List ℕ) (size : length after ≡ length before) (row : IsSortedRow (entry_of it ∷ label_row before it.node) (label_row after it.node)) (others : (v : ℕ) → 1 ≤ v → v ≢ it.node → label_row after v ≡ label_row before v) (nodes : All (IsNode n) now) (kept : (v : ℕ) → Contains touched v → Contains now v) (noted : HasLater p (label_row before it.node) → Contains now it.node ⊎ HasTwoLater p (label_row before it.node)) where
         more : (v : ℕ) → so_many (i + 1) v ≡ so_many i v ++ entry_if it.node v (entry_of it)
         more v = entries_of_node-more fresh i v d within
 
@@ -124,10 +150,10 @@ module _ (n p : ℕ) (global : List (List Entry)) (fresh : List NodeEntry) where
             let none : so_many (i + 1) v ≡ so_many i v = more v ∙ ap (λ es. so_many i v ++ es) (entry_if-other it.node v (entry_of it) (λ same. other (sym same))) ∙ append-nil (so_many i v) in
             subst (λ es. IsSortedRow (label_row global v ++ es) (label_row after v)) (sym none) (subst (IsSortedRow (label_row global v ++ so_many i v)) (sym (others v is.from_one other)) (so_far.sorted v is))
 
-        touches_here : (e : Entry) → Contains (label_row after it.node) e → p ≤ e.pos → Contains now it.node
-        touches_here e h from = elim noted [
+        touches_here : HasTwoLater p (label_row after it.node) → Contains now it.node
+        touches_here two = elim (noted (two_later p (entry_of it) (label_row before it.node) (label_row after it.node) row two)) [
           | inl there ↦ there
-          | inr later ↦ kept it.node (so_far.touches it.node node later.0 later.1 later.2)
+          | inr both ↦ kept it.node (so_far.touches it.node node both)
         ]
 
         -- one entry more
@@ -139,9 +165,9 @@ module _ (n p : ℕ) (global : List (List Entry)) (fresh : List NodeEntry) where
             | inr other ↦ sorted_other v is other
           ];
           nodes = nodes;
-          touches = λ v is e h from. elim (cases_eq v it.node) [
-            | inl same ↦ subst (Contains now) (sym same) (touches_here e (subst (λ u. Contains (label_row after u) e) same h) from)
-            | inr other ↦ kept v (so_far.touches v is e (subst (λ es. Contains es e) (others v is.from_one other) h) from)
+          touches = λ v is two. elim (cases_eq v it.node) [
+            | inl same ↦ subst (Contains now) (sym same) (touches_here (subst (λ u. HasTwoLater p (label_row after u)) same two))
+            | inr other ↦ kept v (so_far.touches v is (subst (HasTwoLater p) (others v is.from_one other) two))
           ];
         }
 

@@ -7,15 +7,15 @@ ghost use Rattle.hub_index.specs.Sunk.{entries_of_node, entry_of};
 ghost use Rattle.hub_index.specs.Views.{IsNode};
 ghost use Rattle.label_clean.specs.Between.{IsEarlierRow, IsLaterRow};
 ghost use Rattle.label_clean.specs.RawRows.{HasEachOnce};
-ghost use Rattle.label_clean.specs.Shortened.{ArePut, HasLater, row_of};
+ghost use Rattle.label_clean.specs.Shortened.{ArePut, HasLater, HasTwoLater, row_of};
 ghost use Rattle.label_clean.specs.Sorted.{IsSortedRow};
 
 use hub_index::{NodeEntry, RowList};
 use std::alloc::AllocError;
 use walk_laws::Entry;
 
-/// The rows of the nodes 1..n with the fresh entries, each row by rising position, and the nodes that these touch. The only
-/// error is that memory ran out.
+/// The rows of the nodes 1..n with the fresh entries, each row by rising position, and the nodes that took in more than one.
+/// The only error is that memory ran out.
 pub fn with_fresh(
     n: u32,
     global: RowList,
@@ -37,8 +37,8 @@ pub fn with_fresh(
     Ok(RowList::from_rows(rows))
 }
 
-/// Puts an entry at its place in the row of its node, and notes the node where its row had no entry from `first` on. The only
-/// error is that memory ran out.
+/// Puts an entry at its place in the row of its node, and notes the node where its row had just one entry from `first` on.
+/// The only error is that memory ran out.
 fn put_in(
     rows: &mut Vec<Vec<Entry>>,
     first: u32,
@@ -54,35 +54,45 @@ fn put_in(
     ensures others { (v : ℕ) → 1 ≤ v → v ≢ entry.node → row_of rows.new.items v ≡ row_of rows.old.items v }
     ensures nodes { All (IsNode (length rows.old.items)) touched.new.items }
     ensures kept { (v : ℕ) → Contains touched.old.items v → Contains touched.new.items v }
-    ensures noted { OnOk result (Contains touched.new.items entry.node ⊎ HasLater first (row_of rows.old.items entry.node)) }
+    ensures noted { OnOk result (HasLater first (row_of rows.old.items entry.node)
+        → Contains touched.new.items entry.node ⊎ HasTwoLater first (row_of rows.old.items entry.node)) }
 {
     let place = entry.node as usize - 1;
     note_node(touched, entry.node, rows[place].as_slice(), first)?;
     insert_entry(&mut rows[place], entry.entry())
 }
 
-/// Puts the node behind the touched ones where its row has no entry from `first` on at its end. The only error is that memory
+/// Puts the node behind the touched ones where its row has just one entry from `first` on. The only error is that memory
 /// ran out.
 fn note_node(touched: &mut Vec<u32>, node: u32, row: &[Entry], first: u32) -> Result<(), AllocError>
+    requires { IsStrictlyIncreasing (map (λ e. e.pos) row.now) }
     ensures nodes { (n : ℕ) → IsNode n node → All (IsNode n) touched.old.items → All (IsNode n) touched.new.items }
     ensures kept { (v : ℕ) → Contains touched.old.items v → Contains touched.new.items v }
-    ensures noted { OnOk result (Contains touched.new.items node ⊎ HasLater first row.now) }
+    ensures noted { OnOk result (HasLater first row.now → Contains touched.new.items node ⊎ HasTwoLater first row.now) }
 {
-    if ends_from(row, first) {
+    if !has_one_from(row, first) {
         return Ok(());
     }
     touched.push(node)?;
     Ok(())
 }
 
-/// Whether the last entry of a row, where there is one, has a position from `first` on.
-fn ends_from(row: &[Entry], first: u32) -> bool
-    ensures { IsTrue result → HasLater first row.now }
+/// Whether just one entry of a row by rising position has a position from `first` on.
+fn has_one_from(row: &[Entry], first: u32) -> bool
+    requires { IsStrictlyIncreasing (map (λ e. e.pos) row.now) }
+    ensures { HasLater first row.now → IsTrue result ⊎ HasTwoLater first row.now }
 {
-    match row.last() {
-        Some(last) => last.pos >= first,
-        None => false,
+    let len = row.len();
+    if len == 0 {
+        return false;
     }
+    if row[len - 1].pos < first {
+        return false;
+    }
+    if len == 1 {
+        return true;
+    }
+    row[len - 2].pos < first
 }
 
 /// Puts an entry at its place in a row by rising position, which has none at its position. The only error is that memory ran

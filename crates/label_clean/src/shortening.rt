@@ -1,11 +1,10 @@
 //! Rows by rising position, without those of their entries from a position on that are needless.
-ghost use Rattle.std.specs.Prelude.{◌≡◌, ◌↔◌, ℕ, ◌<◌, ◌≤◌, [], All, List, length, IfOk, IsTrue};
+ghost use Rattle.std.specs.Prelude.{◌≡◌, ◌↔◌, ℕ, ◌<◌, ◌≤◌, All, List, length, map, IfOk, IsTrue};
+ghost use Rattle.std.specs.List.Sorted.{IsStrictlyIncreasing};
 ghost use Rattle.walk_laws.specs.declared.entry.Entry.{Entry as AnEntry};
 ghost use Rattle.walk_laws.specs.Labelling.{label_row};
 ghost use Rattle.hub_index.specs.Views.{IsNode};
-ghost use Rattle.label_clean.specs.Needless.{IsNeedless};
-ghost use Rattle.label_clean.specs.Shortened.{AreFound, Goes, HasTested, IsReplaced, IsRisingRow, IsShort, IsShortened, row_of};
-ghost use Rattle.label_clean.specs.Tested.{HoldsLeast};
+ghost use Rattle.label_clean.specs.Shortened.{AreFound, AreLater, Goes, HasTested, HoldsLater, IsReplaced, IsRisingRow, IsShort, IsShortened, row_of};
 
 use crate::cover::note_row;
 use hub_index::{RootTable, RowList, covered};
@@ -20,47 +19,79 @@ pub struct Shortened {
     pub row: Vec<Entry>,
 }
 
-/// Whether an entry of a node's row is needless, where the table has the distances of that row.
-fn is_needless(ranking: &Ranking, rows: &RowList, table: &RootTable, entry: Entry) -> bool
-    requires rows { length rows.now ≡ length ranking.now }
-    requires size { length table.now ≡ length ranking.now }
-    requires position { entry.pos < length ranking.now }
-    ensures { (v : ℕ) → HoldsLeast table.now (label_row rows.now v) → IsTrue result ↔ IsNeedless ranking.now [] rows.now v entry }
+/// The entries of a row by rising position from the position `first` on. They are sought from the end.
+fn tail_from(row: &[Entry], first: u32) -> &[Entry]
+    requires { IsStrictlyIncreasing (map (λ e. e.pos) row.now) }
+    ensures { AreLater first row.now result.now }
 {
-    let hub = ranking.at(entry.pos);
-    covered(rows.row(hub), table, entry.pos, entry.dist).is_some()
+    let mut place = row.len();
+    while place > 0 {
+        if row[place - 1].pos < first {
+            return &row[place..];
+        }
+        place -= 1;
+    }
+    row
 }
 
-/// Whether an entry of a node's row goes: it has a position from `first` on, and is needless.
-fn goes(ranking: &Ranking, rows: &RowList, first: u32, table: &RootTable, entry: Entry) -> bool
+/// Whether entries from `first` on, of the rows of its hub and of its node, make an entry needless, where the table has the
+/// distances of the node's entries from there on.
+fn is_needless(
+    ranking: &Ranking,
+    rows: &RowList,
+    first: u32,
+    table: &RootTable,
+    entry: Entry,
+) -> bool
     requires rows { length rows.now ≡ length ranking.now }
+    requires rising { (v : ℕ) → IsNode (length ranking.now) v → IsRisingRow (length ranking.now) (label_row rows.now v) }
     requires size { length table.now ≡ length ranking.now }
     requires position { entry.pos < length ranking.now }
-    ensures { (v : ℕ) → HoldsLeast table.now (label_row rows.now v) → IsTrue result ↔ Goes ranking.now first rows.now v entry }
+    ensures { (v : ℕ) → HoldsLater first (label_row rows.now v) table.now → IsTrue result ↔ Goes ranking.now first rows.now v entry }
+{
+    let hub = ranking.at(entry.pos);
+    let tail = tail_from(rows.row(hub), first);
+    covered(tail, table, entry.pos, entry.dist).is_some()
+}
+
+/// Whether an entry of a node's row goes. One before `first` stays, and no row is gone through for it.
+fn goes(ranking: &Ranking, rows: &RowList, first: u32, table: &RootTable, entry: Entry) -> bool
+    requires rows { length rows.now ≡ length ranking.now }
+    requires rising { (v : ℕ) → IsNode (length ranking.now) v → IsRisingRow (length ranking.now) (label_row rows.now v) }
+    requires size { length table.now ≡ length ranking.now }
+    requires position { entry.pos < length ranking.now }
+    ensures { (v : ℕ) → HoldsLater first (label_row rows.now v) table.now → IsTrue result ↔ Goes ranking.now first rows.now v entry }
 {
     if entry.pos < first {
         return false;
     }
-    is_needless(ranking, rows, table, entry)
+    is_needless(ranking, rows, first, table, entry)
 }
 
 /// Whether none of the entries, which are of a node's row, goes.
-fn all_stay(ranking: &Ranking, rows: &RowList, first: u32, table: &RootTable, row: &[Entry]) -> bool
+fn all_stay(
+    ranking: &Ranking,
+    rows: &RowList,
+    first: u32,
+    table: &RootTable,
+    entries: &[Entry],
+) -> bool
     requires rows { length rows.now ≡ length ranking.now }
+    requires rising { (v : ℕ) → IsNode (length ranking.now) v → IsRisingRow (length ranking.now) (label_row rows.now v) }
     requires size { length table.now ≡ length ranking.now }
-    requires positions { All (λ e. e.pos < length ranking.now) row.now }
-    ensures { (v : ℕ) → HoldsLeast table.now (label_row rows.now v) → IsTrue result → All (λ e. ¬ Goes ranking.now first rows.now v e) row.now }
+    requires positions { All (λ e. e.pos < length ranking.now) entries.now }
+    ensures { (v : ℕ) → HoldsLater first (label_row rows.now v) table.now → IsTrue result → All (λ e. ¬ Goes ranking.now first rows.now v e) entries.now }
 {
-    for entry in row {
-        if goes(ranking, rows, first, table, *entry) {
+    for entry in entries {
+        if is_needless(ranking, rows, first, table, *entry) {
             return false;
         }
     }
     true
 }
 
-/// The entries of the node `v`, a number from 1, that stay, where the table has the distances of its row. The only error is
-/// that memory ran out.
+/// The entries of the node `v`, a number from 1, that stay, where the table has the distances of its entries from `first`
+/// on. The only error is that memory ran out.
 fn what_stays(
     alloc: Global,
     ranking: &Ranking,
@@ -70,10 +101,10 @@ fn what_stays(
     v: u32,
 ) -> Result<Vec<Entry>, AllocError>
     requires rows { length rows.now ≡ length ranking.now }
+    requires rising { (v : ℕ) → IsNode (length ranking.now) v → IsRisingRow (length ranking.now) (label_row rows.now v) }
     requires node { IsNode (length ranking.now) v }
-    requires rising { IsRisingRow (length ranking.now) (label_row rows.now v) }
     requires size { length table.now ≡ length ranking.now }
-    requires held { HoldsLeast table.now (label_row rows.now v) }
+    requires held { HoldsLater first (label_row rows.now v) table.now }
     ensures { IfOk result (λ row. IsShort ranking.now first rows.now v row.items) }
 {
     let row = rows.row(v);
@@ -98,23 +129,23 @@ fn shortened_row(
     v: u32,
 ) -> Result<Option<Vec<Entry>>, AllocError>
     requires rows { length rows.now ≡ length ranking.now }
+    requires rising { (v : ℕ) → IsNode (length ranking.now) v → IsRisingRow (length ranking.now) (label_row rows.now v) }
     requires node { IsNode (length ranking.now) v }
-    requires rising { IsRisingRow (length ranking.now) (label_row rows.now v) }
     requires size { length table.old ≡ length ranking.now }
     ensures size { length table.new ≡ length table.old }
     ensures shortened { IfOk result (λ row. IsShortened ranking.now first rows.now v row) }
 {
+    let tail = tail_from(rows.row(v), first);
     table.clear();
-    note_row(table, rows.row(v));
-    if all_stay(ranking, rows, first, table, rows.row(v)) {
+    note_row(table, tail);
+    if all_stay(ranking, rows, first, table, tail) {
         return Ok(None);
     }
     let row = what_stays(alloc, ranking, rows, first, table, v)?;
     Ok(Some(row))
 }
 
-/// The rows that lose an entry, of each `count`-th of the touched nodes from `place` on. The only error is that memory ran
-/// out.
+/// The rows of the touched nodes that lose an entry. The only error is that memory ran out.
 pub fn shortened_rows(
     alloc: Global,
     ranking: &Ranking,
@@ -122,22 +153,16 @@ pub fn shortened_rows(
     first: u32,
     table: &mut RootTable,
     touched: &[u32],
-    place: usize,
-    count: usize,
 ) -> Result<Vec<Shortened>, AllocError>
     requires rows { length rows.now ≡ length ranking.now }
     requires rising { (v : ℕ) → IsNode (length ranking.now) v → IsRisingRow (length ranking.now) (label_row rows.now v) }
     requires size { length table.old ≡ length ranking.now }
     requires nodes { All (IsNode (length ranking.now)) touched.now }
-    requires count { 0 < count }
     ensures size { length table.new ≡ length table.old }
-    ensures tested { IfOk result (λ found. HasTested ranking.now first rows.now touched.now place count (length touched.now) found.items) }
+    ensures tested { IfOk result (λ found. HasTested ranking.now first rows.now touched.now found.items) }
 {
     let mut found = Vec::new(alloc);
-    for (k, v) in touched.iter().enumerate() {
-        if k % count != place {
-            continue;
-        }
+    for v in touched {
         let row = shortened_row(alloc, ranking, rows, first, table, *v)?;
         match row {
             Some(row) => found.push(Shortened { node: *v, row })?,

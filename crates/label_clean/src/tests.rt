@@ -134,11 +134,11 @@ fn fresh_entry(node: u32, pos: u32, dist: u64) -> NodeEntry
     NodeEntry { node, pos, dist }
 }
 
-/// What trees of the roots 2, 3 and 4 put, where that of 2 didn't see that of 1.
+/// What trees of the roots 2, 3 and 4 put, which see that of 1.
 fn fresh_entries(alloc: Global) -> Result<Vec<NodeEntry>, Fail>
     ensures { IfOk result (λ list. list.items ≡
         record { node = 4; pos = 3; dist = 0 } ∷ record { node = 3; pos = 2; dist = 0 } ∷ record { node = 4; pos = 2; dist = 1 }
-        ∷ record { node = 2; pos = 1; dist = 0 } ∷ record { node = 3; pos = 1; dist = 1 } ∷ record { node = 4; pos = 1; dist = 2 } ∷ []) }
+        ∷ record { node = 2; pos = 1; dist = 0 } ∷ record { node = 3; pos = 1; dist = 1 } ∷ []) }
 {
     Ok(vec![in alloc;
         fresh_entry(4, 3, 0),
@@ -146,11 +146,10 @@ fn fresh_entries(alloc: Global) -> Result<Vec<NodeEntry>, Fail>
         fresh_entry(4, 2, 1),
         fresh_entry(2, 1, 0),
         fresh_entry(3, 1, 1),
-        fresh_entry(4, 1, 2),
     ]?)
 }
 
-/// Of the fresh entries (1, 2) at node 4 alone is deleted.
+/// All of the fresh entries stay.
 #[test]
 fn a_table_is_gone_on_with_in_place(rt: HostRuntime) -> Result<(), Fail> {
     let ranking = one_to_four(rt.alloc())?;
@@ -162,8 +161,52 @@ fn a_table_is_gone_on_with_in_place(rt: HostRuntime) -> Result<(), Fail> {
         &[entry(0, 2), entry(1, 1), entry(2, 0)],
         &[entry(0, 1), entry(2, 1), entry(3, 0)],
     ];
-    let cleaner = Cleaner::new(rt.alloc(), 4, 2)?;
-    let (rows, _cleaner) = cleaner.go_on(&rt, rt.alloc(), &ranking, global, 1, fresh.as_slice())?;
+    let cleaner = Cleaner::new(rt.alloc(), 4)?;
+    let (rows, _cleaner) = cleaner.go_on(rt.alloc(), &ranking, global, 1, fresh.as_slice())?;
+    assert_eq!(rt; rows.n(), 4);
+    for (place, row) in table.iter().enumerate() {
+        let v = place as u32 + 1;
+        assert_eq!(rt; rows.row(v), *row, "{v}");
+    }
+    Ok(())
+}
+
+/// What trees of all four roots put, where that of 2 didn't see that of 1.
+fn all_fresh(alloc: Global) -> Result<Vec<NodeEntry>, Fail>
+    ensures { IfOk result (λ list. list.items ≡
+        record { node = 4; pos = 3; dist = 0 } ∷ record { node = 3; pos = 2; dist = 0 } ∷ record { node = 4; pos = 2; dist = 1 }
+        ∷ record { node = 2; pos = 1; dist = 0 } ∷ record { node = 3; pos = 1; dist = 1 } ∷ record { node = 4; pos = 1; dist = 2 }
+        ∷ record { node = 1; pos = 0; dist = 0 } ∷ record { node = 2; pos = 0; dist = 1 } ∷ record { node = 4; pos = 0; dist = 1 }
+        ∷ record { node = 3; pos = 0; dist = 2 } ∷ []) }
+{
+    Ok(vec![in alloc;
+        fresh_entry(4, 3, 0),
+        fresh_entry(3, 2, 0),
+        fresh_entry(4, 2, 1),
+        fresh_entry(2, 1, 0),
+        fresh_entry(3, 1, 1),
+        fresh_entry(4, 1, 2),
+        fresh_entry(1, 0, 0),
+        fresh_entry(2, 0, 1),
+        fresh_entry(4, 0, 1),
+        fresh_entry(3, 0, 2),
+    ]?)
+}
+
+/// Of the fresh entries (1, 2) at node 4 alone is deleted.
+#[test]
+fn a_fresh_entry_covers_another(rt: HostRuntime) -> Result<(), Fail> {
+    let ranking = one_to_four(rt.alloc())?;
+    let none = RowList::new(rt.alloc(), 4)?;
+    let fresh = all_fresh(rt.alloc())?;
+    let table: [&[Entry]; 4] = [
+        &[entry(0, 0)],
+        &[entry(0, 1), entry(1, 0)],
+        &[entry(0, 2), entry(1, 1), entry(2, 0)],
+        &[entry(0, 1), entry(2, 1), entry(3, 0)],
+    ];
+    let cleaner = Cleaner::new(rt.alloc(), 4)?;
+    let (rows, _cleaner) = cleaner.go_on(rt.alloc(), &ranking, none, 0, fresh.as_slice())?;
     assert_eq!(rt; rows.n(), 4);
     for (place, row) in table.iter().enumerate() {
         let v = place as u32 + 1;

@@ -10,4 +10,4 @@ pub returns-clause-kept : goal.returns-clause-kept
 returns-clause-kept c v there = subst (λ xs. Contains xs v) (sym c.in_ok-push.ensures.items) (Contains-append_left c.args.touched.now.items (c.args.node ∷ []) v there)
 
 pub returns-clause-noted : goal.returns-clause-noted
-returns-clause-noted c = inl (subst (λ xs. Contains xs c.args.node) (sym c.in_ok-push.ensures.items) (Contains-push c.args.touched.now.items c.args.node))
+returns-clause-noted c later = inl (subst (λ xs. Contains xs c.args.node) (sym c.in_ok-push.ensures.items) (Contains-push c.args.touched.now.items c.args.node))

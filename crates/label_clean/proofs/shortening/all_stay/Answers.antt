@@ -14,9 +14,9 @@ loop-entry-preserved c = λ v held k d lt. elim (cases_lt k c.loop-entry.entry-i
   | inl earlier ↦ c.loop-entry.invariant v held k d earlier
   | inr later ↦ λ going.
       let is : k ≡ c.loop-entry.entry-index = omega (arith, later, lt) in
-      let same : get_or c.args.row.now k d ≡ get_or c.args.row.now c.loop-entry.entry-index nothing = get_or_default c.args.row.now k d nothing (omega (arith, is, c.loop-entry-test.true)) ∙ ap (λ i. get_or c.args.row.now i nothing) is in
-      let found : IsTrue c.goes.result = (c.goes.ensures v held).1 (subst (Goes c.args.ranking.now c.args.first c.args.rows.now v) same going) in
-      let none : c.goes.result ≡ false = c.if-goes.false in
+      let same : get_or c.args.entries.now k d ≡ get_or c.args.entries.now c.loop-entry.entry-index nothing = get_or_default c.args.entries.now k d nothing (omega (arith, is, c.loop-entry-test.true)) ∙ ap (λ i. get_or c.args.entries.now i nothing) is in
+      let found : IsTrue c.is_needless.result = (c.is_needless.ensures v held).1 (subst (Goes c.args.ranking.now c.args.first c.args.rows.now v) same going) in
+      let none : c.is_needless.result ≡ false = c.if-is_needless.false in
       absurd cc
 ]
 

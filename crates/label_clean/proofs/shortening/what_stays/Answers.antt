@@ -11,7 +11,7 @@ abbrev nothing : Entry
 nothing = record { pos = 0; dist = 0 }
 
 rising : (c : After-row-row) → IsRisingRow (length c.args.ranking.now) c.row-row.result.now
-rising c = subst (IsRisingRow (length c.args.ranking.now)) (sym c.row-row.ensures) c.requires.rising
+rising c = subst (IsRisingRow (length c.args.ranking.now)) (sym c.row-row.ensures) (c.requires.rising c.args.v c.requires.node)
 
 pub goes-requires-clause-position : goal.goes-requires-clause-position
 goes-requires-clause-position c = (rising (goal.at.goes-requires-clause-position c).After-row-row).within c.loop-entry.entry-index nothing c.loop-entry-test.true

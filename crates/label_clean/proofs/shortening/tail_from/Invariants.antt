@@ -1,0 +1,13 @@
+use Rattle.std.proofs.Common.{ℕ, ◌<◌, ◌≤◌, length, get_or}
+use Rattle.walk_laws.specs.declared.entry.Entry.{Entry}
+use Rattle.label_clean.proofs.shortening.tail_from.Given as goal
+
+-- all entries from the place on have positions from `first` on
+abbrev pub invariant-loop-place : goal.invariant-loop-place
+invariant-loop-place l = record {
+  within : l.place ≤ length l.row;
+  behind : (k : ℕ) (d : Entry) → l.place ≤ k → k < length l.row → l.first ≤ (get_or l.row k d).pos;
+}
+
+abbrev pub decreases-loop-place : goal.decreases-loop-place
+decreases-loop-place l = l.place
