@@ -3,3 +3,4 @@ pub mod EmptyTables
 pub mod FreshEntries
 pub mod Harvests
 pub mod PutBy
+pub mod UncoveredPuts

@@ -10,6 +10,7 @@ use Rattle.hub_index.specs.Views.{IsNode}
 use Rattle.root_claims.specs.Seats.{ClaimsId, IsSeatOf as IsClaimSeatOf}
 use Rattle.label_pool.specs.Chains.{entries_at}
 use Rattle.label_pool.specs.Seats.{PoolId, IsSeatOf}
+use Rattle.label_clean.specs.Needless.{IsNeedless}
 use Rattle.pruned_tree.specs.GrownBy.{IsGrownBy}
 use Rattle.pool_view.specs.Fitting.{Fitting, IsFittingPool, edges_of, order_of}
 use Rattle.gll_build.specs.declared.share.Seats.{Seats}
@@ -57,22 +58,31 @@ pub record IsReady (claims : ClaimsId) (pool : PoolId Fitting) (n : ℕ) (worker
   pub own : share.own ≡ nothing_of n
   pub work : worker.work ≡ n
 
+-- the global rows of the hub of each entry and of the node v cover none
+abbrev pub AreUncovered : List ℕ → List (List Entry) → ℕ → List Entry → Type 0
+AreUncovered at global v entries = All (λ e. ¬ IsNeedless at [] global v e) entries
+
+-- where they cover nothing that was put before, they cover nothing that was put by then
+abbrev pub StayUncovered : List ℕ → List (List Entry) → (ℕ → List Entry) → (ℕ → List Entry) → Type 0
+StayUncovered at global before after = (v : ℕ) → IsNode (length at) v → AreUncovered at global v (before v) → AreUncovered at global v (after v)
+
 -- some root was claimed, or none was left
 abbrev pub HasBegun : Seats → Type 0
 HasBegun seats = (seats.claims.over ≡ true) ⊎ (1 ≤ length seats.claims.got)
 
--- the trees of all roots that were claimed with the share are grown
-pub record IsDone (edges : List Edge) (at : List ℕ) (share : Share) : Type 0 where
+-- the trees of all roots that were claimed with the share are grown, over this global table
+pub record IsDone (edges : List Edge) (at : List ℕ) (global : List (List Entry)) (share : Share) : Type 0 where
   pub begun : HasBegun share.seats
   pub nodes : length share.own ≡ length at
   pub grown : (v : ℕ) → IsNode (length at) v → IsGrownBy edges at share.seats.claims.got (IsOk share.memory) v [] (entries_at share.seats.pool.puts v ++ label_row share.own v)
+  pub apart : (v : ℕ) → IsNode (length at) v → AreUncovered at global v (entries_at share.seats.pool.puts v ++ label_row share.own v)
 
 -- a worker that has grown all trees of its share
-pub record HasWorked (claims : ClaimsId) (pool : PoolId Fitting) (edges : List Edge) (at : List ℕ) (worker : Worker) : Type 0 where
+pub record HasWorked (claims : ClaimsId) (pool : PoolId Fitting) (edges : List Edge) (at : List ℕ) (global : List (List Entry)) (worker : Worker) : Type 0 where
   pub share : Share
   pub there : worker.share ≡ Some share
   pub of : AreSeatsOf claims pool 0 share.seats
-  pub done : IsDone edges at share
+  pub done : IsDone edges at global share
   pub work : worker.work ≡ length at
 
 -- the entries, in any order, are what the trees of these roots put at v: such as may stand in its row, at most one for each root and none for another; and where the trees are whole, each root that is a hub of v
@@ -82,9 +92,10 @@ pub record IsPutBy (edges : List Edge) (at roots : List ℕ) (whole : Type 0) (v
   pub of_roots : All (λ e. Contains roots e.pos) entries
   pub hubs : whole → (e : Entry) → IsHubEntry (Joined edges) at v e → Contains roots e.pos → Contains entries e
 
--- what some workers hand back: what their trees put in the pool and among the entries that they kept, and their benches
-pub record IsHarvest (edges : List Edge) (at : List ℕ) (harvest : Harvest) : Type 0 where
+-- what some workers hand back: what their trees put in the pool and among the entries that they kept, of which this global table covers none, and their benches
+pub record IsHarvest (edges : List Edge) (at : List ℕ) (global : List (List Entry)) (harvest : Harvest) : Type 0 where
   pub begun : HasBegun harvest.seats
   pub nodes : All (λ e. IsNode (length at) e.node) harvest.kept.items
   pub put : (v : ℕ) → IsNode (length at) v → IsPutBy edges at harvest.seats.claims.got (IsOk harvest.memory) v (entries_at harvest.seats.pool.puts v ++ entries_of_node harvest.kept.items v)
+  pub apart : (v : ℕ) → IsNode (length at) v → AreUncovered at global v (entries_at harvest.seats.pool.puts v ++ entries_of_node harvest.kept.items v)
   pub benches : All (IsBenchFor (length at)) harvest.benches.items

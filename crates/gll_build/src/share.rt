@@ -6,7 +6,7 @@ ghost use Rattle.pruned_tree.specs.GrownBy.{HasGrown};
 ghost use Rattle.hub_index.specs.PlainRows.{IsGathered};
 ghost use Rattle.pool_view.specs.Fitting.{edges_of, order_of};
 ghost use Rattle.pool_view.specs.Viewing.{puts_row, view_kept};
-ghost use Rattle.gll_build.specs.Shares.{AreSeatsOf, AreNew, IsDone, IsPoolOf, nothing_of};
+ghost use Rattle.gll_build.specs.Shares.{AreSeatsOf, AreNew, IsDone, IsPoolOf, StayUncovered, nothing_of};
 
 use desk_io::Gate;
 use hub_index::RowList;
@@ -61,7 +61,7 @@ pub fn grow_share<R: Wait, G: Gate>(
     requires own { share.own ≡ nothing_of (length ranking.now) }
     ensures work { work.new ≡ work.old }
     ensures seats { AreSeatsOf claims.now pool.now 0 result.seats }
-    ensures done { IsDone graph.now.edges ranking.now result }
+    ensures done { IsDone graph.now.edges ranking.now global.now result }
 {
     let Share {
         seats,
@@ -123,6 +123,7 @@ fn grow_trees<R: Wait, G: Gate>(
     ensures begun { (seat.new.over ≡ true) ⊎ (1 ≤ length seat.new.got) }
     ensures kept { view_kept view.new ≡ view_kept view.old }
     ensures grown { HasGrown graph.now.edges ranking.now (IsOk result) seat.old.got seat.new.got (puts_row view.old) (puts_row view.new) }
+    ensures apart { StayUncovered ranking.now view.old.global (puts_row view.old) (puts_row view.new) }
 {
     let mut put = 0u64;
     for _ in rt.forever() {
@@ -167,6 +168,7 @@ fn next_tree<R: Wait, G: Gate>(
     ensures goes_on { IfOk result (λ puts. IfSome puts (λ _. seat.new.over ≡ false)) }
     ensures kept { view_kept view.new ≡ view_kept view.old }
     ensures grown { HasGrown graph.now.edges ranking.now (IsOk result) seat.old.got seat.new.got (puts_row view.old) (puts_row view.new) }
+    ensures apart { StayUncovered ranking.now view.old.global (puts_row view.old) (puts_row view.new) }
 {
     let p = match claims.claim(seat) {
         Claim::Root(p) => p,

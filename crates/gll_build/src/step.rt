@@ -111,7 +111,7 @@ fn grow_roots<R: Threads + Wait + Sync, G: Gate + Sync>(
     requires some { 1 ≤ vec_len benches }
     requires few { vec_len benches ≤ 64 }
     requires benches { All (IsBenchFor (length ranking.now)) benches.items }
-    ensures grown { IfOk result (IsGrownFrom graph.now.edges ranking.now first) }
+    ensures grown { IfOk result (IsGrownFrom graph.now.edges ranking.now global.now first) }
     ensures size { IfOk result (λ grown. vec_len grown.benches ≡ vec_len benches) }
     ensures benches { IfOk result (λ grown. All (IsBenchFor (length ranking.now)) grown.benches.items) }
 {
@@ -139,7 +139,7 @@ fn grow_roots<R: Threads + Wait + Sync, G: Gate + Sync>(
         workers.as_mut_slice(),
         gate,
     );
-    let harvest = bring_in(alloc, graph, ranking, &claims, &pool, workers)?;
+    let harvest = bring_in(alloc, graph, ranking, &claims, &pool, global, workers)?;
     let Harvest {
         seats,
         memory,
@@ -185,12 +185,12 @@ fn grow_all<R: Threads + Wait + Sync, G: Gate + Sync>(
     requires global { IsGathered graph.now.edges ranking.now global.now }
     requires ready { All (IsReady claims.now pool.now (length ranking.now)) workers.old }
     ensures size { length workers.new ≡ length workers.old }
-    ensures worked { All (HasWorked claims.now pool.now graph.now.edges ranking.now) workers.new }
+    ensures worked { All (HasWorked claims.now pool.now graph.now.edges ranking.now global.now) workers.new }
 {
     let count = workers.len();
     let grow = |_place: usize, worker: &mut Worker|
         requires { (length ranking.now ≡ graph.now.n) × (claims.now.n ≡ graph.now.n) × IsPoolOf graph.now.edges ranking.now pool.now × IsGathered graph.now.edges ranking.now global.now × IsReady claims.now pool.now (length ranking.now) worker.now }
-        ensures { HasWorked claims.entry.now pool.entry.now graph.entry.now.edges ranking.entry.now worker.exit.now }
+        ensures { HasWorked claims.entry.now pool.entry.now graph.entry.now.edges ranking.entry.now global.entry.now worker.exit.now }
     { worker.grow_trees(rt, alloc, graph, ranking, claims, pool, global, cut, gate) };
     thread::for_each_mut(rt, workers, count, &grow);
 }

@@ -74,7 +74,7 @@ impl Worker {
         requires pool { IsPoolOf graph.now.edges ranking.now pool.now }
         requires global { IsGathered graph.now.edges ranking.now global.now }
         requires ready { IsReady claims.now pool.now (length ranking.now) self.old }
-        ensures { HasWorked claims.now pool.now graph.now.edges ranking.now self.new }
+        ensures { HasWorked claims.now pool.now graph.now.edges ranking.now global.now self.new }
     {
         if let Some(share) = self.share.take() {
             self.share = Some(grow_share(
@@ -164,21 +164,22 @@ pub fn bring_in(
     ranking: &Ranking,
     claims: &Claims,
     pool: &Pool<Fits>,
+    global: &RowList,
     workers: Vec<Worker>,
 ) -> Result<Harvest, AllocError>
     requires some { 1 ≤ vec_len workers }
-    requires worked { All (HasWorked claims.now pool.now graph.now.edges ranking.now) workers.items }
+    requires worked { All (HasWorked claims.now pool.now graph.now.edges ranking.now global.now) workers.items }
     ensures seats { IfOk result (λ harvest. AreSeatsOf claims.now pool.now (vec_len workers - 1) harvest.seats) }
     ensures benches { IfOk result (λ harvest. vec_len harvest.benches ≡ vec_len workers) }
-    ensures harvest { IfOk result (λ harvest. IsHarvest graph.now.edges ranking.now harvest) }
+    ensures harvest { IfOk result (λ harvest. IsHarvest graph.now.edges ranking.now global.now harvest) }
 {
     let mut workers = workers;
     let Some(last) = workers.pop() else {
         unreachable!()
     };
-    let mut whole = first_of(alloc, graph, ranking, claims, pool, last)?;
+    let mut whole = first_of(alloc, graph, ranking, claims, pool, global, last)?;
     while let Some(worker) = workers.pop() {
-        whole = with_worker(graph, ranking, claims, pool, whole, worker)?;
+        whole = with_worker(graph, ranking, claims, pool, global, whole, worker)?;
     }
     Ok(whole)
 }
@@ -189,11 +190,12 @@ fn parts_of(
     ranking: &Ranking,
     claims: &Claims,
     pool: &Pool<Fits>,
+    global: &RowList,
     worker: Worker,
 ) -> (Share, Work)
-    requires { HasWorked claims.now pool.now graph.now.edges ranking.now worker }
+    requires { HasWorked claims.now pool.now graph.now.edges ranking.now global.now worker }
     ensures seats { AreSeatsOf claims.now pool.now 0 result.0.seats }
-    ensures done { IsDone graph.now.edges ranking.now result.0 }
+    ensures done { IsDone graph.now.edges ranking.now global.now result.0 }
     ensures work { result.1 ≡ length ranking.now }
 {
     let Worker { share, work } = worker;
@@ -210,14 +212,15 @@ fn first_of(
     ranking: &Ranking,
     claims: &Claims,
     pool: &Pool<Fits>,
+    global: &RowList,
     worker: Worker,
 ) -> Result<Harvest, AllocError>
-    requires { HasWorked claims.now pool.now graph.now.edges ranking.now worker }
+    requires { HasWorked claims.now pool.now graph.now.edges ranking.now global.now worker }
     ensures seats { IfOk result (λ harvest. AreSeatsOf claims.now pool.now 0 harvest.seats) }
     ensures benches { IfOk result (λ harvest. vec_len harvest.benches ≡ 1) }
-    ensures harvest { IfOk result (λ harvest. IsHarvest graph.now.edges ranking.now harvest) }
+    ensures harvest { IfOk result (λ harvest. IsHarvest graph.now.edges ranking.now global.now harvest) }
 {
-    let (share, work) = parts_of(graph, ranking, claims, pool, worker);
+    let (share, work) = parts_of(graph, ranking, claims, pool, global, worker);
     let Share { seats, own, memory } = share;
     let mut kept = Vec::new(alloc);
     let empty = own.empty_into(&mut kept)?;
@@ -237,17 +240,18 @@ fn with_worker(
     ranking: &Ranking,
     claims: &Claims,
     pool: &Pool<Fits>,
+    global: &RowList,
     whole: Harvest,
     worker: Worker,
 ) -> Result<Harvest, AllocError>
     requires whole { (left : ℕ) × AreSeatsOf claims.now pool.now left whole.seats }
-    requires harvest { IsHarvest graph.now.edges ranking.now whole }
-    requires worker { HasWorked claims.now pool.now graph.now.edges ranking.now worker }
+    requires harvest { IsHarvest graph.now.edges ranking.now global.now whole }
+    requires worker { HasWorked claims.now pool.now graph.now.edges ranking.now global.now worker }
     ensures seats { IfOk result (λ harvest. (left : ℕ) → AreSeatsOf claims.now pool.now left whole.seats → AreSeatsOf claims.now pool.now (left + 1) harvest.seats) }
     ensures benches { IfOk result (λ harvest. vec_len harvest.benches ≡ vec_len whole.benches + 1) }
-    ensures harvest { IfOk result (λ harvest. IsHarvest graph.now.edges ranking.now harvest) }
+    ensures harvest { IfOk result (λ harvest. IsHarvest graph.now.edges ranking.now global.now harvest) }
 {
-    let (share, work) = parts_of(graph, ranking, claims, pool, worker);
+    let (share, work) = parts_of(graph, ranking, claims, pool, global, worker);
     let Share {
         seats: other,
         own,

@@ -2,10 +2,13 @@ use Rattle.std.proofs.Common.{◌≡◌, ℕ, List, [], ◌++◌, length, sym, a
 use Rattle.std.specs.Prelude.{IsOk}
 use Rattle.walk_laws.specs.declared.entry.Entry.{Entry}
 use Rattle.walk_laws.specs.Labelling.{label_row}
+use Rattle.hub_index.specs.Views.{IsNode}
 use Rattle.label_pool.specs.Chains.{entries_at}
 use Rattle.pool_view.specs.Fitting.{order_of}
 use Rattle.pool_view.specs.Viewing.{ViewKept, puts_row}
 use Rattle.gll_build.proofs.DoneShares.{nothing_put, grown_from_nothing}
+use Rattle.gll_build.specs.Shares.{AreUncovered}
+use Rattle.gll_build.proofs.UncoveredPuts.{AreUncovered-from_nothing}
 use Rattle.gll_build.proofs.share.grow_share.Goals as goal
 
 pub returns-clause-done : goal.returns-clause-done
@@ -16,12 +19,17 @@ returns-clause-done g c =
     let order_is : order_of c.grow_trees-memory.new.view.seat.pool.fact ≡ c.args.ranking.now =
     ap (λ (k : ViewKept). order_of k.pool.fact) c.grow_trees-memory.ensures.kept ∙ ap (λ p. order_of p.fact) pool_is ∙ c.requires.pool.order_is in
     let own = c.into_parts-pool_seat.ensures.own in
+    let empty : (v : ℕ) → IsNode (length c.args.ranking.now) v → puts_row c.new-view.result v ≡ [] = λ v node.
+    nothing_put c.new-view.result.seat.puts c.new-view.result.own (length c.args.ranking.now) v (ap (λ s. s.puts) c.new-view.ensures.seat ∙ c.requires.new.puts) (c.new-view.ensures.own ∙ c.requires.own) node in
+    let same : (v : ℕ) → puts_row c.grow_trees-memory.new.view v ≡ entries_at c.into_parts-pool_seat.result.0.puts v ++ label_row c.into_parts-pool_seat.result.1 v = λ v.
+    ap (λ s. entries_at s.puts v ++ label_row c.grow_trees-memory.new.view.own v) (sym c.into_parts-pool_seat.ensures.seat) ∙ ap (λ o. entries_at c.into_parts-pool_seat.result.0.puts v ++ label_row o v) (sym own) in
     record {
       begun = c.grow_trees-memory.ensures.begun;
       nodes = ap length own ∙ c.into_parts-pool_seat.ensures.fit.size ∙ ap length order_is;
       grown =
           grown_from_nothing edges at (IsOk c.grow_trees-memory.result) c.args.share.seats.claims.got c.grow_trees-memory.new.seat.got (puts_row c.new-view.result) (puts_row c.grow_trees-memory.new.view) (λ v. entries_at c.into_parts-pool_seat.result.0.puts v ++ label_row c.into_parts-pool_seat.result.1 v)
-          c.grow_trees-memory.ensures.grown c.requires.new.got
-          (λ v node. nothing_put c.new-view.result.seat.puts c.new-view.result.own (length c.args.ranking.now) v (ap (λ s. s.puts) c.new-view.ensures.seat ∙ c.requires.new.puts) (c.new-view.ensures.own ∙ c.requires.own) node)
-          (λ v. ap (λ s. entries_at s.puts v ++ label_row c.grow_trees-memory.new.view.own v) (sym c.into_parts-pool_seat.ensures.seat) ∙ ap (λ o. entries_at c.into_parts-pool_seat.result.0.puts v ++ label_row o v) (sym own));
+          c.grow_trees-memory.ensures.grown c.requires.new.got empty same;
+      apart = λ v node.
+          subst (λ rows. AreUncovered c.args.ranking.now rows v (entries_at c.into_parts-pool_seat.result.0.puts v ++ label_row c.into_parts-pool_seat.result.1 v)) c.new-view.ensures.global
+          (AreUncovered-from_nothing at c.new-view.result.global (puts_row c.new-view.result) (puts_row c.grow_trees-memory.new.view) (λ x. entries_at c.into_parts-pool_seat.result.0.puts x ++ label_row c.into_parts-pool_seat.result.1 x) c.grow_trees-memory.ensures.apart empty same v node);
     }

@@ -3,9 +3,10 @@ use Rattle.root_claims.specs.Seats.{IsSeatOf as IsClaimSeatOf}
 use Rattle.pruned_tree.specs.GrownBy.{HasGrown}
 use Rattle.pool_view.specs.Fitting.{edges_of, order_of}
 use Rattle.pool_view.specs.Viewing.{puts_row, view_kept}
+use Rattle.gll_build.specs.Shares.{StayUncovered}
 use Rattle.gll_build.proofs.share.grow_trees.Given as goal
 
--- the seat is of the same claims as before, the view of the same rows, and the trees of all roots that were claimed are grown
+-- the seat is of the same claims as before, the view of the same rows, and the trees of all roots that were claimed are grown, over the global table
 abbrev pub invariant-loop : goal.invariant-loop
 invariant-loop g l =
     (goal.iterator-loop g).can_next l.iterator' × (goal.iterator-loop g).is_finite l.iterator'
@@ -13,3 +14,4 @@ invariant-loop g l =
     × IsClaimSeatOf l.claims l.seat × (l.seat.left ≡ l.fn.seat.left) × (l.seat.over ≡ false)
     × (edges_of l.view.seat.pool.fact ≡ l.graph.edges) × (order_of l.view.seat.pool.fact ≡ l.ranking) × (view_kept l.view ≡ view_kept l.fn.view)
     × HasGrown l.graph.edges l.ranking (true ≡ true) l.fn.seat.got l.seat.got (puts_row l.fn.view) (puts_row l.view)
+    × StayUncovered l.ranking l.fn.view.global (puts_row l.fn.view) (puts_row l.view)

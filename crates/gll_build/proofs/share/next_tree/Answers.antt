@@ -3,6 +3,7 @@ use Rattle.std.specs.Prelude.{IsOk}
 use Rattle.std.proofs.lemmas.List.{append-nil}
 use Rattle.pruned_tree.proofs.GrownPuts.{not_ok, IsGrownBy-none, IsGrownBy-tree}
 use Rattle.pool_view.specs.Viewing.{puts_row}
+use Rattle.gll_build.proofs.UncoveredPuts.{StayUncovered-none, StayUncovered-tree}
 use Rattle.gll_build.proofs.share.next_tree.Goals as goal
 
 pub returns-in-End-clause-grown : goal.returns-in-End-clause-grown
@@ -23,3 +24,12 @@ returns-clause-grown g c = (
   c.in-Root.ensures.root,
   λ v node. IsGrownBy-tree c.args.graph.now.edges c.args.ranking.now c.in-Root.p _ (puts_row c.args.view.now) (puts_row c.grow.new.view) _ c.in_ok-puts.ensures.grown _ (λ _. refl) v node.from_one,
 )
+
+pub returns-in-End-clause-apart : goal.returns-in-End-clause-apart
+returns-in-End-clause-apart g c = StayUncovered-none c.args.ranking.now c.args.view.now.global (puts_row c.args.view.now)
+
+pub returns-in_err-puts-clause-apart : goal.returns-in_err-puts-clause-apart
+returns-in_err-puts-clause-apart g c = StayUncovered-tree c.args.ranking.now c.args.graph.now.edges c.in-Root.p c.args.view.now (puts_row c.grow.new.view) _ c.in_err-puts.ensures.grown
+
+pub returns-clause-apart : goal.returns-clause-apart
+returns-clause-apart g c = StayUncovered-tree c.args.ranking.now c.args.graph.now.edges c.in-Root.p c.args.view.now (puts_row c.grow.new.view) _ c.in_ok-puts.ensures.grown

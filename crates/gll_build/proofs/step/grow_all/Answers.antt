@@ -9,4 +9,4 @@ for_each_mut-requires-clause-accepts g c κs within =
 pub returns-clause-worked : goal.returns-clause-worked
 returns-clause-worked g c = λ k d lt.
     let call = (c.for_each_mut.ensures k d (omega (arith, lt, c.for_each_mut.auto.s))).1 in
-    subst (HasWorked c.args.claims.now c.args.pool.now c.args.graph.now.edges c.args.ranking.now) call.left call.call
+    subst (HasWorked c.args.claims.now c.args.pool.now c.args.graph.now.edges c.args.ranking.now c.args.global.now) call.left call.call

@@ -15,6 +15,7 @@ use Rattle.label_clean.proofs.RowItems.{take_filled}
 use Rattle.gll_build.specs.Shares.{AreSeatsOf, HasWorked, IsBenchFor, IsPoolOf, IsPutBy, IsReady}
 use Rattle.gll_build.proofs.FreshEntries.{HoldsBetween-fresh, further}
 use Rattle.gll_build.proofs.PutBy.{IsPutBy-moved}
+use Rattle.gll_build.proofs.UncoveredPuts.{AreUncovered-moved}
 use Rattle.gll_build.proofs.step.grow_roots.Goals as goal
 
 pub grow_all-requires-clause-ready : goal.grow_all-requires-clause-ready
@@ -26,7 +27,7 @@ pub bring_in-requires-clause-worked : goal.bring_in-requires-clause-worked
 bring_in-requires-clause-worked g c =
     let size : length c.grow_all.new.workers ≡ length c.in_ok-workers.workers.items = c.grow_all.ensures.size ∙ ap length c.as_mut_slice.ensures.value in
     let long : length c.in_ok-workers.workers.items ≡ c.in_ok-workers.workers.len = omega (arith, ap length c.as_mut_slice.ensures.value, c.as_mut_slice.ensures.len) in
-    subst (All (HasWorked c.in_ok-claims.claims c.in_ok-pool.pool c.args.graph.now.edges c.args.ranking.now)) (sym (take_filled c.in_ok-workers.workers.len c.grow_all.new.workers c.in_ok-workers.workers.items size long)) c.grow_all.ensures.worked
+    subst (All (HasWorked c.in_ok-claims.claims c.in_ok-pool.pool c.args.graph.now.edges c.args.ranking.now c.args.global.now)) (sym (take_filled c.in_ok-workers.workers.len c.grow_all.new.workers c.in_ok-workers.workers.items size long)) c.grow_all.ensures.worked
 
 pub returns-clause-grown : goal.returns-clause-grown
 returns-clause-grown g c =
@@ -41,6 +42,10 @@ returns-clause-grown g c =
     let ok : IsOk harvest.memory = ap is_ok c.in_ok-memory.was in
     let listed = c.in_ok-fresh.fresh.items in
     let fresh : c.append.new.self.items ≡ c.in_ok-fresh.fresh.items ++ harvest.kept.items = c.in_ok-append.ensures.items in
+    let moved : (v : ℕ) → IsNode (length c.args.ranking.now) v → IsPermutation (entries_at harvest.seats.pool.puts v ++ entries_of_node harvest.kept.items v) (entries_of_node c.append.new.self.items v) = λ v node.
+    subst (IsPermutation (entries_at harvest.seats.pool.puts v ++ entries_of_node harvest.kept.items v)) (sym (ap (λ es. entries_of_node es v) fresh ∙ entries_of_node-append listed harvest.kept.items v))
+    (IsPermutation-append (entries_at harvest.seats.pool.puts v) (entries_of_node c.in_ok-fresh.fresh.items v) (entries_of_node harvest.kept.items v) (entries_of_node harvest.kept.items v)
+    (c.in_ok-fresh.ensures.puts v (subst (λ n. IsNode n v) (sym (c.in_ok-pool.ensures.pool.0 ∙ n_is)) node)) (IsPermutation-refl (entries_of_node harvest.kept.items v))) in
     record {
       more = elim is.begun [
         | inl over ↦ let last = c.close-next.ensures.over over ∙ c.in_ok-claims.ensures.claims.1 ∙ n_is in omega (arith, last, c.requires.first)
@@ -52,10 +57,6 @@ returns-clause-grown g c =
           (All-append (λ (e : NodeEntry). IsNode (length c.args.ranking.now) e.node) listed harvest.kept.items (subst (λ n. All (λ (e : NodeEntry). IsNode n e.node) c.in_ok-fresh.fresh.items) (c.in_ok-pool.ensures.pool.0 ∙ n_is) c.in_ok-fresh.ensures.nodes) is.nodes);
       holds =
           HoldsBetween-fresh c.args.graph.now.n edges at c.n-n.ensures.graph first next harvest.seats.claims.got got (IsOk harvest.memory) ok (entries_of_node c.append.new.self.items)
-          (λ v node.
-          let moved : IsPermutation (entries_at harvest.seats.pool.puts v ++ entries_of_node harvest.kept.items v) (entries_of_node c.append.new.self.items v) =
-          subst (IsPermutation (entries_at harvest.seats.pool.puts v ++ entries_of_node harvest.kept.items v)) (sym (ap (λ es. entries_of_node es v) fresh ∙ entries_of_node-append listed harvest.kept.items v))
-          (IsPermutation-append (entries_at harvest.seats.pool.puts v) (entries_of_node c.in_ok-fresh.fresh.items v) (entries_of_node harvest.kept.items v) (entries_of_node harvest.kept.items v)
-          (c.in_ok-fresh.ensures.puts v (subst (λ n. IsNode n v) (sym (c.in_ok-pool.ensures.pool.0 ∙ n_is)) node)) (IsPermutation-refl (entries_of_node harvest.kept.items v))) in
-          IsPutBy-moved edges at harvest.seats.claims.got (IsOk harvest.memory) v (entries_at harvest.seats.pool.puts v ++ entries_of_node harvest.kept.items v) (entries_of_node c.append.new.self.items v) moved (is.put v node));
+          (λ v node. IsPutBy-moved edges at harvest.seats.claims.got (IsOk harvest.memory) v (entries_at harvest.seats.pool.puts v ++ entries_of_node harvest.kept.items v) (entries_of_node c.append.new.self.items v) (moved v node) (is.put v node));
+      apart = λ v node. AreUncovered-moved at c.args.global.now v (entries_at harvest.seats.pool.puts v ++ entries_of_node harvest.kept.items v) (entries_of_node c.append.new.self.items v) (moved v node) (is.apart v node);
     }

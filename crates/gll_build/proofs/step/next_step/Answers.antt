@@ -3,6 +3,7 @@ use Rattle.hub_index.specs.Sunk.{entries_of_node}
 use Rattle.hub_index.specs.Views.{IsNode}
 use Rattle.label_clean.specs.Below.{IsChlBelow}
 use Rattle.label_clean.specs.Between.{HoldsBetween, IsLaterRow}
+use Rattle.gll_build.specs.Shares.{AreUncovered}
 use Rattle.gll_build.proofs.Harvests.{IsGathered-below, earlier-below, later-between}
 use Rattle.gll_build.proofs.step.next_step.Goals as goal
 
@@ -18,6 +19,10 @@ go_on-requires-clause-later g c κs within =
     let same = c.as_slice.ensures.value in
     subst (λ es. (v : ℕ) → IsNode (length c.args.ranking.now) v → IsLaterRow c.args.progress.next (length c.args.ranking.now) (entries_of_node es v)) (sym same)
     (later-between c.args.graph.now.edges c.args.ranking.now c.args.progress.next c.in_ok-grown.grown.next (entries_of_node c.in_ok-grown.grown.fresh.items) grown.within grown.holds)
+
+pub go_on-requires-clause-apart : goal.go_on-requires-clause-apart
+go_on-requires-clause-apart g c κs within =
+    subst (λ es. (v : ℕ) → IsNode (length c.args.ranking.now) v → AreUncovered c.args.ranking.now c.args.progress.rows v (entries_of_node es v)) (sym c.as_slice.ensures.value) c.in_ok-grown.ensures.grown.apart
 
 pub returns-clause-progress : goal.returns-clause-progress
 returns-clause-progress g c =

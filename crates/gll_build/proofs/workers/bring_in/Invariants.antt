@@ -7,8 +7,8 @@ abbrev pub invariant-loop-worker : goal.invariant-loop-worker
 invariant-loop-worker l = record {
   seats : (left : ℕ) × (left + 1 + vec_len l.workers ≡ vec_len l.fn.workers) × AreSeatsOf l.claims l.pool left l.whole.seats;
   size : vec_len l.whole.benches + vec_len l.workers ≡ vec_len l.fn.workers;
-  harvest : IsHarvest l.graph.edges l.ranking l.whole;
-  worked : All (HasWorked l.claims l.pool l.graph.edges l.ranking) l.workers.items;
+  harvest : IsHarvest l.graph.edges l.ranking l.global l.whole;
+  worked : All (HasWorked l.claims l.pool l.graph.edges l.ranking l.global) l.workers.items;
 }
 
 abbrev pub decreases-loop-worker : goal.decreases-loop-worker

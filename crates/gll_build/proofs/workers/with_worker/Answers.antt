@@ -11,6 +11,7 @@ use Rattle.pruned_tree.proofs.GrownPuts.{AreApart-distinct}
 use Rattle.gll_build.specs.Shares.{IsBenchFor, IsPutBy, nothing_of}
 use Rattle.gll_build.proofs.PutBy.{IsPutBy-from_grown, entries_at-append}
 use Rattle.gll_build.proofs.Harvests.{IsOk-both, begun-both, put-both}
+use Rattle.gll_build.proofs.UncoveredPuts.{AreUncovered-both}
 use Rattle.gll_build.proofs.workers.with_worker.Goals as goal
 
 pub returns-clause-harvest : goal.returns-clause-harvest
@@ -39,6 +40,11 @@ returns-clause-harvest c =
           (AreApart-distinct first second (rw (← seats.got) seats.once)) (λ ok. IsOk-both c.args.whole.memory share.memory (rw (← c.and.ensures) ok))
           (ap (λ ps. entries_at ps v) seats.puts ∙ entries_at-append one.pool.puts two.pool.puts v)
           (c.in_ok-empty.ensures.entries v (subst (λ n. IsNode n v) (sym size) node)));
+      apart = λ v node.
+          AreUncovered-both c.args.ranking.now c.args.global.now v (entries_at one.pool.puts v) (entries_of_node c.args.whole.kept.items v) (entries_at two.pool.puts v) (label_row share.own v)
+          (entries_at c.together-seats.result.pool.puts v) (entries_of_node c.empty_into.new.others.items v) (was.apart v node) (done.apart v node)
+          (ap (λ ps. entries_at ps v) seats.puts ∙ entries_at-append one.pool.puts two.pool.puts v)
+          (c.in_ok-empty.ensures.entries v (subst (λ n. IsNode n v) (sym size) node));
       benches =
           subst (All (IsBenchFor (length c.args.ranking.now))) (sym c.in_ok-push.ensures.items)
           (All-push (IsBenchFor (length c.args.ranking.now)) c.args.whole.benches.items (record { own = c.in_ok-empty.empty; work = c.parts_of-share.result.1 }) was.benches
