@@ -5,11 +5,12 @@
 //! label_pool (where the new entries stand), pool_view (the rows as a worker sees them), pruned_tree (one tree), label_clean
 //! (cleaning), renumbering (the copy that a build works on), hub_index, desk_io (the gate that watches a build), walk_laws
 //! and rank_table. Its callers' clauses use `IsChl` of walk_laws, `HubIndex` of hub_index, and those of a superstep
-//! `IsChlBelow` of label_clean. No command uses it yet.
+//! `IsChlBelow` of label_clean.
 #![tactic(auto)]
 
 mod build;
 mod share;
+mod start_line;
 mod step;
 #[cfg(test)]
 mod tests;

@@ -5,6 +5,7 @@ ghost use Rattle.gll_build.specs.Shares.{HasWorked, IsBenchFor, IsPoolOf, IsRead
 ghost use Rattle.gll_build.specs.Workshops.{IsGrownFrom, IsProgress, IsWorkshopFor};
 
 use crate::share::Seats;
+use crate::start_line::StartLine;
 use crate::workers::{Bench, Harvest, Worker, benches_for, bring_in, seated};
 use desk_io::Gate;
 use hub_index::{NodeEntry, RowList};
@@ -188,9 +189,13 @@ fn grow_all<R: Threads + Wait + Sync, G: Gate + Sync>(
     ensures worked { All (HasWorked claims.now pool.now graph.now.edges ranking.now global.now) workers.new }
 {
     let count = workers.len();
+    let line = StartLine::new(count as u64);
     let grow = |_place: usize, worker: &mut Worker|
         requires { (length ranking.now ≡ graph.now.n) × (claims.now.n ≡ graph.now.n) × IsPoolOf graph.now.edges ranking.now pool.now × IsGathered graph.now.edges ranking.now global.now × IsReady claims.now pool.now (length ranking.now) worker.now }
         ensures { HasWorked claims.entry.now pool.entry.now graph.entry.now.edges ranking.entry.now global.entry.now worker.exit.now }
-    { worker.grow_trees(rt, alloc, graph, ranking, claims, pool, global, cut, gate) };
+    {
+        line.wait(rt);
+        worker.grow_trees(rt, alloc, graph, ranking, claims, pool, global, cut, gate);
+    };
     thread::for_each_mut(rt, workers, count, &grow);
 }
