@@ -7,7 +7,7 @@
 //! its hub and of its node at no greater length. `laws` has the step of a builder who goes on with a global table. It stands
 //! on walk_laws (`Entry`, the laws of covers), rank_table (`Ranking`) and hub_index (`RowList`, `RootTable`, `NodeEntry`). Its
 //! callers' clauses use `HoldsBelow` and `IsChlBelow` (specs/Below), `HoldsBetween` (specs/Between), `IsRawRow` and `both_rows`
-//! (specs/RawRows) and `IsSurvivingRow` (specs/Needless).
+//! (specs/RawRows), `IsNeedless` and `IsSurvivingRow` (specs/Needless).
 #![tactic(auto)]
 
 mod cleaning;
