@@ -31,58 +31,10 @@ pub fn with_fresh(
     ensures { IfOk result (λ rows. ArePut n first global (entries_of_node fresh.now) rows touched.new.items) }
 {
     let mut rows = global.into_rows();
-    for (place, entry) in fresh.iter().enumerate() {
-        make_room(rows.as_slice(), first, fresh, place, touched)?;
+    for entry in fresh {
         put_in(&mut rows, first, *entry, touched)?;
     }
     Ok(RowList::from_rows(rows))
-}
-
-/// Of how many entries the ends of the rows are read at a time.
-const BLOCK: usize = 256;
-
-/// Where a block of entries begins, makes room for as many nodes as these may touch. The only error is that memory ran out.
-fn make_room(
-    rows: &[Vec<Entry>],
-    first: u32,
-    fresh: &[NodeEntry],
-    place: usize,
-    touched: &mut Vec<u32>,
-) -> Result<(), AllocError>
-    requires nodes { All (λ e. IsNode (length rows.now) e.node) fresh.now }
-    requires place { place ≤ length fresh.now }
-    ensures { touched.new.items ≡ touched.old.items }
-{
-    if place % BLOCK != 0 {
-        return Ok(());
-    }
-    // The number is a hint: a loop that only reads has the ends of the rows come without waiting for one another.
-    let rest = &fresh[place..];
-    let count = later_ends(rows, first, &rest[..rest.len().min(BLOCK)]);
-    touched.reserve(count)
-}
-
-/// How many of the entries go into a row that ends with an entry from `first` on.
-fn later_ends(rows: &[Vec<Entry>], first: u32, entries: &[NodeEntry]) -> usize
-    requires { All (λ e. IsNode (length rows.now) e.node) entries.now }
-    ensures { result ≤ length entries.now }
-{
-    let mut count = 0usize;
-    for entry in entries {
-        let row = &rows[entry.node as usize - 1];
-        count += ends_from(row.as_slice(), first) as usize;
-    }
-    count
-}
-
-/// Whether the last entry of a row, where there is one, has a position from `first` on.
-fn ends_from(row: &[Entry], first: u32) -> bool
-    ensures { IsTrue result → HasLater first row.now }
-{
-    match row.last() {
-        Some(last) => last.pos >= first,
-        None => false,
-    }
 }
 
 /// Puts an entry at its place in the row of its node, and notes the node where its row had just one entry from `first` on.
