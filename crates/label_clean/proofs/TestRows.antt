@@ -91,8 +91,8 @@ pub apart_from_none : (n : ℕ) (at : List ℕ) (entries : ℕ → List Entry) (
 apart_from_none n at entries v node =
     All-weaker (Contains (entries v)) (λ e. ¬ IsNeedless at [] (replicate n []) v e)
     (λ e there needless.
-        let shared = needless.covered.shared in
-        Contains-empty (entry needless.covered.position shared.after) (subst (λ xs. Contains xs (entry needless.covered.position shared.after)) (label_row-replicate n v node.from_one node.up_to_n) shared.in_second))
+    let shared = needless.covered.shared in
+    Contains-empty (entry needless.covered.position shared.after) (subst (λ xs. Contains xs (entry needless.covered.position shared.after)) (label_row-replicate n v node.from_one node.up_to_n) shared.in_second))
     (entries v) (All-contains_itself (entries v))
 
 pub none_earlier : (n p v : ℕ) → IsNode n v → IsEarlierRow p (label_row (replicate n []) v)

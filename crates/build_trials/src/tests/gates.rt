@@ -413,7 +413,10 @@ fn each_root_grows_once_by_gll(rt: HostRuntime) -> Result<(), Fail> {
 #[test]
 fn a_run_tells_of_each_root(rt: HostRuntime) -> Result<(), Fail> {
     for (line, times) in [
-        ("chl build --graph g --order o --out x --by plant --workers 2", 1u32),
+        (
+            "chl build --graph g --order o --out x --by plant --workers 2",
+            1u32,
+        ),
         ("chl solve --graph g --order o --pairs q --by gll", 1),
         ("chl grid --side 2 --seed 1 --workers 2", 3),
     ] {
