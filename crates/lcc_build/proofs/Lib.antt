@@ -1,3 +1,4 @@
 pub mod DoneShares
+pub mod InOrder
 pub mod PutsTogether
 pub mod SharedRows

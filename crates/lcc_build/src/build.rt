@@ -1,9 +1,10 @@
 ghost use Rattle.std.specs.Prelude.{◌≡◌, ℕ, ◌≤◌, [], All, length, IfOk};
 ghost use Rattle.walk_laws.specs.Joined.{Joined};
 ghost use Rattle.walk_laws.specs.Labelling.{IsChl};
-ghost use Rattle.label_clean.specs.Below.{HoldsBelow};
+ghost use Rattle.label_clean.specs.Below.{HoldsBelow, IsChlBelow};
 ghost use Rattle.lcc_build.specs.Shares.{IsReady, HasWorked};
 
+use crate::in_order::rows_in_order;
 use crate::share::Share;
 use crate::workers::{Worker, joined, seated};
 use desk_io::Gate;
@@ -21,9 +22,10 @@ use std::thread::Threads;
 use walk_laws::Graph;
 
 /// The index of the canonical hub labelling of a graph under a ranking of its nodes. It begins with a copy of both in which
-/// neighbours stand near one another ([`WorkingCopy`]). So many workers claim roots one by one, and grow their pruned trees at the same time
-/// over rows that all of them write; then the rows are cleaned, on all cores. The gate is told of each root when its tree
-/// begins and when it ends. The only error is that memory ran out.
+/// neighbours stand near one another ([`WorkingCopy`]). One worker grows the pruned trees of the roots one after another, with
+/// no lock and nothing to clean. Several claim roots one by one, and grow their pruned trees at the same time over rows that
+/// all of them write; then the rows are cleaned, on all cores. The gate is told of each root when its tree begins and when
+/// it ends. The only error is that memory ran out.
 ///
 /// In the square 1-2-3-4-1 of weights 1, of which a smaller number ranks higher, the tree of node 2 ends at 3 where it comes
 /// after that of node 1, which is a hub of 2 and of 4 and covers the way from 2 to 4. Where it comes before, or meanwhile,
@@ -43,10 +45,30 @@ pub fn build_lcc<R: Threads + Wait + Sync, G: Gate + Sync>(
     ensures labelling { IfOk result (λ index. IsChl (Joined graph.now.edges) ranking.now index.rows) }
 {
     let copy = WorkingCopy::new(alloc, graph, ranking)?;
-    let raw = raw_rows(rt, alloc, &copy.graph, &copy.ranking, workers, gate)?;
-    let rows = clean_in_place(rt, alloc, &copy.ranking, raw)?;
+    let rows = labelled_rows(rt, alloc, &copy.graph, &copy.ranking, workers, gate)?;
     the_whole_is_the_labelling();
     copy.index(alloc, graph, ranking, rows)
+}
+
+/// The rows of the labelling: by one worker those of the trees as they come, and by several what cleaning leaves of them.
+fn labelled_rows<R: Threads + Wait + Sync, G: Gate + Sync>(
+    rt: &R,
+    alloc: Global,
+    graph: &Graph,
+    ranking: &Ranking,
+    workers: u32,
+    gate: &G,
+) -> Result<RowList, AllocError>
+    requires nodes { length ranking.now ≡ graph.now.n }
+    requires workers_from { 1 ≤ workers }
+    requires workers_to { workers ≤ 64 }
+    ensures { IfOk result (λ rows. IsChlBelow graph.now.edges ranking.now (length ranking.now) rows) }
+{
+    if workers == 1 {
+        return rows_in_order(alloc, graph, ranking, gate);
+    }
+    let raw = raw_rows(rt, alloc, graph, ranking, workers, gate)?;
+    clean_in_place(rt, alloc, ranking, raw)
 }
 
 /// The rows that the trees of all roots leave, grown by so many workers: they have every canonical entry.

@@ -7,6 +7,7 @@
 #![tactic(auto)]
 
 mod build;
+mod in_order;
 mod share;
 #[cfg(test)]
 mod tests;

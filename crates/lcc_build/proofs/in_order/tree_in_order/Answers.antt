@@ -1,0 +1,8 @@
+use Rattle.std.proofs.Common.{refl}
+use Rattle.walk_laws.specs.Labelling.{label_row}
+use Rattle.lcc_build.proofs.InOrder.{IsRowBelow-grown}
+use Rattle.lcc_build.proofs.in_order.tree_in_order.Goals as goal
+
+pub returns-clause-rows : goal.returns-clause-rows
+returns-clause-rows g c = λ v node.
+    IsRowBelow-grown c.args.graph.now.n c.args.graph.now.edges c.args.ranking.now c.requires.graph c.requires.ranking c.requires.nodes c.args.p (label_row c.args.view.now.rows) c.requires.before (label_row c.grow.new.view.rows) _ refl c.in_ok-puts.ensures.grown v node

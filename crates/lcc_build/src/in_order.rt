@@ -1,0 +1,64 @@
+//! Trees that are grown one after another, the highest-ranked root first.
+ghost use Rattle.std.specs.Prelude.{◌≡◌, ℕ, ◌+◌, ◌<◌, length, IfOk, OnOk};
+ghost use Rattle.walk_laws.specs.Graph.{IsGraph};
+ghost use Rattle.walk_laws.specs.Labelling.{label_row};
+ghost use Rattle.walk_laws.specs.Ranking.{IsRanking};
+ghost use Rattle.hub_index.specs.Views.{IsNode};
+ghost use Rattle.label_clean.specs.Below.{IsChlBelow, IsRowBelow};
+
+use desk_io::Gate;
+use hub_index::{PlainRows, RowList};
+use pruned_tree::{Work, grow};
+use rank_table::Ranking;
+use std::alloc::{AllocError, Global};
+use walk_laws::Graph;
+
+/// The rows of the labelling, by trees that are grown one after another, the highest-ranked root first: each finds all hubs
+/// that rank above its root, so it puts no needless entry. (Pruned landmark labelling, SIGMOD 2013.) The only error is that
+/// memory ran out.
+pub fn rows_in_order<G: Gate>(
+    alloc: Global,
+    graph: &Graph,
+    ranking: &Ranking,
+    gate: &G,
+) -> Result<RowList, AllocError>
+    requires nodes { length ranking.now ≡ graph.now.n }
+    ensures { IfOk result (λ rows. IsChlBelow graph.now.edges ranking.now (length ranking.now) rows) }
+{
+    let mut view = PlainRows::new(alloc, graph, ranking)?;
+    let mut work = Work::new(alloc, graph.n())?;
+    for p in 0..ranking.n() {
+        tree_in_order(alloc, graph, ranking, p, &mut view, &mut work, gate)?;
+    }
+    Ok(view.into_rows())
+}
+
+/// Grows the tree of the root at the position `p`, where the rows have all hubs before it and no others, and then all up to
+/// it. The gate is told of the root when its tree begins and when it ends. The only error is that memory ran out.
+fn tree_in_order<G: Gate>(
+    alloc: Global,
+    graph: &Graph,
+    ranking: &Ranking,
+    p: u32,
+    view: &mut PlainRows,
+    work: &mut Work,
+    gate: &G,
+) -> Result<(), AllocError>
+    requires nodes { length ranking.now ≡ graph.now.n }
+    requires graph { IsGraph graph.now.n graph.now.edges }
+    requires ranking { IsRanking ranking.now }
+    requires position { p < length ranking.now }
+    requires work { work.old ≡ graph.now.n }
+    requires edges { view.old.edges ≡ graph.now.edges }
+    requires order { view.old.order ≡ ranking.now }
+    requires before { (v : ℕ) → IsNode (length ranking.now) v → IsRowBelow graph.now.edges ranking.now p v (label_row view.old.rows v) }
+    ensures work { work.new ≡ work.old }
+    ensures edges { view.new.edges ≡ view.old.edges }
+    ensures order { view.new.order ≡ view.old.order }
+    ensures rows { OnOk result ((v : ℕ) → IsNode (length ranking.now) v → IsRowBelow graph.now.edges ranking.now (p + 1) v (label_row view.new.rows v)) }
+{
+    gate.begins(p);
+    let puts = grow(alloc, graph, ranking, p, view, work)?;
+    gate.ends(p, puts);
+    Ok(())
+}
