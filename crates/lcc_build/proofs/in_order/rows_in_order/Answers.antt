@@ -1,4 +1,4 @@
-use Rattle.std.proofs.Common.{◌≡◌, ℕ, ◌<◌, length, ap, sym, subst, ◌∙◌, arith}
+use Rattle.std.proofs.Common.{◌≡◌, length, ap, sym, subst, ◌∙◌, arith}
 use Rattle.walk_laws.specs.Labelling.{label_row}
 use Rattle.label_clean.specs.Below.{IsRowBelow}
 use Rattle.lcc_build.proofs.in_order.rows_in_order.Goals as goal

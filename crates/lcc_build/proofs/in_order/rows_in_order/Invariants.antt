@@ -1,8 +1,7 @@
-use Rattle.std.proofs.Common.{◌≡◌, ℕ}
+use Rattle.std.proofs.Common.{◌≡◌, ℕ, length}
 use Rattle.walk_laws.specs.Labelling.{label_row}
 use Rattle.hub_index.specs.Views.{IsNode}
 use Rattle.label_clean.specs.Below.{IsRowBelow}
-use Rattle.std.specs.Prelude.{length}
 use Rattle.lcc_build.proofs.in_order.rows_in_order.Given as goal
 
 -- the rows have exactly the hubs before the root that comes next
