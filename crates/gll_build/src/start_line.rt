@@ -25,20 +25,25 @@ impl StartLine {
         }
     }
 
-    /// Comes to the line, and waits for the others.
+    /// Comes to the line, and waits for the others, until all have come or nobody came for a moment.
     pub fn wait<R: Wait>(&self, rt: &R) {
         let before = self.come.fetch_add(1, Ordering::SeqCst);
         if before.saturating_add(1) >= self.all {
             self.come.wake_all();
         }
+        let mut seen = self.come.load(Ordering::SeqCst);
         for _ in 0..self.all {
-            let seen = self.come.load(Ordering::SeqCst);
             if seen >= self.all {
                 return;
             }
             let low = (seen & 0xffff_ffff) as u32;
             self.come
                 .park_timeout(rt, low, Duration::from_micros(MOMENT));
+            let now = self.come.load(Ordering::SeqCst);
+            if now == seen {
+                return;
+            }
+            seen = now;
         }
     }
 }

@@ -1,5 +1,5 @@
 //! One superstep, with what a build takes once.
-ghost use Rattle.std.specs.Prelude.{◌≡◌, ◌^◌, ◌<◌, ◌≤◌, All, IfOk, length, vec_len};
+ghost use Rattle.std.specs.Prelude.{◌≡◌, ◌*◌, ◌^◌, ◌<◌, ◌≤◌, All, IfOk, length, min, vec_len};
 ghost use Rattle.hub_index.specs.PlainRows.{IsGathered};
 ghost use Rattle.gll_build.specs.Shares.{HasWorked, IsBenchFor, IsPoolOf, IsReady};
 ghost use Rattle.gll_build.specs.Workshops.{IsGrownFrom, IsProgress, IsWorkshopFor};
@@ -158,10 +158,11 @@ fn grow_roots<R: Threads + Wait + Sync, G: Gate + Sync>(
     })
 }
 
-/// How many cells the pool of a superstep has.
+/// How many cells the pool of a superstep has: the workers' cuts together, up to a bound.
 fn cells_for(workers: u32, cut: u32) -> u32
     requires { (1 ≤ workers) × (1 ≤ cut) }
-    ensures { (1 ≤ result) × (result ≤ 2 ^ 31) }
+    ensures cells { result ≡ min (workers * cut) 1048576 }
+    ensures within { (1 ≤ result) × (result ≤ 2 ^ 31) }
 {
     (u64::from(workers) * u64::from(cut)).min(MOST_CELLS) as u32
 }

@@ -90,6 +90,28 @@ fn a_worker_that_stops_at_once_takes_root_by_root(rt: HostRuntime) -> Result<(),
     Ok(())
 }
 
+/// The root that comes next after the first superstep of one worker.
+fn next_root<R: Abort + AllocGlobal + Threads + Wait + Sync>(rt: &R, cut: u32) -> Result<u32, Fail>
+    requires cut_from { 1 ≤ cut }
+    requires cut_to { cut ≤ 2 ^ 30 }
+{
+    let graph = square(rt.alloc())?;
+    let ranking = one_to_four(rt.alloc())?;
+    let none = RowList::new(rt.alloc(), 4)?;
+    let (_rows, next) = superstep(rt, rt.alloc(), &graph, &ranking, none, 0, 1, cut, &FreeGate)?;
+    Ok(next)
+}
+
+/// The trees of the square put 4, 2, 2 and 1 entries.
+#[test]
+fn a_worker_takes_roots_until_it_has_put_the_cut(rt: HostRuntime) -> Result<(), Fail> {
+    assert_eq!(rt; next_root(&rt, 4)?, 1);
+    assert_eq!(rt; next_root(&rt, 5)?, 2);
+    assert_eq!(rt; next_root(&rt, 7)?, 3);
+    assert_eq!(rt; next_root(&rt, 1024)?, 4);
+    Ok(())
+}
+
 /// Builds the index of the square, and compares its rows. With the cut 1 the pool has one cell a worker, and the tree of the
 /// first root alone puts four entries, so that most of them go to the rows that a worker keeps for itself.
 fn build_square<R: Abort + AllocGlobal + Threads + Wait + Sync>(

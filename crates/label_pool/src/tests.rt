@@ -5,6 +5,7 @@ ghost use Rattle.label_pool.specs.Seats.{IsSeatOf};
 
 use crate::{LinkFact, Pool, PoolPut, PoolSeat};
 use std::alloc::{AllocError, Global};
+use std::process::Abort;
 use std::sync::Wait;
 use std::test::Fail;
 use std::thread::{Threads, join};
@@ -165,21 +166,39 @@ fn two_threads_put_each_entry_once(rt: HostRuntime) -> Result<(), Fail> {
     Ok(())
 }
 
-#[test]
-fn many_seats_come_together_again(rt: HostRuntime) -> Result<(), Fail> {
-    let (pool, mut one) = Pool::new(rt.alloc(), 1, 100, 64, Anything)?;
-    assert_eq!(rt; one.left(), 63);
-    let mut two = pool.split(&mut one, 31);
-    assert_eq!(rt; (one.left(), two.left()), (31, 31));
-    for joined in 0..31u32 {
-        assert_eq!(rt; (one.left(), two.left()), (31 + joined, 31 - joined));
-        let mut other = pool.split(&mut two, 0);
-        assert_eq!(rt; pool.put(&rt, &mut other, 1, entry(joined)), PoolPut::Put);
+// Splits off all seats that may be split, lets each of them put an entry, and joins them.
+fn split_and_join(
+    rt: &(impl Abort + AllocGlobal + Wait),
+    pool: &Pool<Anything>,
+    mut one: PoolSeat<Anything>,
+    count: u32,
+) -> Result<PoolSeat<Anything>, Fail>
+    requires seat { IsSeatOf pool.now one }
+    requires past { one.past ≡ None }
+    requires left { one.left ≡ count }
+    requires nodes { 1 ≤ pool.now.n }
+    requires fact { (value : AnyFact) × (pool.now.fact ≡ Some value) }
+    ensures seat { IfOk result (IsSeatOf pool.now) }
+{
+    let mut others = Vec::new(rt.alloc());
+    for split in 0..count {
+        let mut other = pool.split(&mut one, 0);
+        assert_eq!(rt; pool.put(rt, &mut other, 1, entry(split)), PoolPut::Put);
+        others.push(other)?;
+    }
+    assert_eq!(rt; one.left(), 0);
+    while let Some(other) = others.pop() {
         pool.join(&mut one, other);
     }
-    assert_eq!(rt; (one.left(), two.left()), (62, 0));
-    pool.join(&mut one, two);
+    Ok(one)
+}
+
+#[test]
+fn as_many_seats_as_may_be_come_together_again(rt: HostRuntime) -> Result<(), Fail> {
+    let (pool, one) = Pool::new(rt.alloc(), 1, 100, 64, Anything)?;
     assert_eq!(rt; one.left(), 63);
-    assert_eq!(rt; pool.close(one)?.row(1).len(), 31);
+    let one = split_and_join(&rt, &pool, one, 63)?;
+    assert_eq!(rt; one.left(), 63);
+    assert_eq!(rt; pool.close(one)?.row(1).len(), 63);
     Ok(())
 }

@@ -1,0 +1,9 @@
+use Rattle.std.proofs.Common.{length, sym, ap, subst}
+use Rattle.label_clean.specs.Below.{IsChlBelow}
+use Rattle.gll_build.proofs.EmptyTables.{IsChlBelow-none}
+use Rattle.gll_build.proofs.tests.next_root.Goals as goal
+
+pub superstep-requires-clause-global : goal.superstep-requires-clause-global
+superstep-requires-clause-global g c κs =
+    subst (IsChlBelow c.in_ok-graph.graph.edges c.in_ok-ranking.ranking 0) (sym c.in_ok-none.ensures)
+    (IsChlBelow-none c.in_ok-graph.graph.edges c.in_ok-ranking.ranking 4 (sym (ap length c.in_ok-ranking.ensures)))
