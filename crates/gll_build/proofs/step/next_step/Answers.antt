@@ -11,17 +11,17 @@ pub grow_roots-requires-clause-global : goal.grow_roots-requires-clause-global
 grow_roots-requires-clause-global g c κs within = IsGathered-below c.args.graph.now.edges c.args.ranking.now c.args.progress.next c.args.progress.rows c.n-ranked.ensures.ranking c.requires.progress.rows
 
 pub go_on-requires-clause-earlier : goal.go_on-requires-clause-earlier
-go_on-requires-clause-earlier g c κs within = earlier-below c.args.graph.now.edges c.args.ranking.now c.args.progress.next c.args.progress.rows c.requires.progress.rows
+go_on-requires-clause-earlier g c = earlier-below c.args.graph.now.edges c.args.ranking.now c.args.progress.next c.args.progress.rows c.requires.progress.rows
 
 pub go_on-requires-clause-later : goal.go_on-requires-clause-later
-go_on-requires-clause-later g c κs within =
+go_on-requires-clause-later g c =
     let grown = c.in_ok-grown.ensures.grown in
     let same = c.as_slice.ensures.value in
     subst (λ es. (v : ℕ) → IsNode (length c.args.ranking.now) v → IsLaterRow c.args.progress.next (length c.args.ranking.now) (entries_of_node es v)) (sym same)
     (later-between c.args.graph.now.edges c.args.ranking.now c.args.progress.next c.in_ok-grown.grown.next (entries_of_node c.in_ok-grown.grown.fresh.items) grown.within grown.holds)
 
 pub go_on-requires-clause-apart : goal.go_on-requires-clause-apart
-go_on-requires-clause-apart g c κs within =
+go_on-requires-clause-apart g c =
     subst (λ es. (v : ℕ) → IsNode (length c.args.ranking.now) v → AreUncovered c.args.ranking.now c.args.progress.rows v (entries_of_node es v)) (sym c.as_slice.ensures.value) c.in_ok-grown.ensures.grown.apart
 
 pub returns-clause-progress : goal.returns-clause-progress
