@@ -377,7 +377,8 @@ fn expect_whole<R: Abort + AllocGlobal + Threads + Wait + Sync>(
 #[test]
 fn each_root_is_planted_once(rt: HostRuntime) -> Result<(), Fail> {
     for workers in [1u32, 2, 4] {
-        assert!(rt; 1 <= workers && workers <= 64);
+        assert!(rt; 1 <= workers);
+        assert!(rt; workers <= 64);
         let roots = Roots::new(rt.alloc(), 36)?;
         let index = grid_by_plant(&rt, workers, &roots)?;
         expect_whole(&rt, &roots, &index, true)?;
@@ -389,7 +390,8 @@ fn each_root_is_planted_once(rt: HostRuntime) -> Result<(), Fail> {
 #[test]
 fn each_root_grows_once_by_lcc(rt: HostRuntime) -> Result<(), Fail> {
     for workers in [1u32, 2, 4] {
-        assert!(rt; 1 <= workers && workers <= 64);
+        assert!(rt; 1 <= workers);
+        assert!(rt; workers <= 64);
         let roots = Roots::new(rt.alloc(), 36)?;
         let index = grid_by_lcc(&rt, workers, &roots)?;
         expect_whole(&rt, &roots, &index, workers == 1)?;
@@ -400,7 +402,8 @@ fn each_root_grows_once_by_lcc(rt: HostRuntime) -> Result<(), Fail> {
 #[test]
 fn each_root_grows_once_by_gll(rt: HostRuntime) -> Result<(), Fail> {
     for workers in [1u32, 2, 4] {
-        assert!(rt; 1 <= workers && workers <= 64);
+        assert!(rt; 1 <= workers);
+        assert!(rt; workers <= 64);
         let roots = Roots::new(rt.alloc(), 36)?;
         let index = grid_by_gll(&rt, workers, &roots)?;
         expect_whole(&rt, &roots, &index, workers == 1)?;
