@@ -1,5 +1,5 @@
 //! Builds watched by gates: that two workers grow trees at the same time, and what a gate is told.
-ghost use Rattle.std.specs.Prelude.{◌≡◌, IfOk, length};
+ghost use Rattle.std.specs.Prelude.{◌≡◌, ◌≤◌, IfOk, length};
 
 use super::files::{grid_of_side_6, order_by_steps};
 use super::*;
