@@ -1,7 +1,7 @@
 #!/usr/bin/env python3
 """Guesses how large an index gets before it is built:  guess_size.py G.gr G.order [NODES]
 
-Of so many random nodes (32 where it isn't said) it counts the hubs. One search of the whole graph from a node v finds for
+Of so many random nodes (128 where it isn't said) it counts the hubs. One search of the whole graph from a node v finds for
 each node h the highest-ranked node on any shortest path between the two, and h is a hub of v exactly where that is h
 itself. The mean over these nodes is what a row has, and an index file has 12 + 8 N + 12 E bytes."""
 import heapq
@@ -47,10 +47,10 @@ def main():
         sys.exit(__doc__)
     arcs, position = read_graph(sys.argv[1]), read_order(sys.argv[2])
     n, dice = len(arcs) - 1, random.Random(1)
-    counts = [count_hubs(arcs, position, dice.randint(1, n)) for _ in range(int(sys.argv[3]) if len(sys.argv) == 4 else 32)]
+    counts = [count_hubs(arcs, position, dice.randint(1, n)) for _ in range(int(sys.argv[3]) if len(sys.argv) == 4 else 128)]
     mean = statistics.fmean(counts)
     error = statistics.stdev(counts) / len(counts) ** 0.5
-    print(f"{mean:.0f} entries a node, give or take {2 * error:.0f}")
+    print(f"{mean:.0f} entries a node, give or take {3 * error:.0f}")
     print(f"a file of about {(12 + 8 * n + 12 * mean * n) / 1e6:.1f} MB, and {16 * mean * n / 1e6:.0f} MB for the entries in memory")
 
 
