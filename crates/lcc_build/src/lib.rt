@@ -9,6 +9,8 @@
 
 mod build;
 mod in_order;
+mod narrow_row;
+mod narrow_rows;
 mod share;
 #[cfg(test)]
 mod tests;

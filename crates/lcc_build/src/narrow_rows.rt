@@ -1,0 +1,137 @@
+//! The rows of a graph's nodes for one thread, in which most entries take half the room.
+ghost use Rattle.std.specs.Prelude.{◌≡◌, ◌≢◌, ℕ, ◌≤◌, [], length, map, replicate, IfOk};
+ghost use Rattle.walk_laws.specs.Joined.{Joined};
+ghost use Rattle.walk_laws.specs.Labelling.{EntryFits, label_row};
+ghost use Rattle.hub_index.specs.PlainRows.{IsGathered};
+ghost use Rattle.hub_index.specs.RootDistances.{HoldsRow};
+ghost use Rattle.hub_index.specs.Views.{IsNode, IsFoundOnward, IsAnswerOf, with_put};
+
+use crate::narrow_row::NarrowRow;
+use hub_index::{Offer, RootTable, RowList, RowView};
+use rank_table::Ranking;
+use std::alloc::{AllocError, Global};
+use std::marker::Model;
+use std::snapshot::Snapshot;
+use walk_laws::{Entry, Graph};
+
+/// The rows of a graph's nodes under a ranking, for one thread: `hub_index::PlainRows` with most entries in half the room.
+/// The graph and the ranking are kept for contracts alone, without bytes. Contracts see the edges, the order of the nodes
+/// and the rows.
+#[derive(Drop)]
+pub struct NarrowRows {
+    rows: Vec<NarrowRow>,
+    graph: Snapshot<Graph>,
+    ranking: Snapshot<Ranking>,
+}
+
+impl Model for NarrowRows {
+    ghost use Rattle.std.specs.Prelude.{ℕ, ◌^◌, ◌<◌, length};
+    ghost use Rattle.hub_index.specs.PlainRows.{GatheredRows, IsGathered};
+
+    ghost Value = { GatheredRows };
+
+    ghost view = { λ r. record { edges = r.graph.value.edges; order = r.ranking.value; rows = r.rows.items } };
+
+    ghost invariant = { λ r. (length r.rows.items < 2 ^ 32) × IsGathered r.graph.value.edges r.ranking.value r.rows.items };
+}
+
+impl NarrowRows {
+    /// An empty row for each node of the graph. The only error is that memory ran out.
+    pub fn new(alloc: Global, graph: &Graph, ranking: &Ranking) -> Result<NarrowRows, AllocError>
+        requires { length ranking.now ≡ graph.now.n }
+        ensures edges { IfOk result (λ view. view.edges ≡ graph.now.edges) }
+        ensures order { IfOk result (λ view. view.order ≡ ranking.now) }
+        ensures rows { IfOk result (λ view. view.rows ≡ replicate graph.now.n []) }
+    {
+        Ok(NarrowRows {
+            rows: empty_rows(alloc, graph.n())?,
+            graph: Snapshot::of(graph),
+            ranking: Snapshot::of(ranking),
+        })
+    }
+
+    /// The rows, with the entries that were put in them, each in just the room that it takes. Each row goes as soon as its
+    /// entries stand there. The only error is that memory ran out.
+    pub fn into_rows(self, alloc: Global) -> Result<RowList, AllocError>
+        ensures rows { IfOk result (λ rows. rows ≡ self.rows) }
+        ensures gathered { IsGathered self.edges self.order self.rows }
+    {
+        let NarrowRows {
+            rows,
+            graph: _,
+            ranking: _,
+        } = self;
+        let rows = rows_of_entries(alloc, rows)?;
+        Ok(RowList::from_rows(rows))
+    }
+}
+
+/// So many empty rows. The only error is that memory ran out.
+fn empty_rows(alloc: Global, n: u32) -> Result<Vec<NarrowRow>, AllocError>
+    ensures { IfOk result (λ rows. rows.items ≡ replicate n []) }
+{
+    let mut rows = Vec::with_capacity(alloc, n as usize)?;
+    for _ in 0..n {
+        rows.push(NarrowRow::new(alloc))?;
+    }
+    Ok(rows)
+}
+
+/// The entries of each row. The only error is that memory ran out.
+fn rows_of_entries(alloc: Global, rows: Vec<NarrowRow>) -> Result<Vec<Vec<Entry>>, AllocError>
+    ensures { IfOk result (λ lists. map (λ row. row.items) lists.items ≡ rows.items) }
+{
+    let mut lists = Vec::with_capacity(alloc, rows.len())?;
+    for row in rows {
+        lists.push(row.into_entries(alloc)?)?;
+    }
+    Ok(lists)
+}
+
+/// The rows themselves are what was last seen of them, and all that was put: the row that a call finds is the list seen
+/// before, and after a put the list seen is that row with the entry behind it.
+impl RowView for NarrowRows {
+    ghost use Rattle.walk_laws.specs.Joined.{Joined};
+    ghost use Rattle.walk_laws.specs.Labelling.{EntryFits, label_row};
+
+    ghost edges = { λ view. view.edges };
+
+    ghost order = { λ view. view.order };
+
+    ghost fact = { λ view v e. EntryFits (Joined view.edges) view.order v e };
+
+    ghost seen = { λ view v. label_row view.rows v };
+
+    ghost puts = { λ view v. label_row view.rows v };
+
+    ghost Kept = { Unit {0} };
+
+    ghost kept = { λ _. tt };
+
+    ghost fact_fits = { λ view v e. (λ fits. fits, λ fits. fits) };
+
+    fn load_root(&mut self, h: u32, table: &mut RootTable)
+        requires node { IsNode (length self.old.order) h }
+        requires size { length table.old ≡ length self.old.order }
+        ensures same { self.new ≡ self.old }
+        ensures found { IsFoundOnward (EntryFits (Joined self.old.edges) self.old.order h) (label_row self.old.rows h) (label_row self.new.rows h) }
+        ensures held { HoldsRow table.new (label_row self.new.rows h) }
+        ensures size { length table.new ≡ length table.old }
+    {
+        self.rows[h as usize - 1].load(table);
+    }
+
+    fn offer(&mut self, v: u32, entry: Entry, table: &RootTable) -> Offer
+        requires node { IsNode (length self.old.order) v }
+        requires size { length table.now ≡ length self.old.order }
+        requires fits { EntryFits (Joined self.old.edges) self.old.order v entry }
+        ensures edges { self.new.edges ≡ self.old.edges }
+        ensures order { self.new.order ≡ self.old.order }
+        ensures found { IsFoundOnward (EntryFits (Joined self.old.edges) self.old.order v) (label_row self.old.rows v) (label_row self.old.rows v) }
+        ensures answer { IsAnswerOf table.now (label_row self.old.rows v) entry result }
+        ensures row { label_row self.new.rows v ≡ with_put (label_row self.old.rows v) entry result }
+        ensures others { (x : ℕ) → 1 ≤ x → x ≢ v → label_row self.new.rows x ≡ label_row self.old.rows x }
+    {
+        self.rows[v as usize - 1].offer(entry, table)
+    }
+}
