@@ -18,8 +18,9 @@ use walk_laws::{Arc, Graph};
 ///
 /// It takes nodes by rising distance from the root, but none that ranks above it, and offers each the root's entry; where
 /// that is put, the node's arcs are gone along. Whatever rows the view finds, the root is put as a hub of each node for
-/// which it is canonical; over rows that have all hubs that rank above it, as a hub of no other. The only error is that
-/// memory ran out; the entries put by then stay.
+/// which it is canonical; over rows that have all hubs that rank above it, as a hub of no other. What it puts at a node is
+/// shorter than each way by a higher hub that the view had seen of the root and of the node. The only error is that memory
+/// ran out; the entries put by then stay.
 pub fn grow<R: RowView>(
     _alloc: Global,
     graph: &Graph,
