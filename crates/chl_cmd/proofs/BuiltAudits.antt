@@ -29,21 +29,21 @@ use Rattle.chl_cmd.proofs.Decisions.{graph_of_stage, ranking_of_stage, index_of_
 -- it finds that the index is the same
 pub audits_same : (graph order out index : List ℕ) (by : By) (workers cut : ℕ) (files others : Files) (bytes : List ℕ) (answer : Result (List ℕ) Stop) → Decides (Build graph order out by workers cut) files (Ok bytes) → finite_map.get others index ≡ Some bytes → length bytes ≤ input_limit → finite_map.get others graph ≡ finite_map.get files graph → finite_map.get others order ≡ finite_map.get files order → Decides (Audit graph order index) others answer → answer ≡ audit_text Same
 audits_same graph order out index by workers cut files others bytes answer built held short same_graph same_order asks =
-    let behind_graph = after_ok (value_at (graph_input graph) files) bytes (λ g. After (value_at (order_input g.n order) files) (Ok bytes) (λ at. Labelled g at)) built in
-    let g = behind_graph.0 in
-    let behind_order = after_ok (value_at (order_input g.n order) files) bytes (λ at. Labelled g at) behind_graph.2 in
-    let at = behind_order.0 in
-    let rows = behind_order.2.0 in
-    let chl = behind_order.2.1 in
-    let is_graph = graph_of_stage graph files g behind_graph.1 in
-    let rank = ranking_of_stage g.n order files at behind_order.1 in
+    let after_graph = after_ok (value_at (graph_input graph) files) bytes (λ g. After (value_at (order_input g.n order) files) (Ok bytes) (λ at. Labelled g at)) built in
+    let g = after_graph.0 in
+    let after_order = after_ok (value_at (order_input g.n order) files) bytes (λ at. Labelled g at) after_graph.2 in
+    let at = after_order.0 in
+    let rows = after_order.2.0 in
+    let chl = after_order.2.1 in
+    let is_graph = graph_of_stage graph files g after_graph.1 in
+    let rank = ranking_of_stage g.n order files at after_order.1 in
     let well = IsWellFormed-canonical g.n g.edges at is_graph rank.0 rank.1 rows chl in
     let i : HubIndex = record { order = at; rows = rows } in
-    let index_is = index_of_layout index others bytes at rows held short well (same_value bytes (index_bytes at rows) behind_order.2.2) in
+    let index_is = index_of_layout index others bytes at rows held short well (same_value bytes (index_bytes at rows) after_order.2.2) in
     let of_graph : After (value_at (order_input g.n order) others) answer (λ at. After (value_at (index_input index) others) answer (λ i. Finds g at i)) =
-    subst (λ r. After r answer (λ (g : WeightedGraph). After (value_at (order_input g.n order) others) answer (λ at. After (value_at (index_input index) others) answer (λ i. Finds g at i)))) (ap (value_of (graph_input graph)) same_graph ∙ behind_graph.1) asks in
+    subst (λ r. After r answer (λ (g : WeightedGraph). After (value_at (order_input g.n order) others) answer (λ at. After (value_at (index_input index) others) answer (λ i. Finds g at i)))) (ap (value_of (graph_input graph)) same_graph ∙ after_graph.1) asks in
     let of_order : After (value_at (index_input index) others) answer (λ i. Finds g at i) =
-    subst (λ r. After r answer (λ at. After (value_at (index_input index) others) answer (λ i. Finds g at i))) (ap (value_of (order_input g.n order)) same_order ∙ behind_order.1) of_graph in
+    subst (λ r. After r answer (λ at. After (value_at (index_input index) others) answer (λ i. Finds g at i))) (ap (value_of (order_input g.n order)) same_order ∙ after_order.1) of_graph in
     let finds : Finds g at i = subst (λ r. After r answer (λ i. Finds g at i)) index_is of_order in
     finds.2 ∙ ap audit_text (audit_unique g at i rank.1 finds.0 Same finds.1 ((checks_decide g at i is_graph rank.1 well).1 (refl, chl)))
   where

@@ -241,15 +241,15 @@ index_of_layout index files bytes at rows held short well same =
 -- what a query says of an index file that was built is what is said of the graph
 pub queries_answer : (graph order out index pairs : List ℕ) (by : By) (workers cut : ℕ) (files others : Files) (bytes : List ℕ) (answer : Result (List ℕ) Stop) → Decides (Build graph order out by workers cut) files (Ok bytes) → finite_map.get others index ≡ Some bytes → length bytes ≤ input_limit → finite_map.get others pairs ≡ finite_map.get files pairs → Decides (Query index pairs) others answer → Decides (Solve graph order pairs by workers cut) files answer
 queries_answer graph order out index pairs by workers cut files others bytes answer built held short same_pairs asks =
-    let behind_graph = after_ok (value_at (graph_input graph) files) bytes (λ g. After (value_at (order_input g.n order) files) (Ok bytes) (λ at. Labelled g at)) built in
-    let g = behind_graph.0 in
-    let behind_order = after_ok (value_at (order_input g.n order) files) bytes (λ at. Labelled g at) behind_graph.2 in
-    let at = behind_order.0 in
-    let rows = behind_order.2.0 in
-    let chl = behind_order.2.1 in
-    let is_graph = graph_of_stage graph files g behind_graph.1 in
-    let rank = ranking_of_stage g.n order files at behind_order.1 in
-    let same = same_value bytes (index_bytes at rows) behind_order.2.2 in
+    let after_graph = after_ok (value_at (graph_input graph) files) bytes (λ g. After (value_at (order_input g.n order) files) (Ok bytes) (λ at. Labelled g at)) built in
+    let g = after_graph.0 in
+    let after_order = after_ok (value_at (order_input g.n order) files) bytes (λ at. Labelled g at) after_graph.2 in
+    let at = after_order.0 in
+    let rows = after_order.2.0 in
+    let chl = after_order.2.1 in
+    let is_graph = graph_of_stage graph files g after_graph.1 in
+    let rank = ranking_of_stage g.n order files at after_order.1 in
+    let same = same_value bytes (index_bytes at rows) after_order.2.2 in
     let index_is = index_of_layout index others bytes at rows held short (IsWellFormed-canonical g.n g.edges at is_graph rank.0 rank.1 rows chl) same in
     let of_rows : After (value_at (pairs_input (length at) pairs) others) answer (λ asked. Says at rows asked) =
     subst (λ r. After r answer (λ (i : HubIndex). After (value_at (pairs_input (length i.order) pairs) others) answer (λ asked. Says i.order i.rows asked))) index_is asks in
@@ -257,8 +257,8 @@ queries_answer graph order out index pairs by workers cut files others bytes ans
     subst (λ n. After (value_at (pairs_input n pairs) others) answer (λ asked. Says at rows asked)) rank.1 of_rows in
     let of_files : After (value_at (pairs_input g.n pairs) files) answer (λ asked. Says at rows asked) =
     subst (λ file. After (value_of (pairs_input g.n pairs) file) answer (λ asked. Says at rows asked)) same_pairs of_nodes in
-    after_value (value_at (graph_input graph) files) g answer _ behind_graph.1
-    (after_value (value_at (order_input g.n order) files) at answer _ behind_order.1
+    after_value (value_at (graph_input graph) files) g answer _ after_graph.1
+    (after_value (value_at (order_input g.n order) files) at answer _ after_order.1
     (after_told (value_at (pairs_input g.n pairs) files) answer _ _ (λ asked pairs_is says.
     (says.0, answers_of_rows g is_graph at rank.0 rank.1 rows chl asked (pairs_of_stage g.n pairs files asked pairs_is) says.0 says.1, says.2)) of_files))
   where

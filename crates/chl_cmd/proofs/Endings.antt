@@ -88,9 +88,9 @@ given_others (Some out) bytes name a other = get-insert_other a.files out name b
 
 module _ (asked : Asked) (status : Status) (a b : Contents) where
   -- a prefix of the bytes that were given
-  front_of : (x : Contents) (bytes : List ℕ) (P : Contents → Type 0) → P x → ((k : ℕ) → P (given (place_of asked) (take k bytes) x)) → GivesPrefix (place_of asked) bytes x b → P b
-  front_of x bytes P none some (inl same) = subst P (sym same) none
-  front_of x bytes P none some (inr front) = subst P (sym front.1) (some front.0)
+  prefix_of : (x : Contents) (bytes : List ℕ) (P : Contents → Type 0) → P x → ((k : ℕ) → P (given (place_of asked) (take k bytes) x)) → GivesPrefix (place_of asked) bytes x b → P b
+  prefix_of x bytes P none some (inl same) = subst P (sym same) none
+  prefix_of x bytes P none some (inr prefix) = subst P (sym prefix.1) (some prefix.0)
 
   -- a fact of all that is reached as inputs are opened in order, and then bytes are given
   reached : (P : Contents → Type 0) → ((x : Contents) → OpensInOrder (stage_of asked) a x → P x) → ((x : Contents) (bytes : List ℕ) → OpensInOrder (stage_of asked) a x → P (given (place_of asked) bytes x)) → Ends asked status a b → P b
@@ -98,11 +98,11 @@ module _ (asked : Asked) (status : Status) (a b : Contents) where
   reached P read gave (inr (inl failed)) =
       let part = failed.1 in
       let opens = all_in_order (stage_of asked) a part.read part.reads in
-      front_of part.read part.bytes P (read part.read opens) (λ k. gave part.read (take k part.bytes) opens) part.gives
+      prefix_of part.read part.bytes P (read part.read opens) (λ k. gave part.read (take k part.bytes) opens) part.gives
   reached P read gave (inr (inr (inl lost))) =
       let part = lost.1 in
       let opens = all_in_order (stage_of asked) a part.read part.reads in
-      front_of part.read part.bytes P (read part.read opens) (λ k. gave part.read (take k part.bytes) opens) part.gives
+      prefix_of part.read part.bytes P (read part.read opens) (λ k. gave part.read (take k part.bytes) opens) part.gives
   reached P read gave (inr (inr (inr stopped))) = read b (went_opens (stage_of asked) (Err stopped.0) a b stopped.2.unread)
 
   ends_done : Ends asked status a b → status ≡ Done → Gives asked a b
@@ -163,22 +163,22 @@ done_from asked bytes old mid new made gave = chained old mid new made gave (λ 
 ))
 
 part_from : (asked : Asked) (bytes : List ℕ) (a b c : Contents) → Went (stage_of asked) (Ok bytes) a b → GivesPrefix (place_of asked) bytes b c → GivesPart asked a c
-part_from asked bytes a b c went front = record { bytes = bytes; decided = went_decided (stage_of asked) bytes a b went; read = b; reads = went_read (stage_of asked) bytes a b went; gives = front }
+part_from asked bytes a b c went prefix = record { bytes = bytes; decided = went_decided (stage_of asked) bytes a b went; read = b; reads = went_read (stage_of asked) bytes a b went; gives = prefix }
 
 -- a writing that failed ends the command so, on a desk that is not steady
 pub failed_from : (asked : Asked) (bytes : List ℕ) (old mid new : Option Contents) → Tells old mid (Went (stage_of asked) (Ok bytes)) → Tells mid new (GivesPrefix (place_of asked) bytes) → (IsSteady mid → ⊥) → Tells old new (Ends asked WriteFault)
-failed_from asked bytes None None None made front steady = tt
-failed_from asked bytes None None (Some c) made front steady = front
-failed_from asked bytes None (Some b) new made front steady = absurd made
-failed_from asked bytes (Some a) None new made front steady = absurd made
-failed_from asked bytes (Some a) (Some b) None made front steady = front
-failed_from asked bytes (Some a) (Some b) (Some c) made front steady =
+failed_from asked bytes None None None made prefix steady = tt
+failed_from asked bytes None None (Some c) made prefix steady = prefix
+failed_from asked bytes None (Some b) new made prefix steady = absurd made
+failed_from asked bytes (Some a) None new made prefix steady = absurd made
+failed_from asked bytes (Some a) (Some b) None made prefix steady = prefix
+failed_from asked bytes (Some a) (Some b) (Some c) made prefix steady =
     let kept = in_order_steady (stage_of asked) a b (went_opens (stage_of asked) (Ok bytes) a b made) in
-    inr (inl (refl, part_from asked bytes a b c made front, λ held. steady (subst IsTrue (sym kept) held)))
+    inr (inl (refl, part_from asked bytes a b c made prefix, λ held. steady (subst IsTrue (sym kept) held)))
 
 -- and one for which memory ran out so
 pub lost_from : (asked : Asked) (bytes : List ℕ) (old mid new : Option Contents) → Tells old mid (Went (stage_of asked) (Ok bytes)) → Tells mid new (GivesPrefix (place_of asked) bytes) → Tells old new (Ends asked NoMemory)
-lost_from asked bytes old mid new made front = chained old mid new made front (λ a b c went part. inr (inr (inl (refl, part_from asked bytes a b c went part))))
+lost_from asked bytes old mid new made prefix = chained old mid new made prefix (λ a b c went part. inr (inr (inl (refl, part_from asked bytes a b c went part))))
 
 -- a command without output ends so
 pub stopped_from : (asked : Asked) (stop : Stop) (status : Status) (old new : Option Contents) → status ≡ status_of stop → Tells old new (Went (stage_of asked) (Err stop)) → Tells old new (Ends asked status)

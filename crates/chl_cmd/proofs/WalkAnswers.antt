@@ -35,9 +35,9 @@ first_stop-append : (xs ys : List Path) → first_stop (xs ++ ys) ≡ option_or 
 first_stop-append [] ys = refl
 first_stop-append (x ∷ xs) ys = ap (option_or (stop_at x)) (first_stop-append xs ys) ∙ sym (or_assoc (stop_at x) (first_stop xs) (first_stop ys))
 
--- behind walks without a stop
-stop_behind : (walks : List Path) (walk : Path) (rest : List Path) → first_stop walks ≡ None → first_stop (walks ++ walk ∷ rest) ≡ option_or (stop_at walk) (first_stop rest)
-stop_behind walks walk rest none = first_stop-append walks (walk ∷ rest) ∙ ap (λ o. option_or o (option_or (stop_at walk) (first_stop rest))) none
+-- after walks without a stop
+stop_after : (walks : List Path) (walk : Path) (rest : List Path) → first_stop walks ≡ None → first_stop (walks ++ walk ∷ rest) ≡ option_or (stop_at walk) (first_stop rest)
+stop_after walks walk rest none = first_stop-append walks (walk ∷ rest) ∙ ap (λ o. option_or o (option_or (stop_at walk) (first_stop rest))) none
 
 module _ (g : WeightedGraph) (i : HubIndex) (pairs : List (ℕ × ℕ)) where
   -- these are the walks of the first k pairs, and none of them is stuck
@@ -48,7 +48,7 @@ module _ (g : WeightedGraph) (i : HubIndex) (pairs : List (ℕ × ℕ)) where
   pub HasWalked-start : HasWalked 0 []
   HasWalked-start = record { whole = λ rest own. own; none = refl }
 
-  -- the walk of the pair at k, with any walks of the pairs behind it
+  -- the walk of the pair at k, with any walks of the pairs after it
   with_walk : (k : ℕ) (walks : List Path) (d : ℕ × ℕ) (walk : Path) → HasWalked k walks → k < length pairs → IsPathOf g i (get_or pairs k d).0 (get_or pairs k d).1 walk
       → (rest : List Path) → AreAnswers (IsPathOf g i) (drop (k + 1) pairs) rest → AreAnswers (IsPathOf g i) pairs (walks ++ walk ∷ rest)
   with_walk k walks d walk was lt own rest others =
@@ -57,7 +57,7 @@ module _ (g : WeightedGraph) (i : HubIndex) (pairs : List (ℕ × ℕ)) where
   pub HasWalked-step : (k : ℕ) (walks : List Path) (d : ℕ × ℕ) (walk : Path) → HasWalked k walks → k < length pairs → IsPathOf g i (get_or pairs k d).0 (get_or pairs k d).1 walk → stop_at walk ≡ None → HasWalked (k + 1) (walks ++ walk ∷ [])
   HasWalked-step k walks d walk was lt own goes_on = record {
     whole = λ rest others. subst (AreAnswers (IsPathOf g i) pairs) (sym (append_assoc walks (walk ∷ []) rest)) (with_walk k walks d walk was lt own rest others);
-    none = stop_behind walks walk [] was.none ∙ ap (λ o. option_or o None) goes_on;
+    none = stop_after walks walk [] was.none ∙ ap (λ o. option_or o None) goes_on;
   }
 
   pub HasWalked-end : (k : ℕ) (walks : List Path) → HasWalked k walks → length pairs ≤ k → AreAnswers (IsPathOf g i) pairs walks
@@ -71,7 +71,7 @@ module _ (g : WeightedGraph) (i : HubIndex) (pairs : List (ℕ × ℕ)) where
       let others = answers_exist (length i.order) (IsPathOf g i) (λ u v. path_exists g i u v graph well) (drop (k + 1) pairs) (All-drop (λ (p : ℕ × ℕ). (1 ≤ p.0) × (p.0 ≤ length i.order) × (1 ≤ p.1) × (p.1 ≤ length i.order)) (k + 1) pairs within) in (
         walks ++ walk ∷ others.0,
         with_walk k walks d walk was lt own others.0 others.1,
-        stop_behind walks walk others.0 was.none ∙ ap (λ o. option_or o (first_stop others.0)) stops,
+        stop_after walks walk others.0 was.none ∙ ap (λ o. option_or o (first_stop others.0)) stops,
       )
 
 -- ---- the end of the stage

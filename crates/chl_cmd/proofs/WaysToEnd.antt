@@ -78,8 +78,8 @@ module _ {D : Type 0} {desk : Ghosts D} (asked : Asked) where
 
     -- with a prefix of it, as writing failed
     pub runs_failed : Tells (desk.told mid) (desk.told new) (GivesPrefix (place_of asked) bytes) → (IsSteady (desk.told mid) → ⊥) → Rises (desk.output_faults mid) (desk.output_faults new) → Runs desk asked WriteFault old new
-    runs_failed front steady rises = record {
-      told = failed_from asked bytes (desk.told old) (desk.told mid) (desk.told new) goes.told front steady;
+    runs_failed prefix steady rises = record {
+      told = failed_from asked bytes (desk.told old) (desk.told mid) (desk.told new) goes.told prefix steady;
       no_output = λ none. absurd (none.1 refl);
       no_place = λ none. place none ∙ goes.no_file;
       input_count = inputs ∙ goes.input_count;
@@ -89,8 +89,8 @@ module _ {D : Type 0} {desk : Ghosts D} (asked : Asked) where
 
     -- or as memory ran out
     pub runs_lost : Tells (desk.told mid) (desk.told new) (GivesPrefix (place_of asked) bytes) → desk.output_faults new ≡ desk.output_faults mid → Runs desk asked NoMemory old new
-    runs_lost front outputs = record {
-      told = lost_from asked bytes (desk.told old) (desk.told mid) (desk.told new) goes.told front;
+    runs_lost prefix outputs = record {
+      told = lost_from asked bytes (desk.told old) (desk.told mid) (desk.told new) goes.told prefix;
       no_output = λ none. absurd (none.2 refl);
       no_place = λ none. place none ∙ goes.no_file;
       input_count = inputs ∙ goes.input_count;

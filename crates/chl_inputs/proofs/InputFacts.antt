@@ -24,7 +24,7 @@ use Rattle.chl_inputs.specs.declared.stop.Stop.{Stop}
 use Rattle.chl_inputs.specs.declared.stop.Stop.TheVariants as stops
 use Rattle.chl_inputs.proofs.ToldChanges.{chained}
 
--- the named file is the input, at its front
+-- the named file is the input, at its start
 abbrev pub Opens : List ℕ → Contents → Contents → Type 0
 Opens name a b = (finite_map.get a.files name ≡ Some b.rest) × (b ≡ opened name b.rest a)
 
@@ -40,9 +40,9 @@ module _ {V : Type 0} (input : Input V) where
   beyond_limit bytes past = ap (λ b. cond b (past_limit (input.plain (take input_limit bytes))) (input.comes_to bytes)) (lt-ltb _ _ past)
 
   -- how a desk stands after the input that was opened was read in part
-  read_part : (front piece : List ℕ) (a b c : Contents) → Opens input.name a b → b.rest ≡ front ++ (piece ++ c.rest) → c ≡ record b { rest = c.rest } → input.plain front ≡ None → length piece ≤ piece_limit → ReadsPart input a c
-  read_part front piece a b c opens split next none short = record {
-    front = front;
+  read_part : (prefix piece : List ℕ) (a b c : Contents) → Opens input.name a b → b.rest ≡ prefix ++ (piece ++ c.rest) → c ≡ record b { rest = c.rest } → input.plain prefix ≡ None → length piece ≤ piece_limit → ReadsPart input a c
+  read_part prefix piece a b c opens split next none short = record {
+    prefix = prefix;
     piece = piece;
     file = opens.0 ∙ ap Some split;
     faultless = none;
@@ -51,8 +51,8 @@ module _ {V : Type 0} (input : Input V) where
   }
 
   -- and where there was no piece more
-  read_front : (front : List ℕ) (a b c : Contents) → Opens input.name a b → ReadsBytes front b c → input.plain front ≡ None → ReadsPart input a c
-  read_front front a b c opens read none = read_part front [] a b c opens read.0 read.1 none (omega arith)
+  read_prefix : (prefix : List ℕ) (a b c : Contents) → Opens input.name a b → ReadsBytes prefix b c → input.plain prefix ≡ None → ReadsPart input a c
+  read_prefix prefix a b c opens read none = read_part prefix [] a b c opens read.0 read.1 none (omega arith)
 
   -- an input that can't be opened
   not_opened : (fault : DeskFault) (told : Option Contents) → (IsSteady told → fault ≡ calls.Failed → Lacks told input.name) → Tells told told (Went (reading input) (Err (opening_stop fault)))
@@ -115,14 +115,14 @@ module _ {R V F : Type 0} (refused : R → List ℕ → Option F) (comes_to : R 
     the_input = input_from (refused first) (comes_to first) stop name
 
     -- a fault that is plain within the limit decides, whatever follows
-    plain_fault : (front rest : List ℕ) (fault : F) → length front ≤ input_limit → refused first front ≡ Some fault → value_of the_input (Some (front ++ rest)) ≡ Err (stop fault)
-    plain_fault front rest fault within plain = elim (cases_lt input_limit (length (front ++ rest))) [
+    plain_fault : (prefix rest : List ℕ) (fault : F) → length prefix ≤ input_limit → refused first prefix ≡ Some fault → value_of the_input (Some (prefix ++ rest)) ≡ Err (stop fault)
+    plain_fault prefix rest fault within plain = elim (cases_lt input_limit (length (prefix ++ rest))) [
       | inl past ↦
-          let room = input_limit - length front in
-          let cut : take input_limit (front ++ rest) ≡ front ++ take room rest =
-          ap (λ n. take n (front ++ rest)) (limit_splits (length front) within) ∙ take-append-add front rest room in
-          beyond_limit the_input (front ++ rest) past ∙ ap (λ bytes. past_limit (option_map stop (refused first bytes))) cut ∙ ap (λ o. past_limit (option_map stop o)) (lasts first front (take room rest) fault plain).0
-      | inr small ↦ within_limit the_input (front ++ rest) small ∙ ap (judged stop) (lasts first front rest fault plain).1
+          let room = input_limit - length prefix in
+          let cut : take input_limit (prefix ++ rest) ≡ prefix ++ take room rest =
+          ap (λ n. take n (prefix ++ rest)) (limit_splits (length prefix) within) ∙ take-append-add prefix rest room in
+          beyond_limit the_input (prefix ++ rest) past ∙ ap (λ bytes. past_limit (option_map stop (refused first bytes))) cut ∙ ap (λ o. past_limit (option_map stop o)) (lasts first prefix (take room rest) fault plain).0
+      | inr small ↦ within_limit the_input (prefix ++ rest) small ∙ ap (judged stop) (lasts first prefix rest fault plain).1
     ]
 
     -- and where none is, more bytes than the limit are too many
@@ -158,7 +158,7 @@ module _ {R V F : Type 0} (refused : R → List ℕ → Option F) (comes_to : R 
             | inl memory ↦ inr (inl (ap stop memory ∙ want))
             | inr comes ↦ inl (ap (value_of the_input) (o.0 ∙ ap Some r.0) ∙ within_limit the_input (concat all.pieces) all.within ∙ ap (judged stop) (sym (comes_of_all all.pieces all.taken) ∙ comes))
           ],
-          inr (read_front the_input (concat all.pieces) a b c o
+          inr (read_prefix the_input (concat all.pieces) a b c o
               (r.0 ∙ sym (append-nil (concat all.pieces)) ∙ ap (λ rest. concat all.pieces ++ rest) (sym (ap (λ (x : Contents). x.rest) r.1)), r.1 ∙ ap (λ rest. record b { rest = rest }) (sym (ap (λ (x : Contents). x.rest) r.1)))
               (faultless all.pieces last all.taken)),
         ),
@@ -182,7 +182,7 @@ module _ {R V F : Type 0} (refused : R → List ℕ → Option F) (comes_to : R 
             refl,
             (
               inr (inr (refl, λ held. steady (subst IsTrue (sym (ap (λ (x : Contents). x.steady) opens.1)) held))),
-              inr (read_front the_input (concat failed.pieces) a b c opens read (faultless failed.pieces last failed.taken)),
+              inr (read_prefix the_input (concat failed.pieces) a b c opens read (faultless failed.pieces last failed.taken)),
             ),
           )
       read_end TooLong long refusal failed memory steady = chained old mid new opens long.read (λ a b c o r.
@@ -198,7 +198,7 @@ module _ {R V F : Type 0} (refused : R → List ℕ → Option F) (comes_to : R 
       read_end NoMemory long refusal failed memory steady = chained old mid new opens memory.read (λ a b c o r. inl (
         stops.NoMemory,
         refl,
-        (inr (inl refl), inr (read_front the_input (concat memory.pieces) a b c o r (faultless memory.pieces last memory.taken))),
+        (inr (inl refl), inr (read_prefix the_input (concat memory.pieces) a b c o r (faultless memory.pieces last memory.taken))),
       ))
       read_end (Refused fault) long refusal failed memory steady = chained old mid new opens refusal.read (λ a b c o r. inl (
         stop fault,

@@ -9,13 +9,13 @@ use Rattle.chl_inputs.specs.declared.stop.Stop.{Stop}
 use Rattle.chl_inputs.specs.declared.stop.Stop.TheVariants.{NoMemory}
 use Rattle.chl_inputs.proofs.StagesInTurn.{same_value, same_stop_in, no_stop_in}
 
--- a stop that is decided behind one that is
+-- a stop that is decided after one that is
 may_stop : (steady : Bool) (stop : Stop) {P Q : Type 0} → (P → Q) → MayStop steady stop P → MayStop steady stop Q
 may_stop steady stop h (inl decided) = inl (h decided)
 may_stop steady stop h (inr other) = inr other
 
 module _ {U V : Type 0} where
-  -- behind a value, and where there is none
+  -- after a value, and where there is none
   pub after_value : (r : Result U Stop) (u : U) (answer : Result V Stop) (P : U → Type 0) → r ≡ Ok u → P u → After r answer P
   after_value r u answer P is p = subst (λ r. After r answer P) (sym is) p
 
@@ -30,12 +30,12 @@ module _ {U V : Type 0} where
   after_once (Ok u) P h x y first second = h u refl x y first second
   after_once (Err stop) P h x y first second = first ∙ sym second
 
-  -- what is behind an input, told in other words that hold of its value
+  -- what is after an input, told in other words that hold of its value
   pub after_told : (r : Result U Stop) (answer : Result V Stop) (P Q : U → Type 0) → ((u : U) → r ≡ Ok u → P u → Q u) → After r answer P → After r answer Q
   after_told (Ok u) answer P Q h after = h u refl after
   after_told (Err stop) answer P Q h after = after
 
-  -- behind an input with a value
+  -- after an input with a value
   pub after_ok : (r : Result U Stop) (v : V) (P : U → Type 0) → After r (Ok v) P → (u : U) × (r ≡ Ok u) × P u
   after_ok (Ok u) v P after = (u, refl, after)
   after_ok (Err stop) v P after = absurd (no_stop_in v stop after)

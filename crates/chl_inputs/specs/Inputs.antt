@@ -14,7 +14,7 @@ use Rattle.chl_inputs.specs.Stops.{graph_stop, order_stop, pairs_stop, index_sto
 use Rattle.chl_inputs.specs.declared.stop.Stop.{Stop}
 use Rattle.chl_inputs.specs.declared.stop.Stop.TheVariants.{TooLong, ReadFailed}
 
--- an input: the name of its file, the first fault that is plain by the end of a front of its bytes, and what all its bytes
+-- an input: the name of its file, the first fault that is plain by the end of a prefix of its bytes, and what all its bytes
 -- come to
 pub record Input (V : Type 0) : Type 0 where
   pub name : List ℕ
@@ -40,7 +40,7 @@ abbrev pub judged : {V F : Type 0} → (F → Stop) → Result V F → Result V 
 judged stop (Ok value) = Ok value
 judged stop (Err fault) = Err (stop fault)
 
--- the input of this name whose fronts have such faults and whose bytes come to that, and at whose faults the command stops so
+-- the input of this name whose prefixes have such faults and whose bytes come to that, and at whose faults the command stops so
 abbrev pub input_from : {V F : Type 0} → (List ℕ → Option F) → (List ℕ → Result V F) → (F → Stop) → List ℕ → Input V
 input_from fault_within comes_to stop name = record {
   name = name;

@@ -22,7 +22,7 @@ pub data Stage (V : Type 0) : Type 1 where
 abbrev pub reading : {V : Type 0} → Input V → Stage V
 reading input = Reads input (λ value. Comes (Ok value))
 
--- a stage behind what a stage comes to
+-- a stage after what a stage comes to
 abbrev pub with_answer : {U V : Type 0} → Result U Stop → (U → Stage V) → Stage V
 with_answer (Ok value) next = next value
 with_answer (Err stop) next = Comes (Err stop)
@@ -35,7 +35,7 @@ in_turn (Reads input first) next = Reads input (λ u. in_turn (first u) next)
 
 -- ---- what the files decide
 
--- what is decided behind an input: where the command stops there, that; else what its value leads to
+-- what is decided after an input: where the command stops there, that; else what its value leads to
 abbrev pub After : {U V : Type 0} → Result U Stop → Result V Stop → (U → Type 0) → Type 0
 After (Ok value) answer Next = Next value
 After (Err stop) answer Next = answer ≡ Err stop
@@ -48,13 +48,13 @@ Decided (Reads input next) files answer = After (value_at input files) answer (�
 
 -- ---- what a call does to its desk
 
--- The input was opened and read in part, and nothing else has changed. In front of the last piece of what was read no line or
+-- The input was opened and read in part, and nothing else has changed. Before the last piece of what was read no line or
 -- field is at fault.
 pub record ReadsPart {V : Type 0} (input : Input V) (a b : Contents) : Type 0 where
-  pub front : List ℕ
+  pub prefix : List ℕ
   pub piece : List ℕ
-  pub file : finite_map.get a.files input.name ≡ Some (front ++ (piece ++ b.rest))
-  pub faultless : input.plain front ≡ None
+  pub file : finite_map.get a.files input.name ≡ Some (prefix ++ (piece ++ b.rest))
+  pub faultless : input.plain prefix ≡ None
   pub short : length piece ≤ piece_limit
   pub opens : b ≡ opened input.name b.rest a
 

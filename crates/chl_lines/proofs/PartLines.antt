@@ -1,4 +1,4 @@
--- The lines of parts, one behind another, are the lines of all pairs.
+-- The lines of parts, one after another, are the lines of all pairs.
 use Rattle.std.specs.Prelude.{Result, Ok, Err, IfOk}
 use Rattle.std.specs.declared.alloc.AllocError.{AllocError}
 use Rattle.std.proofs.Common.{◌≡◌, ℕ, zero, suc, ◌+◌, ◌-◌, ◌*◌, ◌<◌, ◌≤◌, min, List, [], ◌∷◌, ◌++◌, Option, length, map, take, drop, get_or, refl, sym, ap, subst, ◌∙◌, append_assoc, arith}
@@ -27,7 +27,7 @@ past zero (x ∷ xs) short = absurd (omega (arith, short))
 past (suc k) [] short = refl
 past (suc k) (x ∷ xs) short = past k xs (omega (arith, short))
 
--- at most n of the elements behind the first k
+-- at most n of the elements after the first k
 cut : {X : Type 0} (n k : ℕ) (xs : List X) → take (min n (length xs - k)) (drop k xs) ≡ take n (drop k xs)
 cut n k xs = subst (λ m. take (min n m) (drop k xs) ≡ take n (drop k xs)) (length-drop k xs) (take_min n (drop k xs))
 
@@ -53,13 +53,13 @@ module _ {P : Type 0} (items : P → List ℕ) (pairs : List (ℕ × ℕ)) (answ
   others_of : (k : ℕ) (p : Result P AllocError) (parts : List (Result P AllocError)) → AreLines k (p ∷ parts) → AreLines (k + 1) parts
   others_of k p parts all i d lt = let same : k + suc i ≡ k + 1 + i = omega arith in subst (λ j. IfOk (get_or parts i d) (λ text. items text ≡ part_lines pairs answers j)) same (all (suc i) d (omega arith))
 
-  behind : (parts : List (Result P AllocError)) (k : ℕ) (text : List ℕ) → AreLines k parts → AreJoined items parts text → length pairs ≤ (k + length parts) * 65536 → text ≡ answer_lines (drop (k * 65536) pairs) (drop (k * 65536) answers)
-  behind [] k text all joined reach =
+  after : (parts : List (Result P AllocError)) (k : ℕ) (text : List ℕ) → AreLines k parts → AreJoined items parts text → length pairs ≤ (k + length parts) * 65536 → text ≡ answer_lines (drop (k * 65536) pairs) (drop (k * 65536) answers)
+  after [] k text all joined reach =
       let none : drop (k * 65536) pairs ≡ [] = past (k * 65536) pairs (omega (arith, reach)) in
       joined ∙ sym (ap (λ ps. answer_lines ps (drop (k * 65536) answers)) none)
-  behind (Err e ∷ parts) k text all joined reach = absurd joined
-  behind (Ok p ∷ parts) k text all (rest, is, joined) reach =
-      let later : rest ≡ answer_lines (drop ((k + 1) * 65536) pairs) (drop ((k + 1) * 65536) answers) = behind parts (k + 1) rest (others_of k (Ok p) parts all) joined (omega (arith, reach)) in
+  after (Err e ∷ parts) k text all joined reach = absurd joined
+  after (Ok p ∷ parts) k text all (rest, is, joined) reach =
+      let later : rest ≡ answer_lines (drop ((k + 1) * 65536) pairs) (drop ((k + 1) * 65536) answers) = after parts (k + 1) rest (others_of k (Ok p) parts all) joined (omega (arith, reach)) in
       let next : (k + 1) * 65536 ≡ k * 65536 + 65536 = omega arith in
       let fewer : drop ((k + 1) * 65536) pairs ≡ drop 65536 (drop (k * 65536) pairs) = ap (λ i. drop i pairs) next ∙ sym (drop-drop 65536 (k * 65536) pairs) in
       let told : drop ((k + 1) * 65536) answers ≡ drop 65536 (drop (k * 65536) answers) = ap (λ i. drop i answers) next ∙ sym (drop-drop 65536 (k * 65536) answers) in
@@ -70,4 +70,4 @@ module _ {P : Type 0} (items : P → List ℕ) (pairs : List (ℕ × ℕ)) (answ
 
   -- all parts together have all lines
   pub lines_of_parts : (parts : List (Result P AllocError)) (text : List ℕ) → AreLines 0 parts → AreJoined items parts text → length pairs ≤ length parts * 65536 → text ≡ answer_lines pairs answers
-  lines_of_parts parts text all joined reach = behind parts 0 text all joined (omega (arith, reach))
+  lines_of_parts parts text all joined reach = after parts 0 text all joined (omega (arith, reach))

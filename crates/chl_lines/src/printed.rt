@@ -67,7 +67,7 @@ fn hub_of(ranking: &Ranking, entry: Entry) -> u32
 }
 
 /// The lines of pairs with their answers: `d S T D H` or `u S T` for the nodes S and T. Parts of them are printed side by
-/// side, on all cores, and then put one behind another. The only error is that memory ran out.
+/// side, on all cores, and then put one after another. The only error is that memory ran out.
 pub fn answer_lines<R: Threads + Sync>(
     rt: &R,
     alloc: Global,
@@ -121,7 +121,7 @@ fn lines_in_order(
     Ok(text)
 }
 
-/// The texts of all parts, one behind another. The only error is that memory ran out.
+/// The texts of all parts, one after another. The only error is that memory ran out.
 fn join_texts(alloc: Global, parts: Vec<Result<Vec<u8>, AllocError>>) -> Result<Vec<u8>, AllocError>
     ensures { IfOk result (λ text. AreJoined (λ part. part.items) parts.items text.items) }
 {

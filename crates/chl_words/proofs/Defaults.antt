@@ -35,12 +35,12 @@ no_default_fault (o ∷ opts) rows pass =
 default_row : Opt → Text → List Text → Row
 default_row o v vs = record { id = o.name; values = v ∷ vs; count = None; source = Some DefaultValue; reading = reading_by (rule o) }
 
-given_behind : (id : Text) (rows : List Row) (r : Row) → explicit_source r.source ≡ false → is_given id (rows ++ r ∷ []) ≡ is_given id rows
-given_behind id [] r is = elim (bytes_eq r.id id) as (λ b. option_map_or (λ (q : Row). explicit_source q.source) (cond b (Some r) None) false ≡ false) [ true ↦ is | false ↦ refl ]
-given_behind id (q ∷ rows) r is =
+given_after : (id : Text) (rows : List Row) (r : Row) → explicit_source r.source ≡ false → is_given id (rows ++ r ∷ []) ≡ is_given id rows
+given_after id [] r is = elim (bytes_eq r.id id) as (λ b. option_map_or (λ (q : Row). explicit_source q.source) (cond b (Some r) None) false ≡ false) [ true ↦ is | false ↦ refl ]
+given_after id (q ∷ rows) r is =
     elim (bytes_eq q.id id) as (λ b. option_map_or (λ (p : Row). explicit_source p.source) (cond b (Some q) (find (λ p. bytes_eq p.id id) (rows ++ r ∷ []))) false ≡ option_map_or (λ (p : Row). explicit_source p.source) (cond b (Some q) (find (λ p. bytes_eq p.id id) rows)) false) [
       | true ↦ refl
-      | false ↦ given_behind id rows r is
+      | false ↦ given_after id rows r is
     ]
 
 added : (o : Opt) (v : Text) (vs : List Text) (rows : List Row) → has_row o.name rows ≡ false → default_rows o.name (reading_by (rule o)) (v ∷ vs) rows ≡ rows ++ default_row o v vs ∷ []
@@ -50,7 +50,7 @@ added o v vs rows none = appended o.name (more_values DefaultValue (v ∷ vs)) (
 given_default : (o : Opt) (ds : List Text) (id : Text) (rows : List Row) → has_row o.name rows ≡ false → is_given id (default_rows o.name (reading_by (rule o)) ds rows) ≡ is_given id rows
 unfolding default_row
 given_default o [] id rows none = refl
-given_default o (v ∷ vs) id rows none = ap (is_given id) (added o v vs rows none) ∙ given_behind id rows (default_row o v vs) refl
+given_default o (v ∷ vs) id rows none = ap (is_given id) (added o v vs rows none) ∙ given_after id rows (default_row o v vs) refl
 
 given_one : (o : Opt) (id : Text) (rows : List Row) → is_given id (with_default rows (rule o)) ≡ is_given id rows
 given_one o id rows =
@@ -93,12 +93,12 @@ or_true : (b : Bool) → (b || true) ≡ true
 or_true true = refl
 or_true false = refl
 
-abbrev behind : Opt → List Row → List Row
-behind o rows = with_default rows (rule o)
+abbrev after : Opt → List Row → List Row
+after o rows = with_default rows (rule o)
 
 -- one default: the rows stay, or get one at the end where there is none of this option
 one_default : (o : Opt) (rows : List Row) (P : List Row → Type 0) → (has_row o.name rows ≡ true → P rows) → (has_row o.name rows ≡ false → o.defaults ≡ [] → P rows)
-    → ((v : Text) (vs : List Text) → has_row o.name rows ≡ false → o.defaults ≡ v ∷ vs → P (rows ++ default_row o v vs ∷ [])) → P (behind o rows)
+    → ((v : Text) (vs : List Text) → has_row o.name rows ≡ false → o.defaults ≡ v ∷ vs → P (rows ++ default_row o v vs ∷ [])) → P (after o rows)
 one_default o rows P there none new =
     elim (has_row o.name rows) as (λ b. has_row o.name rows ≡ b → P (cond b rows (default_rows o.name (reading_by (rule o)) o.defaults rows))) [
       | true ↦ λ is. there is
@@ -129,7 +129,7 @@ first_default : (opts : List Opt) (rows : List Row) (id : Text) → AreDistinct 
 unfolding default_row
 first_default [] rows id distinct none = no_first id rows none
 first_default (o ∷ opts) rows id distinct none =
-    elim (bytes_eq o.name id) as (λ b. Decides b (o.name ≡ id) → bytes_eq o.name id ≡ b → first_of id (fold with_default (behind o rows) (map rule opts)) ≡ option_and_then (λ (p : Opt). slice_get p.defaults 0) (cond b (Some o) (named id opts))) [
+    elim (bytes_eq o.name id) as (λ b. Decides b (o.name ≡ id) → bytes_eq o.name id ≡ b → first_of id (fold with_default (after o rows) (map rule opts)) ≡ option_and_then (λ (p : Opt). slice_get p.defaults 0) (cond b (Some o) (named id opts))) [
       | true ↦ λ same test.
           let name : o.name ≡ id = same.0 refl in
           let alone : named id opts ≡ None = ap (λ n. named n opts) (sym name) ∙ distinct.0 in

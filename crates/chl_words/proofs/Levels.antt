@@ -14,7 +14,7 @@ use Rattle.clap.proofs.WalkLemmas.{both}
 use Rattle.chl_words.specs.Forms.{Use, AreTyped, has_required, is_taken, option_of, takes_uses, value_of, words_of}
 use Rattle.chl_words.proofs.Options.{Opt, rule}
 use Rattle.chl_words.proofs.UseWalks.{leaf}
-use Rattle.chl_words.proofs.UseFaults.{none, none_or, fit, held_behind, judged, rows_held}
+use Rattle.chl_words.proofs.UseFaults.{none, none_or, fit, held_after, judged, rows_held}
 use Rattle.chl_words.proofs.UseRows.{opt_of, named_of, rows_for, rows_are, all_named, given_for, first_for, has_for, fit_takes, and_when}
 use Rattle.chl_words.proofs.Defaults.{AreDistinct, DefaultsPass, default_of, no_default_fault, given_finished, first_finished}
 
@@ -44,7 +44,7 @@ module _ (name : Text) (options : List Rule) (uses : List Use) (typed : AreTyped
   opts = map opt_of options
 
   abbrev end_rows : List Row
-  end_rows = (settled (map rule opts) (held_behind name opts nothing_held uses)).rows
+  end_rows = (settled (map rule opts) (held_after name opts nothing_held uses)).rows
 
   taken_rows : takes_uses options [] uses ≡ true → end_rows ≡ rows_for opts uses
   taken_rows takes =
@@ -64,7 +64,7 @@ module _ (name : Text) (options : List Rule) (uses : List Use) (typed : AreTyped
   pub level_is : DefaultsPass opts → none (level_fault (leaf name opts) [] nothing_held (words_of uses) false []) ≡ is_taken options uses
   level_is pass =
       let walk = walk_fault (leaf name opts) [] (walk_from nothing_held) (words_of uses) in
-      let settle = settle_fault (map rule opts) false (held_behind name opts nothing_held uses) in
+      let settle = settle_fault (map rule opts) false (held_after name opts nothing_held uses) in
       let defaults = defaults_fault end_rows (map rule opts) in
       let check = check_fault (leaf name opts) (fold with_default end_rows (map rule opts)) false in
       none_or walk (or_else [] (or_else settle (or_else defaults check)))

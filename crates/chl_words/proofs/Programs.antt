@@ -1,4 +1,4 @@
--- The program's commands: where the words behind one go, and what comes of them.
+-- The program's commands: where the words after one go, and what comes of them.
 use Rattle.std.proofs.Common.{◌≡◌, ◌∙◌, ap, ap₂, sym, refl, subst, zero, suc, Bool, true, false, List, [], ◌∷◌, ◌++◌, Contains, Option, Some, None, cond, map, option_map, arith}
 use Rattle.std.specs.Prelude.{find, is_some}
 use Rattle.std.specs.Option.{option_map_or}
@@ -31,7 +31,7 @@ names = names_of (built program)
 abbrev pub stopped_at : Text × List Text → Walk
 stopped_at p = record (walk_from nothing_held) { stopped = Some p }
 
--- behind a command the words are left to it
+-- after a command the words are left to it
 no_more : (p : Text × List Text) (words : List Text) → walk_fault top names (stopped_at p) words ≡ []
 unfolding walk_fault walked
 no_more p [] = refl

@@ -1,4 +1,4 @@
--- Words that are no command: a stray word behind uses, a first word that is no command, and a call for help.
+-- Words that are no command: a stray word after uses, a first word that is no command, and a call for help.
 use Rattle.std.proofs.Common.{◌≡◌, ◌∙◌, ap, ap₂, sym, refl, subst, ℕ, Bool, true, false, List, [], ◌∷◌, ◌++◌, Contains, Option, Some, None, cond, map}
 use Rattle.std.specs.Prelude.{◌&&◌, if◌then◌else◌}
 use Rattle.std.specs.Option.{option_map_or}
@@ -52,16 +52,16 @@ module _ (name : Text) (opts : List Opt) (word : Text) (plain_word : begins_with
   one_use : (x : ℕ) (xs value : Text) (joined : Bool) (h : Held) (uses : List Use) → IsPlainName (x ∷ xs) → (joined ≡ false → begins_with_dash value ≡ false) → ((k : Held) → IsRefused k uses)
       → IsRefused h (record { name = x ∷ xs; value = value; joined = joined } ∷ uses)
   unfolding walk_fault
-  one_use x xs value true h uses plain apart behind =
+  one_use x xs value true h uses plain apart after =
       elim (named (x ∷ xs) opts) as (λ n. named (x ∷ xs) opts ≡ n → IsRefused h (record { name = x ∷ xs; value = value; joined = true } ∷ uses)) [
         | None ↦ λ is. ap (λ (f : Kinds). none (or_else f (walk_fault s [] (walked c [] (walk_from h) (dashed ((x ∷ xs) ++ 61 ∷ value))) (words_of uses ++ word ∷ rest)))) (fault_unknown_joined name opts h x xs value plain is)
         | Some o ↦ λ is.
             ap (λ (w : Walk). none (or_else (turn_fault s [] (walk_from h) (dashed ((x ∷ xs) ++ 61 ∷ value))) (walk_fault s [] w (words_of uses ++ word ∷ rest)))) (walked_joined name opts o h x xs value plain is)
             ∙ none_or (turn_fault s [] (walk_from h) (dashed ((x ∷ xs) ++ 61 ∷ value))) _
-            ∙ ap (λ b. none (turn_fault s [] (walk_from h) (dashed ((x ∷ xs) ++ 61 ∷ value))) && b) (behind _)
+            ∙ ap (λ b. none (turn_fault s [] (walk_from h) (dashed ((x ∷ xs) ++ 61 ∷ value))) && b) (after _)
             ∙ and_false (none (turn_fault s [] (walk_from h) (dashed ((x ∷ xs) ++ 61 ∷ value))))
       ] refl
-  one_use x xs value false h uses plain apart behind =
+  one_use x xs value false h uses plain apart after =
       elim (named (x ∷ xs) opts) as (λ n. named (x ∷ xs) opts ≡ n → IsRefused h (record { name = x ∷ xs; value = value; joined = false } ∷ uses)) [
         | None ↦ λ is. ap (λ (f : Kinds). none (or_else f (walk_fault s [] (walked c [] (walk_from h) (dashed (x ∷ xs))) (value ∷ (words_of uses ++ word ∷ rest))))) (fault_unknown_split name opts h x xs plain is)
         | Some o ↦ λ is.
@@ -70,7 +70,7 @@ module _ (name : Text) (opts : List Opt) (word : Text) (plain_word : begins_with
             ap (λ (w : Walk). none (or_else (turn_fault s [] (walk_from h) (dashed (x ∷ xs))) (or_else later (walk_fault s [] w (words_of uses ++ word ∷ rest)))))
             (ap (λ (w : Walk). walked c [] w value) first ∙ walked_second name opts o _ _ (x ∷ xs) value is (apart refl))
             ∙ none_or (turn_fault s [] (walk_from h) (dashed (x ∷ xs))) _
-            ∙ ap (λ b. none (turn_fault s [] (walk_from h) (dashed (x ∷ xs))) && b) (none_or later _ ∙ ap (λ b. none later && b) (behind _) ∙ and_false (none later))
+            ∙ ap (λ b. none (turn_fault s [] (walk_from h) (dashed (x ∷ xs))) && b) (none_or later _ ∙ ap (λ b. none later && b) (after _) ∙ and_false (none later))
             ∙ and_false (none (turn_fault s [] (walk_from h) (dashed (x ∷ xs))))
       ] refl
 

@@ -66,10 +66,10 @@ module _ (name : Text) where
       ∙ ap (λ b. none (flag_word_fault [] false (long_of name) name nothing_held) && b) (long_stray (long_of name))
       ∙ and_false (none (flag_word_fault [] false (long_of name) name nothing_held))
 
-behind_dashes : (p : Text) (rest : List Text) → asked_by (p ∷ (45 ∷ 45 ∷ []) ∷ rest) ≡ None
+after_dashes : (p : Text) (rest : List Text) → asked_by (p ∷ (45 ∷ 45 ∷ []) ∷ rest) ≡ None
 unfolding clap_on_literals
-behind_dashes p [] = refl
-behind_dashes p (x ∷ xs) = refl
+after_dashes p [] = refl
+after_dashes p (x ∷ xs) = refl
 
 walk_refused : (name : Text) (rest : List Text) → none (turn_fault top names (walk_from nothing_held) name) ≡ false → none (walk_fault top names (walk_from nothing_held) (name ∷ rest)) ≡ false
 unfolding walk_fault
@@ -79,7 +79,7 @@ walk_refused name rest refuses = or_refused (turn_fault top names (walk_from not
 pub unknown_is_none : (p name : Text) (rest : List Text) → list_any (λ s. bytes_eq s.name name) commands ≡ false → asked_by (p ∷ name ∷ rest) ≡ None
 unknown_is_none p name rest unknown =
     elim (bytes_eq name (45 ∷ 45 ∷ [])) as (λ b. Decides b (name ≡ 45 ∷ 45 ∷ []) → bytes_eq name (45 ∷ 45 ∷ []) ≡ b → asked_by (p ∷ name ∷ rest) ≡ None) [
-      | true ↦ λ same test. ap (λ n. asked_by (p ∷ n ∷ rest)) (same.0 refl) ∙ behind_dashes p rest
+      | true ↦ λ same test. ap (λ n. asked_by (p ∷ n ∷ rest)) (same.0 refl) ∙ after_dashes p rest
       | false ↦ λ apart test.
           unless_is (fault_of program (p ∷ name ∷ rest)) (asked_in (subcommand_of program (p ∷ name ∷ rest)))
           ∙ ap (λ b. cond b (asked_in (subcommand_of program (p ∷ name ∷ rest))) None)

@@ -62,7 +62,7 @@ not_true : (b : Bool) → not b ≡ true → b ≡ false
 not_true true is = absurd (true≢false (sym is))
 not_true false is = refl
 
--- behind rows, uses that fit add their own rows
+-- after rows, uses that fit add their own rows
 pub rows_are : (opts : List Opt) (rows : List Row) (uses : List Use) → fit opts rows uses ≡ true → rows_of_uses opts rows uses ≡ rows ++ rows_for opts uses
 rows_are opts rows [] fitting = sym (append-nil rows)
 rows_are opts rows (u ∷ uses) fitting =

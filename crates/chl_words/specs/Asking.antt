@@ -27,7 +27,7 @@ construction_of word =
     else (if bytes_eq word (codes "lcc") then Some Lcc
     else (if bytes_eq word (codes "gll") then Some Gll else None))
 
--- the number below 2^32 that a word is: digits, which may have zeros or one plus in front
+-- the number below 2^32 that a word is: digits, which may have zeros or one plus before them
 abbrev pub any_number_of : Text → Option ℕ
 any_number_of word =
     let digits = without_leading_plus word in

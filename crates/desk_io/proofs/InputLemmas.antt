@@ -3,7 +3,7 @@ use Rattle.std.proofs.Common.{◌≡◌, ℕ, ◌+◌, ◌-◌, List, ◌++◌, 
 use Rattle.std.proofs.Math.Seq.{take-length}
 use Rattle.std.proofs.lemmas.List.{take_at, drop-drop, take-append-drop}
 
--- n bytes after the place `at` are moved to the front of a buffer, and what is left begins n bytes later
+-- n bytes after the place `at` are moved to the start of a buffer, and what is left begins n bytes later
 pub read_off : (at n : ℕ) (input moved tail : List ℕ) → length moved ≡ n → moved ≡ take n (take (length input - at) (drop at input)) → drop at input ≡ take n (moved ++ tail) ++ drop (at + n) input
 read_off at n input moved tail moved_len moved_is =
     sym (take-append-drop n (drop at input))

@@ -24,19 +24,19 @@ open_rest-append begun (b ∷ xs) ys =
 not_lf : (b : ℕ) (run : List ℕ) → All (λ x. x ≢ 10) (b ∷ run) → eqb b 10 ≡ false
 not_lf b run all = let differ : b ≢ 10 = all 0 0 (omega arith) in grind (arith, nat_tests)
 
-behind : (b : ℕ) (run : List ℕ) → All (λ x. x ≢ 10) (b ∷ run) → All (λ x. x ≢ 10) run
-behind b run all = λ k d h. all (suc k) d (omega arith)
+after : (b : ℕ) (run : List ℕ) → All (λ x. x ≢ 10) (b ∷ run) → All (λ x. x ≢ 10) run
+after b run all = λ k d h. all (suc k) d (omega arith)
 
 -- a run without an LF ends no line
 pub whole_lines-run : (begun run : List ℕ) → All (λ b. b ≢ 10) run → whole_lines begun run ≡ []
 whole_lines-run begun [] all = refl
-whole_lines-run begun (b ∷ run) all = rw (not_lf b run all) (whole_lines-run (begun ++ b ∷ []) run (behind b run all))
+whole_lines-run begun (b ∷ run) all = rw (not_lf b run all) (whole_lines-run (begun ++ b ∷ []) run (after b run all))
 
 -- and is open, all of it
 pub open_rest-run : (begun run : List ℕ) → All (λ b. b ≢ 10) run → open_rest begun run ≡ begun ++ run
 open_rest-run begun [] all = sym (append-nil begun)
 open_rest-run begun (b ∷ run) all =
-    rw (not_lf b run all) (open_rest-run (begun ++ b ∷ []) run (behind b run all) ∙ append_assoc begun (b ∷ []) run)
+    rw (not_lf b run all) (open_rest-run (begun ++ b ∷ []) run (after b run all) ∙ append_assoc begun (b ∷ []) run)
 
 -- the first line is what stands before the first LF
 pub whole_lines-first : (begun run rest : List ℕ) → All (λ b. b ≢ 10) run → whole_lines begun (run ++ 10 ∷ rest) ≡ without_cr (begun ++ run) ∷ whole_lines [] rest

@@ -18,8 +18,8 @@ without_cr-keep [] differs = refl
 without_cr-keep (b ∷ []) differs = let differ : b ≢ 13 = differs 0 refl in grind (arith, nat_tests)
 without_cr-keep (b ∷ c ∷ line) differs = ap (λ l. b ∷ l) (without_cr-keep (c ∷ line) (λ k size. differs (suc k) (omega arith)))
 
--- it is a front of the line
-pub without_cr-front : (line : List ℕ) → take (length (without_cr line)) line ≡ without_cr line
-without_cr-front [] = refl
-without_cr-front (b ∷ []) = elim (eqb b 13) as (λ t. take (length (cond t [] (b ∷ []))) (b ∷ []) ≡ cond t [] (b ∷ [])) [ true ↦ refl | false ↦ refl ]
-without_cr-front (b ∷ c ∷ line) = ap (λ l. b ∷ l) (without_cr-front (c ∷ line))
+-- it is a prefix of the line
+pub without_cr-prefix : (line : List ℕ) → take (length (without_cr line)) line ≡ without_cr line
+without_cr-prefix [] = refl
+without_cr-prefix (b ∷ []) = elim (eqb b 13) as (λ t. take (length (cond t [] (b ∷ []))) (b ∷ []) ≡ cond t [] (b ∷ [])) [ true ↦ refl | false ↦ refl ]
+without_cr-prefix (b ∷ c ∷ line) = ap (λ l. b ∷ l) (without_cr-prefix (c ∷ line))

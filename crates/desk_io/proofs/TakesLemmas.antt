@@ -40,7 +40,7 @@ taken-append out xs ys zs same (Some a) None new first next = absurd first
 taken-append out xs ys zs same (Some a) (Some b) None first next = next
 taken-append out xs ys zs same (Some a) (Some b) (Some c) first next = subst (λ bytes. Takes out bytes a c) same (Takes-append out xs ys a b c first next)
 
--- a front of the piece, and a front of what is left of it
+-- a prefix of the piece, and a prefix of what is left of it
 pub take-rest : (done n : ℕ) (piece : List ℕ) → take done piece ++ take n (take (length piece - done) (drop done piece)) ≡ take (done + n) piece
 take-rest done n piece =
     ap (λ m. take done piece ++ take n (take m (drop done piece))) (sym (length-drop done piece))

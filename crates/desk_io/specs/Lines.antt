@@ -32,6 +32,6 @@ pub record LineSoFar : Type 0 where
   pub bytes : List ℕ
   pub whole : Bool
 
--- the bytes of the line that isn't ended yet: none behind a whole line
+-- the bytes of the line that isn't ended yet: none after a whole line
 abbrev pub open_bytes : LineSoFar → List ℕ
 open_bytes line = if line.whole then [] else line.bytes

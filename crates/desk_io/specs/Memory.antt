@@ -50,7 +50,7 @@ empty_memory bite failing = record {
 abbrev pub with_file : Memory → List ℕ → List ℕ → Memory
 with_file m name bytes = record m { contents = record m.contents { files = map.insert m.contents.files name bytes } }
 
--- m, with the opened input behind those before it
+-- m, with the opened input after those before it
 abbrev pub with_input_kept : Memory → Memory
 with_input_kept m = record m { contents = record m.contents { earlier = m.contents.earlier ++ (m.contents.input, m.contents.rest) ∷ [] } }
 

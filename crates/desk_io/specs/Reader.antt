@@ -6,7 +6,7 @@ module _ {R V F : Type 0} (refused : R → List ℕ → Option F) (comes_to : R 
   abbrev pub StandsAt : R → List ℕ → F → Type 0
   StandsAt reader bytes fault = (refused reader bytes ≡ Some fault) × (comes_to reader bytes ≡ Err fault)
 
-  -- the new reader makes of any bytes what the old one makes of them behind the piece
+  -- the new reader makes of any bytes what the old one makes of them after the piece
   pub record Follows (old : R) (piece : List ℕ) (new : R) : Type 0 where
     pub refuses : (more : List ℕ) → refused new more ≡ refused old (piece ++ more)
     pub comes : (more : List ℕ) → comes_to new more ≡ comes_to old (piece ++ more)

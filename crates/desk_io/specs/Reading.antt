@@ -15,7 +15,7 @@ input_limit = 2 ^ 48
 abbrev pub piece_limit : ℕ
 piece_limit = 2 ^ 13
 
--- these bytes were the front of the input, and are no longer; nothing else changed
+-- these bytes were the prefix of the input, and are no longer; nothing else changed
 abbrev pub Reads : List ℕ → Contents → Contents → Type 0
 Reads bytes a b = (a.rest ≡ bytes ++ b.rest) × (b ≡ record a { rest = b.rest })
 

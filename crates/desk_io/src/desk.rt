@@ -46,7 +46,7 @@ pub trait Desk {
     /// How many calls of `create`, `write` and `say` have failed.
     ghost output_faults: { Self → ℕ };
 
-    /// Opens the named file as the input, at its front, in place of the one before.
+    /// Opens the named file as the input, at its start, in place of the one before.
     fn open_in(&mut self, name: &str) -> Result<(), DeskFault>
         ensures opened { OnOk result (IsTrue (is_open self.new)) }
         ensures created { is_created self.new ≡ is_created self.old }
@@ -57,7 +57,7 @@ pub trait Desk {
         ensures input_count { CountsFailure result (input_faults self.old) (input_faults self.new) }
         ensures output_count { output_faults self.new ≡ output_faults self.old };
 
-    /// Moves bytes of the input to the front of the buffer, and answers how many: none exactly at the end,
+    /// Moves bytes of the input to the start of the buffer, and answers how many: none exactly at the end,
     /// where the buffer has room.
     fn read(&mut self, buf: &mut [u8]) -> Result<usize, DeskFault>
         requires { IsTrue (is_open self.old) }
@@ -83,7 +83,7 @@ pub trait Desk {
         ensures input_count { input_faults self.new ≡ input_faults self.old }
         ensures output_count { CountsFailure result (output_faults self.old) (output_faults self.new) };
 
-    /// Puts a front of the piece to the end of the created file, and answers how many bytes that is.
+    /// Puts a prefix of the piece to the end of the created file, and answers how many bytes that is.
     fn write(&mut self, piece: &[u8]) -> Result<usize, DeskFault>
         requires { IsTrue (is_created self.old) }
         ensures open { is_open self.new ≡ is_open self.old }
@@ -97,7 +97,7 @@ pub trait Desk {
         ensures input_count { input_faults self.new ≡ input_faults self.old }
         ensures output_count { CountsFailure result (output_faults self.old) (output_faults self.new) };
 
-    /// Gives a front of the piece to standard output, and answers how many bytes that is.
+    /// Gives a prefix of the piece to standard output, and answers how many bytes that is.
     fn say(&mut self, piece: &[u8]) -> Result<usize, DeskFault>
         ensures open { is_open self.new ≡ is_open self.old }
         ensures created { is_created self.new ≡ is_created self.old }

@@ -24,11 +24,11 @@ pub trait Reader: Feed {
     /// The fault of a reader that has no memory for what it reads.
     ghost no_memory: { Self.Fault };
 
-    /// The first fault that is plain by the end of these bytes, behind what was fed before. A reader that has refused is
+    /// The first fault that is plain by the end of these bytes, after what was fed before. A reader that has refused is
     /// at its fault with no bytes more.
     ghost refused: { Self → List ℕ → Option Self.Fault };
 
-    /// What these bytes, behind what was fed before, come to where nothing follows them.
+    /// What these bytes, after what was fed before, come to where nothing follows them.
     ghost comes_to: { Self → List ℕ → Result Self.Value Self.Fault };
 
     /// Ends the reading.

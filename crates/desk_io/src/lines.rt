@@ -31,7 +31,7 @@ impl Lines {
         })
     }
 
-    /// Takes the next byte of the text, and tells whether it ends a line, which `line` then gives. A byte behind a whole
+    /// Takes the next byte of the text, and tells whether it ends a line, which `line` then gives. A byte after a whole
     /// line begins the next one. After want of memory, the only error, the open bytes are as they were.
     pub fn push(&mut self, byte: u8) -> Result<bool, AllocError>
         ensures line { IfOk result (λ whole. whole_lines (open_bytes self.old) (byte ∷ [])

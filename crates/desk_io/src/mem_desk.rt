@@ -199,7 +199,7 @@ impl MemDesk {
         DeskFault::Failed
     }
 
-    /// Puts the opened input, with what is left of it, behind the inputs before it.
+    /// Puts the opened input, with what is left of it, after the inputs before it.
     fn keep_input(&mut self) -> Result<(), AllocError>
         ensures ok { OnOk result (self.new ≡ with_input_kept self.old) }
         ensures err { OnErr result (self.new ≡ self.old) }

@@ -119,7 +119,7 @@ fn a_desk_in_memory_creates_and_writes(rt: HostRuntime) -> Result<(), Fail> {
     Ok(())
 }
 
-/// Opens a file and reads it from its front, as far as the buffer goes.
+/// Opens a file and reads it from its start, as far as the buffer goes.
 fn read_back<D: Desk>(desk: &mut D, name: &str, buf: &mut [u8]) -> Result<usize, DeskFault>
     ensures { D.is_created desk.new ≡ D.is_created desk.old }
 {

@@ -14,7 +14,7 @@ pub enum Out {
     Said,
 }
 
-/// Writes the whole piece, or an error after a front of it.
+/// Writes the whole piece, or an error after a prefix of it.
 pub fn write_all<D: Desk>(desk: &mut D, out: Out, piece: &[u8]) -> Result<(), DeskFault>
     requires { out ≡ Out.File → IsTrue (D.is_created desk.old) }
     ensures open { D.is_open desk.new ≡ D.is_open desk.old }
@@ -33,7 +33,7 @@ pub fn write_all<D: Desk>(desk: &mut D, out: Out, piece: &[u8]) -> Result<(), De
     Ok(())
 }
 
-/// Gives a front of the piece to where it is to go, and answers how many bytes that is.
+/// Gives a prefix of the piece to where it is to go, and answers how many bytes that is.
 fn give<D: Desk>(desk: &mut D, out: Out, piece: &[u8]) -> Result<usize, DeskFault>
     requires { out ≡ Out.File → IsTrue (D.is_created desk.old) }
     ensures open { D.is_open desk.new ≡ D.is_open desk.old }

@@ -8,12 +8,12 @@ use Rattle.std.proofs.lemmas.List.Elements.{All-push}
 use Rattle.text_lines.specs.Words.{words_of, number_of, numbers_of}
 use Rattle.text_lines.specs.Judgement.{◌>>=◌, value_of_text}
 use Rattle.text_lines.proofs.KeptStates.{stepped, text_keeps}
-use Rattle.dimacs_text.specs.Counted.{Wording, Counted, AreAccepted, last_of, are_within, behind_words, refuse, refuse_by, ◌>>◌, numbers_in, declared_counts, line_numbers, problem_line, letter_line, counted_line, counted_end, in_line, counted_judged, counted_ended, none_yet}
+use Rattle.dimacs_text.specs.Counted.{Wording, Counted, AreAccepted, last_of, are_within, after_words, refuse, refuse_by, ◌>>◌, numbers_in, declared_counts, line_numbers, problem_line, letter_line, counted_line, counted_end, in_line, counted_judged, counted_ended, none_yet}
 use Rattle.dimacs_text.specs.declared.fault.TextKind.{TextKind}
 use Rattle.dimacs_text.specs.declared.fault.TextKind.TheVariants.{SecondProblem, NoProblem, BadField, BadNumber, TooMany, Count, UnknownLine}
 use Rattle.dimacs_text.specs.declared.fault.TextFault.{TextFault}
 
--- what lies behind a rule that doesn't apply
+-- what lies after a rule that doesn't apply
 pub passed : {A : Type 0} (test : Bool) (kind : TextKind) (rules : Result A TextKind) (x : A) → (refuse test kind >> rules) ≡ Ok x → (test ≡ false) × (rules ≡ Ok x)
 passed true kind rules x is = cc
 passed false kind rules x is = (refl, is)
@@ -34,11 +34,11 @@ not_false true is = refl
 not_false false is = cc
 
 word_more : (first : Option ℕ) (more : Option (List ℕ)) (k : ℕ) → ((ms : List ℕ) → more ≡ Some ms → length ms ≡ k) → (ns : List ℕ) → option_and_then (λ n. option_and_then (λ ms. Some (n ∷ ms)) more) first ≡ Some ns → length ns ≡ suc k
-word_more None more k behind ns is = cc
-word_more (Some n) None k behind ns is = cc
-word_more (Some n) (Some ms) k behind ns is =
+word_more None more k after ns is = cc
+word_more (Some n) None k after ns is = cc
+word_more (Some n) (Some ms) k after ns is =
     let same : n ∷ ms ≡ ns = cc in
-    ap length (sym same) ∙ ap suc (behind ms refl)
+    ap length (sym same) ∙ ap suc (after ms refl)
 
 -- there are as many numbers as words
 pub length-numbers_of : (words : List (List ℕ)) (ns : List ℕ) → numbers_of words ≡ Some ns → length ns ≡ length words
@@ -53,11 +53,11 @@ numbers_in_shown places words ns is =
 
 declared_shown : (w : Wording) (words : List (List ℕ)) (counts : List ℕ) → declared_counts w words ≡ Ok counts → (length counts ≡ length w.limits) × (are_within w.limits counts ≡ true)
 declared_shown w words counts is =
-    let front = stepped (ok_or (behind_words (words_of w.fixed) words) BadField) (λ (behind : List (List ℕ)). numbers_in (length w.limits) behind >>= λ ns. refuse (not (are_within w.limits ns)) TooMany >> Ok ns) counts is in
-    let read = stepped (numbers_in (length w.limits) front.0) (λ (ns : List ℕ). refuse (not (are_within w.limits ns)) TooMany >> Ok ns) counts front.2 in
+    let prefix = stepped (ok_or (after_words (words_of w.fixed) words) BadField) (λ (after : List (List ℕ)). numbers_in (length w.limits) after >>= λ ns. refuse (not (are_within w.limits ns)) TooMany >> Ok ns) counts is in
+    let read = stepped (numbers_in (length w.limits) prefix.0) (λ (ns : List ℕ). refuse (not (are_within w.limits ns)) TooMany >> Ok ns) counts prefix.2 in
     let rule = passed (not (are_within w.limits read.0)) TooMany (Ok read.0) counts read.2 in
     let same : read.0 ≡ counts = ok_value {F = TextKind} read.0 counts rule.1 in
-    (ap length (sym same) ∙ numbers_in_shown (length w.limits) front.0 read.0 read.1, ap (are_within w.limits) (sym same) ∙ not_false (are_within w.limits read.0) rule.0)
+    (ap length (sym same) ∙ numbers_in_shown (length w.limits) prefix.0 read.0 read.1, ap (are_within w.limits) (sym same) ∙ not_false (are_within w.limits read.0) rule.0)
 
 line_shown : (w : Wording) (counts : List ℕ) (words : List (List ℕ)) (numbers : List ℕ) → line_numbers w counts words ≡ Ok numbers → (length numbers ≡ w.numbers) × (w.fault_of counts numbers ≡ None)
 line_shown w counts words numbers is =
@@ -66,7 +66,7 @@ line_shown w counts words numbers is =
     let same : read.0 ≡ numbers = ok_value {F = TextKind} read.0 numbers rule.1 in
     (ap length (sym same) ∙ numbers_in_shown w.numbers words read.0 read.1, ap (w.fault_of counts) (sym same) ∙ rule.0)
 
--- the lines so far have no fault, and stand behind a `p` line
+-- the lines so far have no fault, and stand after a `p` line
 pub record Stands {T : Type 0} (w : Wording) (so_far : Counted T) : Type 0 where
   pub none : so_far.counts ≡ None → so_far.lines ≡ []
   pub some : (counts : List ℕ) → so_far.counts ≡ Some counts → AreAccepted w counts so_far.lines
@@ -102,24 +102,24 @@ problem_stands {T} w so_far after words stands is =
 
 letter_stands : {T : Type 0} (w : Wording) (so_far after : Counted T) (words : List (List ℕ)) → Stands w so_far → letter_line w so_far words ≡ Ok after → LeavesStanding w so_far after
 letter_stands {T} w so_far after words stands is =
-    let front = stepped (ok_or so_far.counts NoProblem) (λ (counts : List ℕ). line_numbers w counts words >>= λ numbers. refuse (length so_far.lines == last_of counts) (Count (last_of counts) (last_of counts + 1)) >> Ok (record so_far { lines = so_far.lines ++ numbers ∷ [] })) after is in
-    let read = stepped (line_numbers w front.0 words) (λ (numbers : List ℕ). refuse (length so_far.lines == last_of front.0) (Count (last_of front.0) (last_of front.0 + 1)) >> Ok (record so_far { lines = so_far.lines ++ numbers ∷ [] })) after front.2 in
-    let rule = passed (length so_far.lines == last_of front.0) (Count (last_of front.0) (last_of front.0 + 1)) (Ok (record so_far { lines = so_far.lines ++ read.0 ∷ [] })) after read.2 in
+    let prefix = stepped (ok_or so_far.counts NoProblem) (λ (counts : List ℕ). line_numbers w counts words >>= λ numbers. refuse (length so_far.lines == last_of counts) (Count (last_of counts) (last_of counts + 1)) >> Ok (record so_far { lines = so_far.lines ++ numbers ∷ [] })) after is in
+    let read = stepped (line_numbers w prefix.0 words) (λ (numbers : List ℕ). refuse (length so_far.lines == last_of prefix.0) (Count (last_of prefix.0) (last_of prefix.0 + 1)) >> Ok (record so_far { lines = so_far.lines ++ numbers ∷ [] })) after prefix.2 in
+    let rule = passed (length so_far.lines == last_of prefix.0) (Count (last_of prefix.0) (last_of prefix.0 + 1)) (Ok (record so_far { lines = so_far.lines ++ read.0 ∷ [] })) after read.2 in
     let same : record so_far { lines = so_far.lines ++ read.0 ∷ [] } ≡ after = ok_value {F = TextKind} (record so_far { lines = so_far.lines ++ read.0 ∷ [] }) after rule.1 in
-    let counts_are : so_far.counts ≡ Some front.0 = there so_far.counts NoProblem front.0 front.1 in
-    let before = stands.some front.0 counts_are in
-    let shown = line_shown w front.0 words read.0 read.1 in
-    let accepted : AreAccepted w front.0 (so_far.lines ++ read.0 ∷ []) = record {
+    let counts_are : so_far.counts ≡ Some prefix.0 = there so_far.counts NoProblem prefix.0 prefix.1 in
+    let before = stands.some prefix.0 counts_are in
+    let shown = line_shown w prefix.0 words read.0 read.1 in
+    let accepted : AreAccepted w prefix.0 (so_far.lines ++ read.0 ∷ []) = record {
       counted = before.counted;
       within = before.within;
       numbers = All-push (λ numbers. length numbers ≡ w.numbers) so_far.lines read.0 before.numbers shown.0;
-      faultless = All-push (λ numbers. w.fault_of front.0 numbers ≡ None) so_far.lines read.0 before.faultless shown.1;
+      faultless = All-push (λ numbers. w.fault_of prefix.0 numbers ≡ None) so_far.lines read.0 before.faultless shown.1;
     } in
     subst (LeavesStanding w so_far) same (
       refl,
       record {
         none = λ e. cc;
-        some = λ counts e. let one : front.0 ≡ counts = cc in subst (λ c. AreAccepted w c (so_far.lines ++ read.0 ∷ [])) one accepted;
+        some = λ counts e. let one : prefix.0 ≡ counts = cc in subst (λ c. AreAccepted w c (so_far.lines ++ read.0 ∷ [])) one accepted;
       },
     )
 
@@ -139,9 +139,9 @@ in_line_shown fault number (Err kind) x is = cc
 
 end_shown : {T : Type 0} (so_far : Counted T) (counts : List ℕ) → counted_end so_far ≡ Ok counts → so_far.counts ≡ Some counts
 end_shown so_far counts is =
-    let front = stepped (ok_or so_far.counts NoProblem) (λ (cs : List ℕ). refuse (nat_lt (length so_far.lines) (last_of cs)) (Count (last_of cs) (length so_far.lines)) >> Ok cs) counts is in
-    let rule = passed (nat_lt (length so_far.lines) (last_of front.0)) (Count (last_of front.0) (length so_far.lines)) (Ok front.0) counts front.2 in
-    there so_far.counts NoProblem front.0 front.1 ∙ ap Some (ok_value {F = TextKind} front.0 counts rule.1)
+    let prefix = stepped (ok_or so_far.counts NoProblem) (λ (cs : List ℕ). refuse (nat_lt (length so_far.lines) (last_of cs)) (Count (last_of cs) (length so_far.lines)) >> Ok cs) counts is in
+    let rule = passed (nat_lt (length so_far.lines) (last_of prefix.0)) (Count (last_of prefix.0) (length so_far.lines)) (Ok prefix.0) counts prefix.2 in
+    there so_far.counts NoProblem prefix.0 prefix.1 ∙ ap Some (ok_value {F = TextKind} prefix.0 counts rule.1)
 
 -- what a whole text stands for comes of accepted lines
 module _ {T V F : Type 0} (wording : T → Wording) (fault : TextFault → F) (value_of : T → List ℕ → List (List ℕ) → Result V F) where

@@ -5,7 +5,7 @@ use Rattle.std.proofs.lemmas.Bool.{leb-true, le-leb, lt-leb, false≢true}
 use Rattle.std.proofs.lemmas.Bool.Decides.{leb_tells}
 use Rattle.std.proofs.lemmas.List.{length-map}
 use Rattle.text_lines.specs.Words.{words_of}
-use Rattle.dimacs_text.specs.Counted.{Wording, kept, are_within, last_of, behind_words, numbers_in, declared_counts, refuse, ◌>>◌}
+use Rattle.dimacs_text.specs.Counted.{Wording, kept, are_within, last_of, after_words, numbers_in, declared_counts, refuse, ◌>>◌}
 use Rattle.dimacs_text.specs.declared.fault.TextKind.TheVariants.{TooMany}
 
 both : (a b : Bool) → (a && b) ≡ true → (a ≡ true) × (b ≡ true)
@@ -15,8 +15,8 @@ both false b is = absurd (false≢true is)
 pub least : (n limit : ℕ) → limit < 2 ^ 64 - 1 → min n (2 ^ 64 - 1) ≤ limit → min n (2 ^ 64 - 1) ≡ n
 least n limit small within = omega arith
 
-behind : (limit : ℕ) (limits : List ℕ) → All (λ l. l < 2 ^ 64 - 1) (limit ∷ limits) → All (λ l. l < 2 ^ 64 - 1) limits
-behind limit limits small = λ k d h. small (suc k) d (omega arith)
+after : (limit : ℕ) (limits : List ℕ) → All (λ l. l < 2 ^ 64 - 1) (limit ∷ limits) → All (λ l. l < 2 ^ 64 - 1) limits
+after limit limits small = λ k d h. small (suc k) d (omega arith)
 
 pub kept-within : (limits counts : List ℕ) → All (λ l. l < 2 ^ 64 - 1) limits → length counts ≡ length limits → are_within limits (kept counts) ≡ true → kept counts ≡ counts
 kept-within [] [] small size within = refl
@@ -25,7 +25,7 @@ kept-within (limit ∷ limits) [] small size within = refl
 kept-within (limit ∷ limits) (n ∷ counts) small size within =
     let tests = both (leb (min n (2 ^ 64 - 1)) limit) (are_within limits (kept counts)) within in
     let first = least n limit (small 0 0 (omega arith)) (leb-true _ _ tests.0) in
-    ap (λ m. m ∷ kept counts) first ∙ ap (λ ns. n ∷ ns) (kept-within limits counts (behind limit limits small) (omega arith) tests.1)
+    ap (λ m. m ∷ kept counts) first ∙ ap (λ ns. n ∷ ns) (kept-within limits counts (after limit limits small) (omega arith) tests.1)
 
 same_test : (n limit : ℕ) → limit < 2 ^ 64 - 1 → leb (min n (2 ^ 64 - 1)) limit ≡ leb n limit
 same_test n limit low = elim (leb_tells n limit) [
@@ -40,7 +40,7 @@ are_within-kept (limit ∷ limits) [] small = refl
 are_within-kept (limit ∷ limits) (n ∷ counts) small =
     let low : limit < 2 ^ 64 - 1 = small 0 0 (omega arith) in
     ap (λ t. t && are_within limits (kept counts)) (same_test n limit low)
-    ∙ ap (λ t. leb n limit && t) (are_within-kept limits counts (behind limit limits small))
+    ∙ ap (λ t. leb n limit && t) (are_within-kept limits counts (after limit limits small))
 
 -- the last count, by its place
 pub last_of-get : (counts : List ℕ) (k : ℕ) → length counts ≡ suc k → get_or counts k 0 ≡ last_of counts
@@ -50,11 +50,11 @@ last_of-get (n ∷ m ∷ counts) zero size = absurd (omega arith)
 last_of-get (n ∷ m ∷ counts) (suc k) size = last_of-get (m ∷ counts) k (omega arith)
 
 -- what is declared by counts that are kept
-pub counts_declared : (w : Wording) (words behind : List (List ℕ)) (values counts : List ℕ) (within : Bool) → behind_words (words_of w.fixed) words ≡ Some behind → numbers_in (length w.limits) behind ≡ Ok values → counts ≡ kept values → All (λ l. l < 2 ^ 64 - 1) w.limits → length counts ≡ length w.limits → are_within w.limits counts ≡ within → declared_counts w words ≡ (if within then Ok counts else Err TooMany)
-counts_declared w words behind values counts within is_behind is_values are_kept small size test =
+pub counts_declared : (w : Wording) (words after : List (List ℕ)) (values counts : List ℕ) (within : Bool) → after_words (words_of w.fixed) words ≡ Some after → numbers_in (length w.limits) after ≡ Ok values → counts ≡ kept values → All (λ l. l < 2 ^ 64 - 1) w.limits → length counts ≡ length w.limits → are_within w.limits counts ≡ within → declared_counts w words ≡ (if within then Ok counts else Err TooMany)
+counts_declared w words after values counts within is_after is_values are_kept small size test =
     let told : are_within w.limits values ≡ within = sym (are_within-kept w.limits values small) ∙ sym (ap (are_within w.limits) are_kept) ∙ test in
     let few : length values ≡ length w.limits = omega (arith, ap length are_kept, length-map values (λ n. min n (2 ^ 64 - 1))) in
-    rw (is_behind, is_values, told) (answer within told few)
+    rw (is_after, is_values, told) (answer within told few)
   where
     answer : (test : Bool) → are_within w.limits values ≡ test → length values ≡ length w.limits → (refuse (not test) TooMany >> Ok values) ≡ (if test then Ok counts else Err TooMany)
     answer true told few =

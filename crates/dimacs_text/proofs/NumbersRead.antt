@@ -12,38 +12,38 @@ with_number (Some ns) (Some n) = Some (ns ++ n ∷ [])
 with_number (Some ns) None = None
 with_number None number = None
 
--- the numbers that words are behind those so far
-abbrev pub numbers_behind : Option (List ℕ) → List (List ℕ) → Option (List ℕ)
-numbers_behind so_far [] = so_far
-numbers_behind so_far (word ∷ words) = numbers_behind (with_number so_far (number_of word)) words
+-- the numbers that words are after those so far
+abbrev pub numbers_after : Option (List ℕ) → List (List ℕ) → Option (List ℕ)
+numbers_after so_far [] = so_far
+numbers_after so_far (word ∷ words) = numbers_after (with_number so_far (number_of word)) words
 
-none_behind : (words : List (List ℕ)) → numbers_behind None words ≡ None
-none_behind [] = refl
-none_behind (word ∷ words) = none_behind words
+none_after : (words : List (List ℕ)) → numbers_after None words ≡ None
+none_after [] = refl
+none_after (word ∷ words) = none_after words
 
--- the front of numbers, where there are any
-abbrev fronted : List ℕ → Option (List ℕ) → Option (List ℕ)
-fronted ns more = option_map (λ ms. ns ++ ms) more
+-- the prefix of numbers, where there are any
+abbrev prefixed : List ℕ → Option (List ℕ) → Option (List ℕ)
+prefixed ns more = option_map (λ ms. ns ++ ms) more
 
-one_more : (ns : List ℕ) (n : ℕ) (more : Option (List ℕ)) → fronted (ns ++ n ∷ []) more ≡ fronted ns (option_and_then (λ ms. Some (n ∷ ms)) more)
+one_more : (ns : List ℕ) (n : ℕ) (more : Option (List ℕ)) → prefixed (ns ++ n ∷ []) more ≡ prefixed ns (option_and_then (λ ms. Some (n ∷ ms)) more)
 one_more ns n None = refl
 one_more ns n (Some ms) = ap Some (append_assoc ns (n ∷ []) ms)
 
-word_behind : (ns : List ℕ) (number : Option ℕ) (words : List (List ℕ)) → ((ms : List ℕ) → numbers_behind (Some ms) words ≡ fronted ms (numbers_of words)) → numbers_behind (with_number (Some ns) number) words ≡ fronted ns (option_and_then (λ n. option_and_then (λ ms. Some (n ∷ ms)) (numbers_of words)) number)
-word_behind ns None words behind = none_behind words
-word_behind ns (Some n) words behind = behind (ns ++ n ∷ []) ∙ one_more ns n (numbers_of words)
+word_after : (ns : List ℕ) (number : Option ℕ) (words : List (List ℕ)) → ((ms : List ℕ) → numbers_after (Some ms) words ≡ prefixed ms (numbers_of words)) → numbers_after (with_number (Some ns) number) words ≡ prefixed ns (option_and_then (λ n. option_and_then (λ ms. Some (n ∷ ms)) (numbers_of words)) number)
+word_after ns None words after = none_after words
+word_after ns (Some n) words after = after (ns ++ n ∷ []) ∙ one_more ns n (numbers_of words)
 
-numbers_behind-is : (ns : List ℕ) (words : List (List ℕ)) → numbers_behind (Some ns) words ≡ fronted ns (numbers_of words)
-numbers_behind-is ns [] = ap Some (sym (append-nil ns))
-numbers_behind-is ns (word ∷ words) = word_behind ns (number_of word) words (λ ms. numbers_behind-is ms words)
+numbers_after-is : (ns : List ℕ) (words : List (List ℕ)) → numbers_after (Some ns) words ≡ prefixed ns (numbers_of words)
+numbers_after-is ns [] = ap Some (sym (append-nil ns))
+numbers_after-is ns (word ∷ words) = word_after ns (number_of word) words (λ ms. numbers_after-is ms words)
 
-unfronted : (more : Option (List ℕ)) → fronted [] more ≡ more
-unfronted None = refl
-unfronted (Some ms) = refl
+unprefixed : (more : Option (List ℕ)) → prefixed [] more ≡ more
+unprefixed None = refl
+unprefixed (Some ms) = refl
 
 -- from the first word on they are the numbers of all
-pub numbers_of-behind : (words : List (List ℕ)) → numbers_behind (Some []) words ≡ numbers_of words
-numbers_of-behind words = numbers_behind-is [] words ∙ unfronted (numbers_of words)
+pub numbers_of-after : (words : List (List ℕ)) → numbers_after (Some []) words ≡ numbers_of words
+numbers_of-after words = numbers_after-is [] words ∙ unprefixed (numbers_of words)
 
 -- what a reader has: whether all words were numbers, and then these, as it keeps them
 abbrev pub IsRead : Option (List ℕ) → Bool → List ℕ → Type 0
@@ -55,7 +55,7 @@ IsRead None false places = Unit {0}
 -- one word more
 pub IsRead-more : (so_far : Option (List ℕ)) (all : Bool) (places : List ℕ) (number : Option ℕ) (value : Option ℕ) → value ≡ option_map (λ n. min n (2 ^ 64 - 1)) number → IsRead so_far all places → IsRead (with_number so_far number) (all && is_some value) (places ++ unwrap_or value 0 ∷ [])
 IsRead-more (Some ns) true places None value is read = rw is tt
-IsRead-more (Some ns) true places (Some n) value is read = rw is (ap (λ front. front ++ min n (2 ^ 64 - 1) ∷ []) read ∙ sym (map-append (λ n. min n (2 ^ 64 - 1)) ns (n ∷ [])))
+IsRead-more (Some ns) true places (Some n) value is read = rw is (ap (λ prefix. prefix ++ min n (2 ^ 64 - 1) ∷ []) read ∙ sym (map-append (λ n. min n (2 ^ 64 - 1)) ns (n ∷ [])))
 IsRead-more (Some ns) false places number value is read = absurd read
 IsRead-more None true places number value is read = absurd read
 IsRead-more None false places number value is read = tt
@@ -63,6 +63,6 @@ IsRead-more None false places number value is read = tt
 -- the words that are left to a reader of a line
 pub record Left (words rest : List (List ℕ)) (place : ℕ) (all : Bool) (places : List ℕ) : Type 0 where
   pub so_far : Option (List ℕ)
-  pub comes : numbers_behind so_far rest ≡ numbers_of words
+  pub comes : numbers_after so_far rest ≡ numbers_of words
   pub count : length rest + place ≡ length words
   pub read : IsRead so_far all places

@@ -9,7 +9,7 @@ use Rattle.walk_laws.specs.declared.graph.Edge.{Edge}
 use Rattle.walk_laws.specs.Graph.{IsGraph, IsEdge, greatest_weight}
 use Rattle.desk_io.specs.Lines.{whole_lines, open_rest, last_line, lines_of}
 use Rattle.text_lines.specs.Words.{words_of, numbers_of, is_skipped}
-use Rattle.text_lines.specs.Judgement.{Progress, ◌>>=◌, number_behind, behind_line, behind_lines, value_of_lines}
+use Rattle.text_lines.specs.Judgement.{Progress, ◌>>=◌, number_after, after_line, after_lines, value_of_lines}
 use Rattle.text_lines.proofs.PrintedWords.{IsPrintable, IsPrintable-append, IsPrintable-from_solid, words_of-parted, words_of-last, whole_lines-printed, open_rest-printed, PrintsNumber, decimal_prints}
 use Rattle.dimacs_text.specs.Counted.{Counted, none_yet, is_outside, are_within, refuse, ◌>>◌, in_line}
 use Rattle.dimacs_text.specs.declared.fault.TextKind.TheVariants.{Count}
@@ -91,20 +91,20 @@ lines_of-graph n edges pn pm prints =
 -- how the words of a line that isn't skipped are judged
 abbrev judged_words : Progress (Counted GraphWords) → List (List ℕ) → Result (Progress (Counted GraphWords)) GrFault
 judged_words at words =
-    (if is_skipped words then Ok at.state else graph_judged at.state at.next words) >>= λ state. Ok (record { next = number_behind at.next; state = state })
+    (if is_skipped words then Ok at.state else graph_judged at.state at.next words) >>= λ state. Ok (record { next = number_after at.next; state = state })
 
-abbrev behind_problem : GraphWords → ℕ → ℕ → List (List ℕ) → Counted GraphWords
-behind_problem words n m lines = record { text = words; counts = Some (n ∷ m ∷ []); lines = lines }
+abbrev after_problem : GraphWords → ℕ → ℕ → List (List ℕ) → Counted GraphWords
+after_problem words n m lines = record { text = words; counts = Some (n ∷ m ∷ []); lines = lines }
 
 two_numbers : (n m : ℕ) → PrintsNumber n → PrintsNumber m → numbers_of (decimal n ∷ decimal m ∷ []) ≡ Some (n ∷ m ∷ [])
 two_numbers n m pn pm = rw (pn.number, pm.number) refl
 
-problem_judged : (words : GraphWords) (n m : ℕ) → PrintsNumber n → PrintsNumber m → n ≤ 2 ^ 30 → m ≤ 2 ^ 32 - 1 → behind_line graph_judged graph_ended (record { next = 1; state = none_yet words }) (problem_bytes n m) ≡ Ok (record { next = number_behind 1; state = behind_problem words n m [] })
+problem_judged : (words : GraphWords) (n m : ℕ) → PrintsNumber n → PrintsNumber m → n ≤ 2 ^ 30 → m ≤ 2 ^ 32 - 1 → after_line graph_judged graph_ended (record { next = 1; state = none_yet words }) (problem_bytes n m) ≡ Ok (record { next = number_after 1; state = after_problem words n m [] })
 problem_judged words n m pn pm small few =
     let w = graph_wording words in
     let within : are_within ((2 ^ 30) ∷ (2 ^ 32 - 1) ∷ []) (n ∷ m ∷ []) ≡ true = rw (le-leb n (2 ^ 30) small, le-leb m (2 ^ 32 - 1) few) refl in
     ap (judged_words (record { next = 1; state = none_yet words })) (problem_words n m pn pm)
-    ∙ ap (λ r. in_line Text 1 r >>= λ state. Ok (record { next = number_behind 1; state = state }))
+    ∙ ap (λ r. in_line Text 1 r >>= λ state. Ok (record { next = number_after 1; state = state }))
     (problem_taken w (none_yet words) ((115 ∷ 112 ∷ []) ∷ decimal n ∷ decimal m ∷ []) (n ∷ m ∷ []) refl (declared_taken w ((115 ∷ 112 ∷ []) ∷ decimal n ∷ decimal m ∷ []) (decimal n ∷ decimal m ∷ []) (n ∷ m ∷ []) refl (numbers_taken 2 (decimal n ∷ decimal m ∷ []) (n ∷ m ∷ []) refl (two_numbers n m pn pm)) within))
 
 three_numbers : (e : Edge) → PrintsEdge e → numbers_of (decimal e.u ∷ decimal e.v ∷ decimal e.w ∷ []) ≡ Some (arc_numbers e)
@@ -119,13 +119,13 @@ edge_faultless n m e edge light =
     let some : e.w ≢ 0 = omega (arith, edge.weight) in
     no_fault (is_outside n e.u) (is_outside n e.v) (eqb e.w 0) (ltb (2 ^ 62 - 1) e.w) (is_inside n e.u edge.from_one edge.up_to_n) (is_inside n e.v edge.to_one edge.to_n) (apart e.w 0 some) (le-ltb (2 ^ 62 - 1) e.w light)
 
-arc_judged : (words : GraphWords) (n m next : ℕ) (lines : List (List ℕ)) (e : Edge) → PrintsEdge e → IsEdge n e → e.w ≤ 2 ^ 62 - 1 → length lines < m → behind_line graph_judged graph_ended (record { next = next; state = behind_problem words n m lines }) (arc_bytes e) ≡ Ok (record { next = number_behind next; state = behind_problem words n m (lines ++ arc_numbers e ∷ []) })
+arc_judged : (words : GraphWords) (n m next : ℕ) (lines : List (List ℕ)) (e : Edge) → PrintsEdge e → IsEdge n e → e.w ≤ 2 ^ 62 - 1 → length lines < m → after_line graph_judged graph_ended (record { next = next; state = after_problem words n m lines }) (arc_bytes e) ≡ Ok (record { next = number_after next; state = after_problem words n m (lines ++ arc_numbers e ∷ []) })
 arc_judged words n m next lines e p edge light room =
     let w = graph_wording words in
     let differ : length lines ≢ m = omega arith in
-    ap (judged_words (record { next = next; state = behind_problem words n m lines })) (arc_words e p)
-    ∙ ap (λ r. in_line Text next r >>= λ state. Ok (record { next = number_behind next; state = state }))
-    (letter_taken w (behind_problem words n m lines) (decimal e.u ∷ decimal e.v ∷ decimal e.w ∷ []) (n ∷ m ∷ []) (arc_numbers e) refl
+    ap (judged_words (record { next = next; state = after_problem words n m lines })) (arc_words e p)
+    ∙ ap (λ r. in_line Text next r >>= λ state. Ok (record { next = number_after next; state = state }))
+    (letter_taken w (after_problem words n m lines) (decimal e.u ∷ decimal e.v ∷ decimal e.w ∷ []) (n ∷ m ∷ []) (arc_numbers e) refl
     (line_taken w (n ∷ m ∷ []) (decimal e.u ∷ decimal e.v ∷ decimal e.w ∷ []) (arc_numbers e) (numbers_taken 3 (decimal e.u ∷ decimal e.v ∷ decimal e.w ∷ []) (arc_numbers e) refl (three_numbers e p)) (edge_faultless n m e edge light))
     (apart (length lines) m differ))
 
@@ -135,18 +135,18 @@ record ReadsBack (n : ℕ) (e : Edge) : Type 0 where
   pub edge : IsEdge n e
   pub light : e.w ≤ 2 ^ 62 - 1
 
-arcs_judged : (words : GraphWords) (n m : ℕ) (edges : List Edge) (next : ℕ) (lines : List (List ℕ)) → All (ReadsBack n) edges → length lines + length edges ≤ m → (last : ℕ) × (behind_lines graph_judged graph_ended (record { next = next; state = behind_problem words n m lines }) (map arc_bytes edges) ≡ Ok (record { next = last; state = behind_problem words n m (lines ++ map arc_numbers edges) }))
+arcs_judged : (words : GraphWords) (n m : ℕ) (edges : List Edge) (next : ℕ) (lines : List (List ℕ)) → All (ReadsBack n) edges → length lines + length edges ≤ m → (last : ℕ) × (after_lines graph_judged graph_ended (record { next = next; state = after_problem words n m lines }) (map arc_bytes edges) ≡ Ok (record { next = last; state = after_problem words n m (lines ++ map arc_numbers edges) }))
 arcs_judged words n m [] next lines each room =
-    (next, ap (λ ls. Ok (record { next = next; state = behind_problem words n m ls })) (sym (append-nil lines)))
+    (next, ap (λ ls. Ok (record { next = next; state = after_problem words n m ls })) (sym (append-nil lines)))
 arcs_judged words n m (e ∷ edges) next lines each room =
     let first = each 0 e (omega arith) in
     let here : length lines < m = omega arith in
     let judged = arc_judged words n m next lines e first.prints first.edge first.light here in
     let more : length (lines ++ arc_numbers e ∷ []) + length edges ≤ m = omega (arith, length-append lines (arc_numbers e ∷ [])) in
-    let behind = arcs_judged words n m edges (number_behind next) (lines ++ arc_numbers e ∷ []) (λ k d h. each (suc k) d (omega arith)) more in (
-      behind.0,
-      ap (λ r. r >>= λ after. behind_lines graph_judged graph_ended after (map arc_bytes edges)) judged ∙ behind.1
-          ∙ ap (λ ls. Ok (record { next = behind.0; state = behind_problem words n m ls })) (append_assoc lines (arc_numbers e ∷ []) (map arc_numbers edges)),
+    let after = arcs_judged words n m edges (number_after next) (lines ++ arc_numbers e ∷ []) (λ k d h. each (suc k) d (omega arith)) more in (
+      after.0,
+      ap (λ r. r >>= λ after. after_lines graph_judged graph_ended after (map arc_bytes edges)) judged ∙ after.1
+          ∙ ap (λ ls. Ok (record { next = after.0; state = after_problem words n m ls })) (append_assoc lines (arc_numbers e ∷ []) (map arc_numbers edges)),
     )
 
 weight-le : (edges : List Edge) (k : ℕ) (d : Edge) → k < length edges → (get_or edges k d).w ≤ greatest_weight edges
@@ -179,10 +179,10 @@ printed_read n edges graph few =
     let each = reads_back n edges graph in
     let pn = decimal_prints n (omega (arith, graph.small)) in
     let pm = decimal_prints (length edges) (omega arith) in
-    let arcs = arcs_judged (record {}) n (length edges) edges (number_behind 1) [] each (omega arith) in
+    let arcs = arcs_judged (record {}) n (length edges) edges (number_after 1) [] each (omega arith) in
     let enough : length edges ≤ length (map arc_numbers edges) = omega (arith, length-map edges arc_numbers) in
     ap (value_of_lines graph_judged graph_ended (record { next = 1; state = none_yet words })) (lines_of-graph n edges pn pm (λ k d h. (each k d h).prints))
-    ∙ ap (λ r. (r >>= λ after. behind_lines graph_judged graph_ended after (map arc_bytes edges)) >>= λ after. graph_ended after.state after.next) (problem_judged words n m pn pm graph.small (omega arith))
+    ∙ ap (λ r. (r >>= λ after. after_lines graph_judged graph_ended after (map arc_bytes edges)) >>= λ after. graph_ended after.state after.next) (problem_judged words n m pn pm graph.small (omega arith))
     ∙ ap (λ r. r >>= λ after. graph_ended after.state after.next) arcs.1
     ∙ ap (λ t. in_line Text arcs.0 (refuse t (Count (length edges) (length (map arc_numbers edges))) >> Ok (n ∷ length edges ∷ [])) >>= λ counts. graph_of_lines words counts (map arc_numbers edges)) (le-ltb (length (map arc_numbers edges)) (length edges) enough)
     ∙ fits_graph words (n ∷ length edges ∷ []) edges (omega (arith, graph.fits))

@@ -5,7 +5,7 @@ use Rattle.std.specs.Option.{ok_or}
 use Rattle.std.proofs.lemmas.Bool.{eq-eqb}
 use Rattle.text_lines.specs.Words.{words_of, numbers_of}
 use Rattle.text_lines.specs.Judgement.{◌>>=◌}
-use Rattle.dimacs_text.specs.Counted.{Wording, Counted, last_of, are_within, behind_words, refuse, refuse_by, ◌>>◌, numbers_in, declared_counts, line_numbers, problem_line, letter_line}
+use Rattle.dimacs_text.specs.Counted.{Wording, Counted, last_of, are_within, after_words, refuse, refuse_by, ◌>>◌, numbers_in, declared_counts, line_numbers, problem_line, letter_line}
 use Rattle.dimacs_text.specs.declared.fault.TextKind.TheVariants.{SecondProblem, NoProblem, BadField, BadNumber, TooMany, Count}
 
 pub numbers_taken : (places : ℕ) (words : List (List ℕ)) (ns : List ℕ) → length words ≡ places → numbers_of words ≡ Some ns → numbers_in places words ≡ Ok ns
@@ -13,9 +13,9 @@ numbers_taken places words ns count are =
     ap (λ t. refuse (not t) BadField >> ok_or (numbers_of words) BadNumber) (eq-eqb (length words) places count)
     ∙ ap (λ o. ok_or o BadNumber) are
 
-pub declared_taken : (w : Wording) (words behind : List (List ℕ)) (counts : List ℕ) → behind_words (words_of w.fixed) words ≡ Some behind → numbers_in (length w.limits) behind ≡ Ok counts → are_within w.limits counts ≡ true → declared_counts w words ≡ Ok counts
-declared_taken w words behind counts is_behind are within =
-    ap (λ o. ok_or o BadField >>= λ front. numbers_in (length w.limits) front >>= λ ns. refuse (not (are_within w.limits ns)) TooMany >> Ok ns) is_behind
+pub declared_taken : (w : Wording) (words after : List (List ℕ)) (counts : List ℕ) → after_words (words_of w.fixed) words ≡ Some after → numbers_in (length w.limits) after ≡ Ok counts → are_within w.limits counts ≡ true → declared_counts w words ≡ Ok counts
+declared_taken w words after counts is_after are within =
+    ap (λ o. ok_or o BadField >>= λ prefix. numbers_in (length w.limits) prefix >>= λ ns. refuse (not (are_within w.limits ns)) TooMany >> Ok ns) is_after
     ∙ ap (λ r. r >>= λ ns. refuse (not (are_within w.limits ns)) TooMany >> Ok ns) are
     ∙ ap (λ t. refuse (not t) TooMany >> Ok counts) within
 

@@ -11,16 +11,16 @@ use Rattle.dimacs_text.specs.declared.fault.TextFault.{TextFault}
 
 -- the words of a counted text, and the faults of its numbers
 pub record Wording : Type 0 where
-  -- the words behind `p`, as a line, and the greatest value of each count behind them
+  -- the words after `p`, as a line, and the greatest value of each count after them
   pub fixed : List ℕ
   pub limits : List ℕ
-  -- the letter of the other lines, and how many numbers stand behind it
+  -- the letter of the other lines, and how many numbers stand after it
   pub letter : ℕ
   pub numbers : ℕ
   -- the fault of such numbers, under the counts of the `p` line
   pub fault_of : List ℕ → List ℕ → Option TextKind
 
--- the lines of a text so far: the counts of its `p` line, where one was accepted, and the numbers of the lines behind it
+-- the lines of a text so far: the counts of its `p` line, where one was accepted, and the numbers of the lines after it
 pub record Counted (T : Type 0) : Type 0 where
   pub text : T
   pub counts : Option (List ℕ)
@@ -46,13 +46,13 @@ are_within (limit ∷ limits) (n ∷ counts) = nat_le n limit && are_within limi
 abbrev pub is_outside : ℕ → ℕ → Bool
 is_outside n v = v == 0 || nat_lt n v
 
--- what is behind some words at the front of others
-abbrev pub behind_words : List (List ℕ) → List (List ℕ) → Option (List (List ℕ))
-behind_words [] words = Some words
-behind_words (front ∷ fronts) [] = None
-behind_words (front ∷ fronts) (word ∷ words) = if bytes_eq word front then behind_words fronts words else None
+-- what is after some words at the start of others
+abbrev pub after_words : List (List ℕ) → List (List ℕ) → Option (List (List ℕ))
+after_words [] words = Some words
+after_words (prefix ∷ prefixes) [] = None
+after_words (prefix ∷ prefixes) (word ∷ words) = if bytes_eq word prefix then after_words prefixes words else None
 
--- a rule: its fault where it applies, and what the rules behind it say where it doesn't
+-- a rule: its fault where it applies, and what the rules after it say where it doesn't
 abbrev pub refuse : Bool → TextKind → Result (Unit {0}) TextKind
 refuse true kind = Err kind
 refuse false kind = Ok tt
@@ -79,9 +79,9 @@ numbers_in places words = do
 abbrev pub declared_counts : Wording → List (List ℕ) → Result (List ℕ) TextKind
 declared_counts w words = do
   -- 3. other words than the fixed ones
-  behind ← ok_or (behind_words (words_of w.fixed) words) BadField
-  -- 3 and 4. other words behind them than a number for each count
-  counts ← numbers_in (length w.limits) behind
+  after ← ok_or (after_words (words_of w.fixed) words) BadField
+  -- 3 and 4. other words after them than a number for each count
+  counts ← numbers_in (length w.limits) after
   -- 5. a count past its limit
   refuse (not (are_within w.limits counts)) TooMany
   Ok counts
@@ -97,7 +97,7 @@ line_numbers w counts words = do
 
 -- a line is judged by the first of seven rules that applies
 module _ {T : Type 0} (w : Wording) where
-  -- a `p` line, by the words behind the `p`
+  -- a `p` line, by the words after the `p`
   abbrev pub problem_line : Counted T → List (List ℕ) → Result (Counted T) TextKind
   problem_line so_far words = do
     -- 2. a second `p` line
@@ -106,7 +106,7 @@ module _ {T : Type 0} (w : Wording) where
     counts ← declared_counts w words
     Ok (record so_far { counts = Some counts })
 
-  -- a line of the letter, by the words behind it
+  -- a line of the letter, by the words after it
   abbrev pub letter_line : Counted T → List (List ℕ) → Result (Counted T) TextKind
   letter_line so_far words = do
     -- 2. no `p` line before it

@@ -36,7 +36,7 @@ where
 
     ghost view = { λ l. record { text = l.text; counts = option_map (λ v. v.items) l.counts; lines = map T.written l.items.items } };
 
-    // lines are taken behind a `p` line alone, and only such as have no fault
+    // lines are taken after a `p` line alone, and only such as have no fault
     ghost invariant = { λ l.
         (option_map (λ v. v.items) l.counts ≡ None → l.items.items ≡ [])
         × ((counts : List ℕ) → option_map (λ v. v.items) l.counts ≡ Some counts → AreAccepted (T.wording l.text) counts (map T.written l.items.items)) };
@@ -67,19 +67,19 @@ where
     fn take(&mut self, line: &[u8]) -> Result<(), Untaken>
         ensures { Gives (λ _. self.new) (counted_line (T.wording self.old.text) self.old (words_of line.now)) result }
     {
-        let Some((word, behind)) = first_word(line) else {
+        let Some((word, after)) = first_word(line) else {
             return Err(Untaken::Faulty(TextKind::UnknownLine));
         };
         if is_letter(word, b'p') {
-            return self.take_problem(behind);
+            return self.take_problem(after);
         }
         if is_letter(word, self.text.letter()) {
-            return self.take_numbers(behind);
+            return self.take_numbers(after);
         }
         Err(Untaken::Faulty(TextKind::UnknownLine))
     }
 
-    /// Takes a `p` line, by the words behind the `p`.
+    /// Takes a `p` line, by the words after the `p`.
     fn take_problem(&mut self, words: &[u8]) -> Result<(), Untaken>
         ensures { Gives (λ _. self.new) (problem_line (T.wording self.old.text) self.old (words_of words.now)) result }
     {
@@ -91,7 +91,7 @@ where
         Ok(())
     }
 
-    /// Takes a line of the letter, by the words behind it.
+    /// Takes a line of the letter, by the words after it.
     fn take_numbers(&mut self, words: &[u8]) -> Result<(), Untaken>
         ensures { Gives (λ _. self.new) (letter_line (T.wording self.old.text) self.old (words_of words.now)) result }
     {
@@ -156,17 +156,17 @@ where
     ghost want = { T.want };
 }
 
-/// The counts of a `p` line, by the words behind the `p`.
+/// The counts of a `p` line, by the words after the `p`.
 fn counts_of<T: CountedText>(alloc: Global, text: &T, words: &[u8]) -> Result<Vec<u64>, Untaken>
     ensures counts { Gives (λ counts. counts.items) (declared_counts (T.wording text.now) (words_of words.now)) result }
     ensures counted { IfOk result (λ counts. length counts.items ≡ length (T.wording text.now).limits) }
     ensures within { IfOk result (λ counts. are_within (T.wording text.now).limits counts.items ≡ true) }
 {
-    let Some(behind) = strip_words(words, text.fixed()) else {
+    let Some(after) = strip_words(words, text.fixed()) else {
         return Err(Untaken::Faulty(TextKind::BadField));
     };
     let limits = text.limits();
-    let counts = read_counts(alloc, behind, limits.len())?;
+    let counts = read_counts(alloc, after, limits.len())?;
     if !all_within(limits, &counts) {
         return Err(Untaken::Faulty(TextKind::TooMany));
     }
@@ -183,7 +183,7 @@ fn read_counts(alloc: Global, line: &[u8], places: usize) -> Result<Vec<u64>, Un
     Ok(counts)
 }
 
-/// What a line of the letter stands for, by the words behind it.
+/// What a line of the letter stands for, by the words after it.
 fn item_of<T: CountedText>(text: &T, counts: &[u64], words: &[u8]) -> Result<T::Item, TextKind>
     requires counted { length counts.now ≡ length (T.wording text.now).limits }
     requires within { are_within (T.wording text.now).limits counts.now ≡ true }

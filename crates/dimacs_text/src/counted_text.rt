@@ -23,7 +23,7 @@ pub trait CountedText {
     /// The numbers of the line that stands for an item.
     ghost written: { Self.Item → List ℕ };
 
-    /// What counts and the lines behind them stand for, or the fault that they have together.
+    /// What counts and the lines after them stand for, or the fault that they have together.
     ghost value_of: { Self → List ℕ → List (List ℕ) → Result Self.Value Self.Fault };
 
     /// The fault of a line.
@@ -32,7 +32,7 @@ pub trait CountedText {
     /// The fault of one who has no memory.
     ghost no_memory: { Self.Fault };
 
-    /// The words behind `p`, as a line.
+    /// The words after `p`, as a line.
     fn fixed(&self) -> &'static [u8]
         ensures { result.now ≡ (wording self.now).fixed };
 
@@ -45,7 +45,7 @@ pub trait CountedText {
     fn letter(&self) -> u8
         ensures { result ≡ (wording self.now).letter };
 
-    /// How many numbers stand behind the letter, 3 at most.
+    /// How many numbers stand after the letter, 3 at most.
     fn numbers(&self) -> usize
         ensures value { result ≡ (wording self.now).numbers }
         ensures few { result ≤ 3 };
@@ -58,7 +58,7 @@ pub trait CountedText {
         ensures { (values : List ℕ) → numbers.now ≡ kept values
             → JudgesNumbers (wording self.now) written counts.now values result };
 
-    /// What the counts and the items behind them stand for.
+    /// What the counts and the items after them stand for.
     fn value(
         self,
         alloc: Global,

@@ -35,7 +35,7 @@ pub enum TextKind {
     /// A declared count is above the limit.
     #[error("too many")]
     TooMany,
-    /// The text has `found` lines behind its problem line, which declares `declared`.
+    /// The text has `found` lines after its problem line, which declares `declared`.
     #[error("declared {declared}, found {found}")]
     Count { declared: u64, found: u64 },
 }

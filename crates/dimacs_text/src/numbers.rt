@@ -1,25 +1,25 @@
 ghost use Rattle.std.specs.Prelude.{◌≡◌, List, ℕ, length, Some, None, IfSome, IfNone, IfErr, OnOk, Ok, Err};
 ghost use Rattle.text_lines.specs.Words.{words_of};
-ghost use Rattle.dimacs_text.specs.Counted.{behind_words, numbers_in, kept};
+ghost use Rattle.dimacs_text.specs.Counted.{after_words, numbers_in, kept};
 
 use crate::fault::TextKind;
 use text_lines::{first_number, first_word};
 
-/// What is behind the words of `front` at the front of a line; None where it doesn't begin with these words.
-pub fn strip_words<'a>(line: &'a [u8], front: &[u8]) -> Option<&'a [u8]>
-    ensures found { IfSome result (λ r. behind_words (words_of front.now) (words_of line.now) ≡ Some (words_of r.now)) }
-    ensures none { IfNone result (behind_words (words_of front.now) (words_of line.now) ≡ None) }
+/// What is after the words of `prefix` at the start of a line; None where it doesn't begin with these words.
+pub fn strip_words<'a>(line: &'a [u8], prefix: &[u8]) -> Option<&'a [u8]>
+    ensures found { IfSome result (λ r. after_words (words_of prefix.now) (words_of line.now) ≡ Some (words_of r.now)) }
+    ensures none { IfNone result (after_words (words_of prefix.now) (words_of line.now) ≡ None) }
 {
     let mut rest = line;
-    let mut wanted = front;
+    let mut wanted = prefix;
     while let Some((word, more)) = first_word(wanted) {
-        let Some((found, behind)) = first_word(rest) else {
+        let Some((found, after)) = first_word(rest) else {
             return None;
         };
         if found != word {
             return None;
         }
-        rest = behind;
+        rest = after;
         wanted = more;
     }
     Some(rest)
@@ -34,12 +34,12 @@ pub fn read_numbers(line: &[u8], numbers: &mut [u64]) -> Result<(), TextKind>
     let mut rest = line;
     let mut all = true;
     for place in 0..numbers.len() {
-        let Some((value, behind)) = first_number(rest) else {
+        let Some((value, after)) = first_number(rest) else {
             return Err(TextKind::BadField);
         };
         all = all & value.is_some();
         numbers[place] = value.unwrap_or(0);
-        rest = behind;
+        rest = after;
     }
     if first_word(rest).is_some() {
         return Err(TextKind::BadField);

@@ -1,2 +1,2 @@
 pub mod PlaceLemmas
-pub mod TurnLemmas
+pub mod HeapEntryLemmas

@@ -1,5 +1,5 @@
 pub mod Places
 pub mod Reaches
 pub mod Touched
-pub mod TurnOf
-pub mod Turns
+pub mod HeapEntryOf
+pub mod HeapEntries

@@ -5,9 +5,9 @@ ghost use Rattle.frontier.specs.declared.reach.Found.{Found};
 ghost use Rattle.frontier.specs.declared.reach.Reach.TheVariants.{Unreached, Queued};
 
 use crate::carry::Carry;
+use crate::heap_entry::HeapEntry;
 use crate::places::Places;
 use crate::reach::{Found, Reach};
-use crate::turn::Turn;
 use std::alloc::{AllocError, Global};
 use std::collections::BinaryHeap;
 use std::marker::Model;
@@ -16,8 +16,8 @@ use std::marker::Model;
 #[derive(Debug, Drop)]
 pub struct Frontier<C> {
     reaches: Places<C>,
-    /// Each queued node has a turn at its distance; turns that a lower offer or a take left behind may stand there, too.
-    turns: BinaryHeap<Turn>,
+    /// Each queued node has a heap entry at its distance; heap entries that a lower offer or a take left over may stand there, too.
+    heap_entries: BinaryHeap<HeapEntry>,
     /// The nodes that are reached.
     touched: Vec<u32>,
 }
@@ -25,14 +25,14 @@ pub struct Frontier<C> {
 impl<C> Model for Frontier<C> {
     ghost use Rattle.std.specs.Prelude.{List};
     ghost use Rattle.frontier.specs.declared.reach.Reach.{Reach};
-    ghost use Rattle.frontier.specs.Turns.{HasTurns};
+    ghost use Rattle.frontier.specs.HeapEntries.{HasHeapEntries};
     ghost use Rattle.std.specs.BinaryHeap.{heap_items};
 
     ghost Value = { List (Reach C) };
 
     ghost view = { λ f. f.reaches };
 
-    ghost invariant = { λ f. HasTurns f.reaches (heap_items f.turns) f.touched.items };
+    ghost invariant = { λ f. HasHeapEntries f.reaches (heap_items f.heap_entries) f.touched.items };
 }
 
 impl<C: Carry> Frontier<C> {
@@ -42,7 +42,7 @@ impl<C: Carry> Frontier<C> {
     {
         Ok(Frontier {
             reaches: Places::new(alloc, n as usize + 1)?,
-            turns: BinaryHeap::new(alloc),
+            heap_entries: BinaryHeap::new(alloc),
             touched: Vec::new(alloc),
         })
     }
@@ -107,7 +107,7 @@ impl<C: Carry> Frontier<C> {
         ensures err { OnErr result (self.new ≡ self.old) }
     {
         touch(&mut self.touched, node, reach)?;
-        self.turns.push(Turn::of(node, found.dist))?;
+        self.heap_entries.push(HeapEntry::of(node, found.dist))?;
         let after = Reach::Queued(found);
         self.reaches.set(node, after);
         Ok(after)
@@ -121,10 +121,10 @@ impl<C: Carry> Frontier<C> {
         ensures none { IfNone result ((x : ℕ) (g : Found C) → reach_at self.old x ≢ Queued g) }
         ensures unchanged { IfNone result (self.new ≡ self.old) }
     {
-        while let Some(turn) = self.turns.pop() {
-            let node = turn.node;
+        while let Some(heap_entry) = self.heap_entries.pop() {
+            let node = heap_entry.node;
             if let Reach::Queued(found) = self.reaches.get(node) {
-                if found.dist == turn.dist.0 {
+                if found.dist == heap_entry.dist.0 {
                     self.reaches.set(node, Reach::Settled(found));
                     return Some((node, found));
                 }
@@ -141,7 +141,7 @@ impl<C: Carry> Frontier<C> {
             self.reaches.set(*node, Reach::Unreached);
         }
         self.touched.clear();
-        self.turns.clear();
+        self.heap_entries.clear();
     }
 }
 

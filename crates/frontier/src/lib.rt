@@ -8,11 +8,11 @@
 
 mod carry;
 mod frontier;
+mod heap_entry;
 mod places;
 mod reach;
 #[cfg(test)]
 mod tests;
-mod turn;
 
 pub use carry::Carry;
 pub use frontier::Frontier;

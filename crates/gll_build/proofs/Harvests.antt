@@ -21,7 +21,7 @@ use Rattle.std.proofs.Common.{All, Contains, ◌<◌}
 use Rattle.gll_build.specs.Shares.{IsPutBy}
 use Rattle.gll_build.proofs.PutBy.{IsPutBy-both, IsPutBy-moved, shuffled}
 
--- of two results one behind another
+-- of two results one after another
 pub IsOk-both : {T E : Type 0} (r s : Result T E) → IsOk (result_and r s) → IsOk r × IsOk s
 IsOk-both (Ok x) s ok = (refl, ok)
 IsOk-both (Err e) s ok = absurd (true≢false (sym ok))

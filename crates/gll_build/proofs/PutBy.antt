@@ -15,7 +15,7 @@ use Rattle.label_pool.specs.declared.rule.Put.{Put}
 use Rattle.label_pool.specs.Chains.{entries_at, entries_of, puts_at}
 use Rattle.label_clean.proofs.RowFacts.{eqb_flips}
 use Rattle.pruned_tree.specs.GrownBy.{IsGrownBy}
-use Rattle.pruned_tree.proofs.GrownPuts.{pos_of, AreApart, IsGrownBy-then, IsGrownBy-behind}
+use Rattle.pruned_tree.proofs.GrownPuts.{pos_of, AreApart, IsGrownBy-then, IsGrownBy-after}
 use Rattle.gll_build.specs.Shares.{IsPutBy}
 
 -- what some seats put, and others
@@ -38,10 +38,10 @@ shuffled a x b y =
 
 module _ (edges : List Edge) (at : List ℕ) where
   pub IsPutBy-from_grown : (roots : List ℕ) (whole : Type 0) (v : ℕ) (entries : List Entry) → IsGrownBy edges at roots whole v [] entries → IsPutBy edges at roots whole v entries
-  IsPutBy-from_grown roots whole v entries g = subst (IsPutBy edges at roots whole v) (sym g.behind) (record { fit = g.fit; once = g.once; of_roots = g.of_roots; hubs = g.hubs })
+  IsPutBy-from_grown roots whole v entries g = subst (IsPutBy edges at roots whole v) (sym g.joined) (record { fit = g.fit; once = g.once; of_roots = g.of_roots; hubs = g.hubs })
 
   IsGrownBy-from_put : (roots : List ℕ) (whole : Type 0) (v : ℕ) (entries : List Entry) → IsPutBy edges at roots whole v entries → IsGrownBy edges at roots whole v [] entries
-  IsGrownBy-from_put roots whole v entries p = record { puts = entries; behind = refl; fit = p.fit; once = p.once; of_roots = p.of_roots; hubs = p.hubs }
+  IsGrownBy-from_put roots whole v entries p = record { puts = entries; joined = refl; fit = p.fit; once = p.once; of_roots = p.of_roots; hubs = p.hubs }
 
   -- in another order
   pub IsPutBy-moved : (roots : List ℕ) (whole : Type 0) (v : ℕ) (xs ys : List Entry) → IsPermutation xs ys → IsPutBy edges at roots whole v xs → IsPutBy edges at roots whole v ys
@@ -56,4 +56,4 @@ module _ (edges : List Edge) (at : List ℕ) where
   pub IsPutBy-both : (first second : List ℕ) (one two whole : Type 0) (v : ℕ) (xs ys : List Entry) → IsPutBy edges at first one v xs → IsPutBy edges at second two v ys → AreApart first second → (whole → one × two) → IsPutBy edges at (first ++ second) whole v (xs ++ ys)
   IsPutBy-both first second one two whole v xs ys a b apart both =
       IsPutBy-from_grown (first ++ second) whole v (xs ++ ys)
-      (IsGrownBy-then edges at first second one two whole v [] xs (xs ++ ys) (IsGrownBy-from_put first one v xs a) (IsGrownBy-behind edges at second two v xs ys (IsGrownBy-from_put second two v ys b)) apart both)
+      (IsGrownBy-then edges at first second one two whole v [] xs (xs ++ ys) (IsGrownBy-from_put first one v xs a) (IsGrownBy-after edges at second two v xs ys (IsGrownBy-from_put second two v ys b)) apart both)

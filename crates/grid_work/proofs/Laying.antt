@@ -5,18 +5,18 @@ use Rattle.std.specs.List.{range_with_len}
 use Rattle.std.proofs.lemmas.Grind.{flat_map-append}
 use Rattle.walk_laws.specs.declared.graph.Edge.{Edge}
 use Rattle.grid_work.specs.Grid.{weighted}
-use Rattle.grid_work.specs.Laid.{Lays, number_behind}
+use Rattle.grid_work.specs.Laid.{Lays, number_after}
 use Rattle.grid_work.specs.Weights.{next_number, weight_of}
 use Rattle.grid_work.specs.declared.grid.Laid.{Laid}
 
-weighted-append : (x : ℕ) (ends others : List (ℕ × ℕ)) → weighted x (ends ++ others) ≡ weighted x ends ++ weighted (number_behind x ends) others
+weighted-append : (x : ℕ) (ends others : List (ℕ × ℕ)) → weighted x (ends ++ others) ≡ weighted x ends ++ weighted (number_after x ends) others
 weighted-append x [] others = refl
 weighted-append x (e ∷ ends) others =
     ap (λ (l : List Edge). record { u = e.0; v = e.1; w = weight_of (next_number x) } ∷ l) (weighted-append (next_number x) ends others)
 
-behind-append : (x : ℕ) (ends others : List (ℕ × ℕ)) → number_behind x (ends ++ others) ≡ number_behind (number_behind x ends) others
-behind-append x [] others = refl
-behind-append x (e ∷ ends) others = behind-append (next_number x) ends others
+after-append : (x : ℕ) (ends others : List (ℕ × ℕ)) → number_after x (ends ++ others) ≡ number_after (number_after x ends) others
+after-append x [] others = refl
+after-append x (e ∷ ends) others = after-append (next_number x) ends others
 
 -- no edge
 pub lays_none : (a : Laid) → Lays a a []
@@ -28,9 +28,9 @@ lays_both a b c ends others first second = record {
   edges =
       second.edges
       ∙ ap₂ (λ (l : List Edge) (x : ℕ). l ++ weighted x others) first.edges first.number
-      ∙ append_assoc a.edges.items (weighted a.number ends) (weighted (number_behind a.number ends) others)
+      ∙ append_assoc a.edges.items (weighted a.number ends) (weighted (number_after a.number ends) others)
       ∙ ap (λ l. a.edges.items ++ l) (sym (weighted-append a.number ends others));
-  number = second.number ∙ ap (λ x. number_behind x others) first.number ∙ sym (behind-append a.number ends others);
+  number = second.number ∙ ap (λ x. number_after x others) first.number ∙ sym (after-append a.number ends others);
 }
 
 last_number : (a n j : ℕ) → a + n ≡ j → range_with_len a (suc n) ≡ range_with_len a n ++ j ∷ []

@@ -22,7 +22,7 @@ ends_in_row side row = flat_map (ends_from side row) (range_with_len 0 side)
 abbrev pub grid_ends : ℕ → List (ℕ × ℕ)
 grid_ends side = flat_map (ends_in_row side) (range_with_len 0 side)
 
--- edges with these ends, of which each takes its weight from the next of the numbers behind x
+-- edges with these ends, of which each takes its weight from the next of the numbers after x
 abbrev pub weighted : ℕ → List (ℕ × ℕ) → List Edge
 weighted x [] = []
 weighted x (ends ∷ others) = record { u = ends.0; v = ends.1; w = weight_of (next_number x) } ∷ weighted (next_number x) others

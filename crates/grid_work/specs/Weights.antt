@@ -1,7 +1,7 @@
 -- The weights of a grid's edges, which come from a row of numbers.
 use Rattle.std.specs.Prelude.{ℕ, ◌+◌, ◌*◌, ◌/◌, ◌%◌, ◌^◌}
 
--- the number behind x: the linear congruence that the C standard gives as its example of `rand`
+-- the number after x: the linear congruence that the C standard gives as its example of `rand`
 abbrev pub next_number : ℕ → ℕ
 next_number x = (x * 1103515245 + 12345) % (2 ^ 31)
 

@@ -2,7 +2,7 @@
 ghost use Rattle.std.specs.Prelude.{◌≡◌};
 ghost use Rattle.grid_work.specs.Weights as weights;
 
-/// The number behind this one: the linear congruence that the C standard gives as its example of `rand`.
+/// The number after this one: the linear congruence that the C standard gives as its example of `rand`.
 pub fn next_number(number: u32) -> u32
     ensures { result ≡ weights.next_number number }
 {

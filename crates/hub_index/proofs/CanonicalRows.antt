@@ -32,8 +32,8 @@ module _ {X : Type 0} (n : X → ℕ) where
   alone x y (z ∷ zs) same up greatest =
       absurd (omega (arith, Rises-first n y z (z ∷ zs) up (Contains-first z zs), greatest z (Contains-next y z (z ∷ zs) (Contains-first z zs)), ap n same))
 
-  behind : (x y : X) (ys : List X) → Rises n (y ∷ ys) → Contains ys x → EndsWith n x ys → EndsWith n x (y ∷ ys)
-  behind x y ys up there rest = record { others = y ∷ rest.others; is = ap (λ zs. y ∷ zs) rest.is; before = earlier }
+  after : (x y : X) (ys : List X) → Rises n (y ∷ ys) → Contains ys x → EndsWith n x ys → EndsWith n x (y ∷ ys)
+  after x y ys up there rest = record { others = y ∷ rest.others; is = ap (λ zs. y ∷ zs) rest.is; before = earlier }
     where
       here : (e : X) → y ≡ e → Contains (y ∷ ys) e × (n e < n x)
       here e same = subst (λ z. Contains (y ∷ ys) z × (n z < n x)) same (Contains-first y ys, Rises-first n y x ys up there)
@@ -47,7 +47,7 @@ module _ {X : Type 0} (n : X → ℕ) where
   EndsWith-greatest x (y ∷ ys) up there greatest =
       elim (Contains-cons_cases y x ys there) [
         | inl same ↦ alone x y ys same up greatest
-        | inr later ↦ behind x y ys up later (EndsWith-greatest x ys (Rises-rest n y ys up) later (λ e h. greatest e (Contains-next y e ys h)))
+        | inr later ↦ after x y ys up later (EndsWith-greatest x ys (Rises-rest n y ys up) later (λ e h. greatest e (Contains-next y e ys h)))
       ]
 
 module _ (n : ℕ) (edges : List Edge) (at : List ℕ) (graph : IsGraph n edges) (ranking : IsRanking at) (size : length at ≡ n) where

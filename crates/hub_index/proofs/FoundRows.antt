@@ -7,18 +7,18 @@ use Rattle.hub_index.specs.declared.row_view.Offer.{Offer}
 use Rattle.hub_index.specs.declared.row_view.Offer.TheVariants.{Put, Covered, NoMemory}
 use Rattle.hub_index.specs.Views.{StandsIn, IsFound, GoesOnFrom, IsFoundOnward, IsSeenAfter, with_put}
 
--- behind one more entry, or in front of more
+-- after one more entry, or before more
 pub StandsIn-later : (x : Entry) (list row : List Entry) → StandsIn list row → StandsIn list (x ∷ row)
 StandsIn-later x [] row stands = tt
 StandsIn-later x (e ∷ es) row stands = inr stands
 
-pub StandsIn-behind : (front list row : List Entry) → StandsIn list row → StandsIn list (front ++ row)
-StandsIn-behind [] list row stands = stands
-StandsIn-behind (x ∷ front) list row stands = StandsIn-later x list (front ++ row) (StandsIn-behind front list row stands)
+pub StandsIn-after : (prefix list row : List Entry) → StandsIn list row → StandsIn list (prefix ++ row)
+StandsIn-after [] list row stands = stands
+StandsIn-after (x ∷ prefix) list row stands = StandsIn-later x list (prefix ++ row) (StandsIn-after prefix list row stands)
 
 -- two lists, each in its own part
 pub StandsIn-both : (list row more part : List Entry) → StandsIn list row → StandsIn more part → StandsIn (list ++ more) (row ++ part)
-StandsIn-both [] row more part stands other = StandsIn-behind row more part other
+StandsIn-both [] row more part stands other = StandsIn-after row more part other
 StandsIn-both (e ∷ es) [] more part stands other = absurd stands
 StandsIn-both (e ∷ es) (x ∷ row) more part (inl here) other = inl (here.0, StandsIn-both es row more part here.1 other)
 StandsIn-both (e ∷ es) (x ∷ row) more part (inr later) other = inr (StandsIn-both (e ∷ es) row more part later other)
@@ -27,8 +27,8 @@ pub StandsIn-self : (list : List Entry) → StandsIn list list
 StandsIn-self [] = tt
 StandsIn-self (e ∷ es) = inl (refl, StandsIn-self es)
 
-pub StandsIn-front : (list more : List Entry) → StandsIn list (list ++ more)
-StandsIn-front list more = subst (λ xs. StandsIn xs (list ++ more)) (append-nil list) (StandsIn-both list list [] more (StandsIn-self list) tt)
+pub StandsIn-prefix : (list more : List Entry) → StandsIn list (list ++ more)
+StandsIn-prefix list more = subst (λ xs. StandsIn xs (list ++ more)) (append-nil list) (StandsIn-both list list [] more (StandsIn-self list) tt)
 
 -- what each entry of the row keeps, each of the list does
 pub StandsIn-all : (P : Entry → Type 0) (list row : List Entry) → StandsIn list row → All P row → All P list
@@ -40,16 +40,16 @@ StandsIn-all P (e ∷ es) (x ∷ row) (inr later) all = StandsIn-all P (e ∷ es
 pub StandsIn-still : (list row : List Entry) (e : Entry) → StandsIn list row → Contains list e → Contains row e
 StandsIn-still list row e stands there = All-contains (Contains row) list e (StandsIn-all (Contains row) list row stands (All-contains_itself row)) there
 
-pub StandsIn-of_front : (before row : List Entry) → GoesOnFrom before row → StandsIn before row
-StandsIn-of_front before row goes_on = subst (StandsIn before) (sym goes_on.grown) (StandsIn-front before goes_on.more)
+pub StandsIn-of_prefix : (before row : List Entry) → GoesOnFrom before row → StandsIn before row
+StandsIn-of_prefix before row goes_on = subst (StandsIn before) (sym goes_on.grown) (StandsIn-prefix before goes_on.more)
 
 pub IsFound-onward : (fact : Entry → Type 0) (before row : List Entry) → IsFoundOnward fact before row → IsFound fact before row
-IsFound-onward fact before row found = record { still = StandsIn-of_front before row found.goes_on; met = found.met }
+IsFound-onward fact before row found = record { still = StandsIn-of_prefix before row found.goes_on; met = found.met }
 
 pub IsFound-weaker : (P Q : Entry → Type 0) (before row : List Entry) → ((e : Entry) → P e → Q e) → IsFound P before row → IsFound Q before row
 IsFound-weaker P Q before row weaker found = record { still = found.still; met = All-weaker P Q weaker row found.met }
 
--- the list seen after an offer, where it is the row with the entry behind it where that was put
+-- the list seen after an offer, where it is the row with the entry after it where that was put
 pub IsSeenAfter-with_put : (row : List Entry) (e : Entry) (answer : Offer) (seen : List Entry) → seen ≡ with_put row e answer → IsSeenAfter row e answer seen
 IsSeenAfter-with_put row e Put seen is = subst (StandsIn (row ++ e ∷ [])) (sym is) (StandsIn-self (row ++ e ∷ []))
 IsSeenAfter-with_put row e (Covered pos dist) seen is = is

@@ -35,7 +35,7 @@ entries_of_node-more entries i v d lt =
     ∙ entries_of_node-append (take i entries) (get_or entries i d ∷ []) v
     ∙ ap (λ es. entries_of_node (take i entries) v ++ es) (entries_of_node-one (get_or entries i d) v)
 
--- a row after an entry that is put at the node behind `before`
+-- a row after an entry that is put at the node after `before`
 pub row_after : (rows : List (List Entry)) (before node v : ℕ) (e : Entry) → before < node → node - before ≤ length rows → 1 ≤ v → v ≤ length rows → label_row (with_entry rows (node - before) e) v ≡ label_row rows v ++ entry_if node (before + v) e
 row_after rows before node v e past within from_one up_to = elim (cases_eq v (node - before)) [
   | inl here ↦

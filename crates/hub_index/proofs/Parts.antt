@@ -1,4 +1,4 @@
--- The rows of ranges, one behind another, are the rows of all nodes.
+-- The rows of ranges, one after another, are the rows of all nodes.
 use Rattle.std.specs.Prelude.{Result, Ok, Err, IfOk}
 use Rattle.std.specs.declared.alloc.AllocError.{AllocError}
 use Rattle.std.proofs.Common.{◌≡◌, ℕ, ◌+◌, ◌-◌, ◌*◌, ◌/◌, ◌<◌, ◌≤◌, min, List, [], ◌∷◌, ◌++◌, All, length, get_or, refl, sym, ap, subst, ◌∙◌, inl, inr, arith, suc}
@@ -55,24 +55,24 @@ module _ (sinks : List Sunk) (n : ℕ) where
   pub parts_few : (parts : List Part) → AllMade 0 parts → rows_in parts ≤ n
   parts_few parts all = omega (arith, few_from parts 0 0 (omega arith) all)
 
-  -- the rows behind a nodes
-  record AreBehind (a : ℕ) (count : ℕ) (rows : List (List Entry)) : Type 0 where
+  -- the rows after a nodes
+  record AreAfter (a : ℕ) (count : ℕ) (rows : List (List Entry)) : Type 0 where
     pub size : length rows + min n a ≡ min n (a + count * range_width n)
     pub right : (v : ℕ) → 1 ≤ v → v ≤ length rows → IsGatheredRow (all_in_range sinks ((a + v - 1) / range_width n) (a + v)) (label_row rows v)
 
   counted : (c w : ℕ) → suc c * w ≡ w + c * w
   counted c w = grind arith
 
-  behind : (parts : List Part) (k a : ℕ) (rows : List (List Entry)) → a ≡ k * range_width n → AllMade k parts → AreJoined parts rows → AreBehind a (length parts) rows
-  behind [] k a rows is all none = record {
+  after : (parts : List Part) (k a : ℕ) (rows : List (List Entry)) → a ≡ k * range_width n → AllMade k parts → AreJoined parts rows → AreAfter a (length parts) rows
+  after [] k a rows is all none = record {
     size = omega (arith, ap length none);
     right = λ v from_one up_to. absurd (omega (arith, ap length none));
   }
-  behind (Err e ∷ parts) k a rows is all joined = absurd joined
-  behind (Ok p ∷ parts) k a rows is all (rest, rows_are, joined) =
+  after (Err e ∷ parts) k a rows is all joined = absurd joined
+  after (Ok p ∷ parts) k a rows is all (rest, rows_are, joined) =
       let first = made_first k (Ok p) parts all in
       let long : length p ≡ min (range_width n) (n - k * range_width n) = first.0 in
-      let later = behind parts (k + 1) (a + range_width n) rest (next_offset k a is) (made_rest k (Ok p) parts all) joined in
+      let later = after parts (k + 1) (a + range_width n) rest (next_offset k a is) (made_rest k (Ok p) parts all) joined in
       let whole : length rows ≡ length p + length rest = ap length rows_are ∙ length-append p rest in
       record {
         size = omega (arith, long, is, later.size, whole, counted (length parts) (range_width n));
@@ -95,7 +95,7 @@ module _ (sinks : List Sunk) (n : ℕ) where
   -- all parts together have the rows of all nodes
   pub rows_of_parts : (parts : List Part) (rows : List (List Entry)) → All (λ s. s.n ≡ n) sinks → length parts ≡ n / range_width n + 1 → AllMade 0 parts → AreJoined parts rows → (length rows ≡ n) × ((v : ℕ) → 1 ≤ v → v ≤ n → IsGatheredRow (all_sunk sinks v) (label_row rows v))
   rows_of_parts parts rows sizes count all joined =
-      let them = behind parts 0 0 rows (omega arith) all joined in
+      let them = after parts 0 0 rows (omega arith) all joined in
       let product : length parts * range_width n ≡ n / range_width n * range_width n + range_width n = ap (λ c. c * range_width n) count ∙ one_more (n / range_width n) (range_width n) in
       let reach : n < n / range_width n * range_width n + range_width n = lt-div-mul-add (omega arith) in
       let whole : length rows ≡ n = omega (arith, them.size, product, reach) in (

@@ -8,7 +8,7 @@ use Rattle.walk_laws.specs.Labelling.{EntryFits}
 use Rattle.walk_laws.specs.Ranking.{IsRanking}
 use Rattle.walk_laws.specs.Walk.{HasWalk}
 use Rattle.walk_laws.specs.Worked.{square, first_four, entry}
-use Rattle.walk_laws.proofs.Walks.{HasWalk-arc, HasWalk-behind}
+use Rattle.walk_laws.proofs.Walks.{HasWalk-arc, HasWalk-after}
 
 pub first_four_ranked : IsRanking (1 ∷ 2 ∷ 3 ∷ 4 ∷ [])
 unfolding IsDistinct
@@ -30,10 +30,10 @@ one_four : HasWalk (Joined square) 1 4 1
 one_four = along 1 4 (inr (3, omega arith, refl))
 
 one_three : HasWalk (Joined square) 1 3 2
-one_three = HasWalk-behind (Joined square) 1 2 3 1 1 one_two (inl (1, omega arith, refl))
+one_three = HasWalk-after (Joined square) 1 2 3 1 1 one_two (inl (1, omega arith, refl))
 
 two_four : HasWalk (Joined square) 2 4 2
-two_four = HasWalk-behind (Joined square) 2 3 4 1 1 two_three (inl (2, omega arith, refl))
+two_four = HasWalk-after (Joined square) 2 3 4 1 1 two_three (inl (2, omega arith, refl))
 
 -- what of the square fits fits where the edges and the order are the square's
 module _ (edges : List Edge) (order : List ℕ) (of_square : edges ≡ square) (by_number : order ≡ first_four) where

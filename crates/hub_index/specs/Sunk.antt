@@ -58,7 +58,7 @@ rows_in [] = 0
 rows_in (Ok part ∷ parts) = length part + rows_in parts
 rows_in (Err _ ∷ parts) = rows_in parts
 
--- all parts were made, and the rows are theirs, one part behind another
+-- all parts were made, and the rows are theirs, one part after another
 abbrev pub AreJoined : List (Result (List (List Entry)) AllocError) → List (List Entry) → Type 0
 AreJoined [] rows = rows ≡ []
 AreJoined (Ok part ∷ parts) rows = (rest : List (List Entry)) × (rows ≡ part ++ rest) × AreJoined parts rest

@@ -21,12 +21,12 @@ pub record IsFound (fact : Entry → Type 0) (before row : List Entry) : Type 0 
   pub still : StandsIn before row
   pub met : All fact row
 
--- the row goes on from the list: that is its front
+-- the row goes on from the list: that is its prefix
 pub record GoesOnFrom (before row : List Entry) : Type 0 where
   pub more : List Entry
   pub grown : row ≡ before ++ more
 
--- a row that is found where entries are put only at the ends of rows: the list seen before is its front, and each of its entries keeps the fact
+-- a row that is found where entries are put only at the ends of rows: the list seen before is its prefix, and each of its entries keeps the fact
 pub record IsFoundOnward (fact : Entry → Type 0) (before row : List Entry) : Type 0 where
   pub goes_on : GoesOnFrom before row
   pub met : All fact row
@@ -37,13 +37,13 @@ IsAnswerOf table row e (Covered pos dist) = Contains row (record { pos = pos; di
 IsAnswerOf table row e Put = (c : Entry) → Contains row c → ¬ IsCover table e.pos e.dist c
 IsAnswerOf table row e NoMemory = (c : Entry) → Contains row c → ¬ IsCover table e.pos e.dist c
 
--- the list with the entry behind it where it was put
+-- the list with the entry after it where it was put
 abbrev pub with_put : List Entry → Entry → Offer → List Entry
 with_put entries e Put = entries ++ e ∷ []
 with_put entries e (Covered pos dist) = entries
 with_put entries e NoMemory = entries
 
--- the list seen after the answer to an offer: the row that was found; where the entry was put, that row stands in it with the entry behind, and what others put meanwhile may stand between
+-- the list seen after the answer to an offer: the row that was found; where the entry was put, that row stands in it with the entry after, and what others put meanwhile may stand between
 abbrev pub IsSeenAfter : List Entry → Entry → Offer → List Entry → Type 0
 IsSeenAfter row e Put seen = StandsIn (row ++ e ∷ []) seen
 IsSeenAfter row e (Covered pos dist) seen = seen ≡ row

@@ -33,7 +33,7 @@ pub fn gather<R: Threads + Sync>(
     join_parts(alloc, parts)
 }
 
-/// The rows of all parts, one behind another. The only error is that memory ran out.
+/// The rows of all parts, one after another. The only error is that memory ran out.
 fn join_parts(alloc: Global, parts: Vec<Result<RowList, AllocError>>) -> Result<RowList, AllocError>
     requires { rows_in parts.items < 2 ^ 32 }
     ensures { IfOk result (λ rows. AreJoined parts.items rows) }
@@ -71,7 +71,7 @@ fn rows_of_range(
     Ok(rows)
 }
 
-/// Counts the entries of each node behind `before`, as far as there are places.
+/// Counts the entries of each node after `before`, as far as there are places.
 fn count_entries(room: &mut [usize], before: u32, entries: &[NodeEntry])
     ensures { length room.new ≡ length room.old }
 {
@@ -83,7 +83,7 @@ fn count_entries(room: &mut [usize], before: u32, entries: &[NodeEntry])
     }
 }
 
-/// Puts the entries of each node behind `before` at the end of its row. The only error is that memory ran out.
+/// Puts the entries of each node after `before` at the end of its row. The only error is that memory ran out.
 fn place_entries(rows: &mut RowList, before: u32, entries: &[NodeEntry]) -> Result<(), AllocError>
     requires { before + length rows.old < 2 ^ 32 }
     ensures size { length rows.new ≡ length rows.old }

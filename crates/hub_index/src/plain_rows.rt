@@ -63,7 +63,7 @@ impl PlainRows {
 }
 
 /// The rows themselves are what was last seen of them, and all that was put: the row that a call finds is the list seen
-/// before, and after a put the list seen is that row with the entry behind it.
+/// before, and after a put the list seen is that row with the entry after it.
 impl RowView for PlainRows {
     ghost use Rattle.walk_laws.specs.Joined.{Joined};
     ghost use Rattle.walk_laws.specs.Labelling.{EntryFits, label_row};

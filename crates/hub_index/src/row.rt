@@ -32,7 +32,7 @@ impl Row {
         }
     }
 
-    /// Puts the entry behind the row unless an entry of the row covers it by way of the root's hubs in the table. No memory
+    /// Puts the entry after the row unless an entry of the row covers it by way of the root's hubs in the table. No memory
     /// is taken where an entry covers, and where there is none the row stays as it was.
     pub fn offer(&mut self, entry: Entry, table: &RootTable) -> Offer
         requires { entry.pos ≤ length table.now }

@@ -67,7 +67,7 @@ impl RowList {
         Ok(RowList { rows })
     }
 
-    /// Puts the rows of others behind these. The only error is that memory ran out.
+    /// Puts the rows of others after these. The only error is that memory ran out.
     pub fn append(&mut self, others: RowList) -> Result<(), AllocError>
         requires { length self.old + length others < 2 ^ 32 }
         ensures { OnOk result (self.new ≡ self.old ++ others) }

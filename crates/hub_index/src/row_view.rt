@@ -61,7 +61,7 @@ pub trait RowView {
 
     /// Finds the row of the node `v`, a number from 1, and puts the entry there unless an entry of the row covers it by way
     /// of the root's hubs in the table. The list seen of `v` is then the row; where the entry was put, it has the row and
-    /// behind it the entry. No memory is taken where an entry covers.
+    /// after it the entry. No memory is taken where an entry covers.
     fn offer(&mut self, v: u32, entry: Entry, table: &RootTable) -> Offer
         requires node { IsNode (length (order self.old)) v }
         requires size { length table.now ≡ length (order self.old) }

@@ -45,8 +45,8 @@ module _ (arcs : List Arc) (rising : IsNonDecreasing (map (λ a. a.to) arcs)) (k
   no_lesser P none a there holds =
       let here : get_or arcs there.0 no_arc ≡ a = subst (λ x. x ≡ a) (get_or_default arcs there.0 a no_arc there.1) there.2 in
       elim (cases_lt there.0 k) [
-        | inr behind ↦ omega (arith, rises_to there.0 behind there.1, ap (λ (x : Arc). x.to) here)
-        | inl in_front ↦
-            let taken : get_or (take k arcs) there.0 no_arc ≡ a = subst (λ x. x ≡ a) (sym (get_or-take k arcs there.0 no_arc in_front)) here in
-            absurd (none there.0 no_arc (omega (arith, length-take k arcs, in_front, there.1)) (subst P (sym taken) holds))
+        | inr after ↦ omega (arith, rises_to there.0 after there.1, ap (λ (x : Arc). x.to) here)
+        | inl in_prefix ↦
+            let taken : get_or (take k arcs) there.0 no_arc ≡ a = subst (λ x. x ≡ a) (sym (get_or-take k arcs there.0 no_arc in_prefix)) here in
+            absurd (none there.0 no_arc (omega (arith, length-take k arcs, in_prefix, there.1)) (subst P (sym taken) holds))
       ]

@@ -41,7 +41,7 @@ module _ (xs : List Entry) (y : Entry) (table : List ℕ) (inside : y.pos < leng
   put_elsewhere : (p : ℕ) → p ≢ y.pos → distance_at (set table y.pos y.dist) p ≡ distance_at table p
   put_elsewhere p other = get_or-set_other table y.pos p y.dist far other
 
-  -- one more entry, behind all others
+  -- one more entry, after all others
   pub HoldsRow-put : ((x : Entry) → Contains xs x → x.pos < y.pos) → HoldsRow xs table → HoldsRow (xs ++ y ∷ []) (set table y.pos y.dist)
   HoldsRow-put below was = record {
     held = λ e there. elim (Contains-append_cases xs (y ∷ []) e there) [
@@ -64,7 +64,7 @@ module _ (xs : List Entry) (y : Entry) (table : List ℕ) (inside : y.pos < leng
     ];
   }
 
-  -- one entry less, in front of all others
+  -- one entry less, before all others
   pub HoldsNoMore-cleared : HoldsNoMore (y ∷ xs) table → HoldsNoMore xs (set table y.pos far)
   HoldsNoMore-cleared was p = elim (cases_eq p y.pos) [
     | inl same ↦ inl (ap (distance_at (set table y.pos far)) same ∙ get_or-set_same table y.pos far far inside)

@@ -1,4 +1,4 @@
--- Answers that are put at the places of their pairs, in any order, and parts of answers one behind another.
+-- Answers that are put at the places of their pairs, in any order, and parts of answers one after another.
 use Rattle.std.specs.Prelude.{Result, Ok, Err, IfOk}
 use Rattle.std.specs.declared.alloc.AllocError.{AllocError}
 use Rattle.std.specs.List.{AllZip}
@@ -37,7 +37,7 @@ module _ {X : Type 0} (R : X → Answer → Type 0) where
   AllZip-both (x ∷ xs) us [] vs h rest = absurd h
   AllZip-both (x ∷ xs) us (y ∷ ys) vs h rest = (h.0, AllZip-both xs us ys vs h.1 rest)
 
-  -- the parts side by side have the answers one behind another
+  -- the parts side by side have the answers one after another
   pub AllZip-joined : (parts : List (List X)) (results : List (Result (List Answer) AllocError)) (answers : List Answer) → AllZip (λ xs r. IfOk r (AllZip R xs)) parts results → AreJoined (λ (part : List Answer). part) results answers → AllZip R (flat_map (λ l. l) parts) answers
   AllZip-joined [] [] answers h joined = subst (AllZip R []) (sym joined) tt
   AllZip-joined [] (r ∷ results) answers h joined = absurd h

@@ -1,4 +1,4 @@
--- The sums of two rows, as they are walked from their fronts.
+-- The sums of two rows, as they are walked from their starts.
 use Rattle.std.proofs.Common.{◌≡◌, ◌⊎◌, ℕ, ◌+◌, ◌<◌, List, ◌∷◌, Contains, sym, ap, inl, inr, arith}
 use Rattle.walk_laws.specs.declared.entry.Entry.{Entry}
 use Rattle.walk_laws.specs.Meet.{HasSum}
@@ -26,7 +26,7 @@ module _ (a b : Entry) (xs ys : List Entry) (q e : ℕ) (s : HasSum (a ∷ xs) (
   second_cases : (b ≡ record { pos = q; dist = s.after }) ⊎ Contains ys (record { pos = q; dist = s.after })
   second_cases = Contains-cons_cases b (record { pos = q; dist = s.after }) ys s.in_second
 
-  -- a lesser position in front of the first row is in no sum
+  -- a lesser position before the first row is in no sum
   pub HasSum-past_first : Rises pos_of (b ∷ ys) → a.pos < b.pos → HasSum xs (b ∷ ys) q e
   HasSum-past_first up less = elim first_cases [
     | inr later ↦ record { before = s.before; after = s.after; in_first = later; in_second = s.in_second; long = s.long }
@@ -36,7 +36,7 @@ module _ (a b : Entry) (xs ys : List Entry) (q e : ℕ) (s : HasSum (a ∷ xs) (
     ])
   ]
 
-  -- nor is one in front of the second
+  -- nor is one before the second
   pub HasSum-past_second : Rises pos_of (a ∷ xs) → b.pos < a.pos → HasSum (a ∷ xs) ys q e
   HasSum-past_second up less = elim second_cases [
     | inr later ↦ record { before = s.before; after = s.after; in_first = s.in_first; in_second = later; long = s.long }
@@ -46,7 +46,7 @@ module _ (a b : Entry) (xs ys : List Entry) (q e : ℕ) (s : HasSum (a ∷ xs) (
     ])
   ]
 
-  -- one position in front of both rows is in one sum
+  -- one position before both rows is in one sum
   pub HasSum-past_both : Rises pos_of (a ∷ xs) → Rises pos_of (b ∷ ys) → a.pos ≡ b.pos → ((q ≡ a.pos) × (e ≡ a.dist + b.dist)) ⊎ HasSum xs ys q e
   HasSum-past_both up others_up same = elim first_cases [
     | inl here ↦ elim second_cases [

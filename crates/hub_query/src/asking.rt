@@ -52,7 +52,7 @@ fn part_len<R: Threads>(rt: &R, count: usize) -> usize
     (count / current_num_threads(rt)).clamp(1024, MOST)
 }
 
-/// The answers of all parts, one behind another. The only error is that memory ran out.
+/// The answers of all parts, one after another. The only error is that memory ran out.
 fn join_parts(alloc: Global, parts: Vec<Result<Answers, AllocError>>) -> Result<Answers, AllocError>
     ensures { IfOk result (λ answers. AreJoined (λ part. part) parts.items answers) }
 {

@@ -115,14 +115,14 @@ module _ (J : ℕ → ℕ → ℕ → Type 0) (at : List ℕ) (rows : List (List
   one_first_fault fault other a b = elim (cases_lt a.v b.v) [
     | inl before ↦ absurd (not_before fault other a b before)
     | inr not_before_it ↦ elim (cases_lt b.v a.v) [
-      | inl behind ↦ absurd (not_before other fault b a behind)
+      | inl after ↦ absurd (not_before other fault b a after)
       | inr level ↦
           let same : a.v ≡ b.v = omega (arith, not_before_it, level) in
           elim (cases_lt a.row.k b.row.k) [
             | inl before ↦ absurd (not_before_in_row fault other a b same before)
-            | inr not_in_front ↦ elim (cases_lt b.row.k a.row.k) [
-              | inl behind ↦ absurd (not_before_in_row other fault b a (sym same) behind)
-              | inr even ↦ same_place fault other a b same (omega (arith, not_in_front, even))
+            | inr not_in_prefix ↦ elim (cases_lt b.row.k a.row.k) [
+              | inl after ↦ absurd (not_before_in_row other fault b a (sym same) after)
+              | inr even ↦ same_place fault other a b same (omega (arith, not_in_prefix, even))
             ]
           ]
     ]
@@ -147,7 +147,7 @@ one_parting : (at others : List ℕ) (p q : ℕ) → length at ≡ length others
 one_parting at others p q size a b = elim (cases_lt p q) [
   | inl before ↦ absurd (part_not_before at others p q size a b before)
   | inr not_before_it ↦ elim (cases_lt q p) [
-    | inl behind ↦ absurd (part_not_before at others q p size b a behind)
+    | inl after ↦ absurd (part_not_before at others q p size b a after)
     | inr level ↦ omega (arith, not_before_it, level)
   ]
 ]

@@ -13,7 +13,7 @@ use Rattle.walk_laws.specs.Labelling.{label_row, IsChl}
 use Rattle.walk_laws.proofs.Positions.{position-lt}
 use Rattle.walk_laws.proofs.JoinedEdges.{Joined-sym, IsEdge-joined, weights_of_edges}
 use Rattle.walk_laws.proofs.JoinedDecisions.{IsLeast-joined_exists, IsTop-joined_exists}
-use Rattle.walk_laws.proofs.Walks.{HasWalk-arc, HasWalk-behind}
+use Rattle.walk_laws.proofs.Walks.{HasWalk-arc, HasWalk-after}
 use Rattle.walk_laws.proofs.LeastWalks.{IsLeast-predecessor, IsLeast-same}
 use Rattle.walk_laws.proofs.OnWalks.{IsOn-from_parts}
 use Rattle.walk_laws.proofs.CanonicalHubs.{IsCanonical-inherited, IsCanonical-no_cover}
@@ -51,7 +51,7 @@ module _ (edges : List Edge) (at : List ℕ) (edge : All (IsEdge (length at)) ed
     covered_at : (y w : ℕ) → J v y w → IsCoveredAt rows h y (e.dist + w)
     covered_at y w arc =
         let is = IsEdge-joined (length at) edges v y w edge arc in
-        let walk = HasWalk-behind J h v y w e.dist canon.least.walk arc in
+        let walk = HasWalk-after J h v y w e.dist canon.least.walk arc in
         let least = IsLeast-joined_exists edges (weights_of_edges (length at) edges edge) h y (e.dist + w) walk in
         let top = IsTop-joined_exists edges (weights_of_edges (length at) edges edge) at ranking h y least.0 hub_node.0 hub_node.1 least.1 in
         let node = IsTop-node J at h y top.0 (position-lt at h ranking hub_node.0 hub_node.1) top.1 in (

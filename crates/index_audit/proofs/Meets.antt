@@ -1,4 +1,4 @@
--- Where two rows meet, as they are walked from their fronts.
+-- Where two rows meet, as they are walked from their starts.
 use Rattle.std.proofs.Common.{◌≡◌, ℕ, ◌+◌, ◌<◌, ◌≤◌, List, Contains, length, get_or, refl, sym, ap, subst, inl, inr, arith}
 use Rattle.std.proofs.lemmas.Bool.{cases_lt, cases_eq}
 use Rattle.std.proofs.lemmas.List.Elements.{Contains-get_or}
@@ -17,11 +17,11 @@ module _ (first second : List Entry) (dist : ℕ) where
   -- the second row has been walked up to `from`, and the first up to k
   pub record HasMissed (k from : ℕ) : Type 0 where
     pub within : from ≤ length second
-    pub behind : (i : ℕ) → k ≤ i → i < length first → BelowUpTo second from (pos_at first i)
+    pub after : (i : ℕ) → k ≤ i → i < length first → BelowUpTo second from (pos_at first i)
     pub none : (i : ℕ) → i < k → MissesAt i
 
   pub start : HasMissed 0 0
-  start = record { within = omega arith; behind = λ i le lt j below. absurd (omega (arith, below)); none = λ i lt. absurd (omega (arith, lt)) }
+  start = record { within = omega arith; after = λ i le lt j below. absurd (omega (arith, below)); none = λ i lt. absurd (omega (arith, lt)) }
 
   module _ (up : Rises pos_of first) (others_up : Rises pos_of second) (k from : ℕ) (was : HasMissed k from) (inside : k < length first) where
     abbrev pub e : Entry
@@ -40,31 +40,31 @@ module _ (first second : List Entry) (dist : ℕ) where
     pub past_far : dist < e.dist → HasMissed (k + 1) from
     past_far far = record {
       within = was.within;
-      behind = λ i le. was.behind i (omega arith);
+      after = λ i le. was.after i (omega arith);
       none = λ i lt. none_so_far i lt (λ q level m. omega (arith, before_of q level m, m.both.long, m.short, far));
     }
 
     module _ (next : ℕ) (within : next ≤ length second) (passed : BelowUpTo second next (pos_at first k)) where
-      behind_next : (i : ℕ) → k + 1 ≤ i → i < length first → BelowUpTo second next (pos_at first i)
-      behind_next i le lt j below = omega (arith, passed j below, rises_at first up k i (omega arith) lt)
+      after_next : (i : ℕ) → k + 1 ≤ i → i < length first → BelowUpTo second next (pos_at first i)
+      after_next i le lt j below = omega (arith, passed j below, rises_at first up k i (omega arith) lt)
 
       -- the rows meet at no place of the first before k
-      not_behind : (q : ℕ) → (m : MeetAt first second dist q) → q < pos_at first k → ⊥
-      not_behind q m lt =
+      not_after : (q : ℕ) → (m : MeetAt first second dist q) → q < pos_at first k → ⊥
+      not_after q m lt =
           let h = m.both.in_first in
           let here : pos_at first h.0 ≡ q = ap pos_of (at_place first (record { pos = q; dist = m.both.before }) h) in
           elim (cases_lt h.0 k) [
             | inl before ↦ was.none h.0 before q (sym here) m
-            | inr behind ↦ omega (arith, rises_up_to first up k h.0 behind h.1, here, lt)
+            | inr after ↦ omega (arith, rises_up_to first up k h.0 after h.1, here, lt)
           ]
 
       pub not_below : (q : ℕ) → MeetAt first second dist q → pos_at first k ≤ q
       not_below q m = elim (cases_lt q (pos_at first k)) [
-        | inl below ↦ absurd (not_behind q m below)
+        | inl below ↦ absurd (not_after q m below)
         | inr above ↦ above
       ]
 
-      -- nor at one from k on, where all of the second row is behind
+      -- nor at one from k on, where all of the second row is after
       pub none_left : length second ≤ next → (q : ℕ) → MeetAt first second dist q → ⊥
       none_left over q m =
           let h = m.both.in_second in
@@ -84,7 +84,7 @@ module _ (first second : List Entry) (dist : ℕ) where
             elim (cases_lt h.0 next) [
               | inl before ↦ absurd (omega (arith, passed h.0 before, here, level))
               | inr not_before ↦ elim (cases_lt next h.0) [
-                | inl behind ↦ absurd (omega (arith, rises_at second others_up next h.0 behind h.1, here, level, stops))
+                | inl after ↦ absurd (omega (arith, rises_at second others_up next h.0 after h.1, here, level, stops))
                 | inr even ↦ let same : h.0 ≡ next = omega (arith, not_before, even) in subst (λ i. get_or second i nothing ≡ f) same (at_place second f h)
               ]
             ]
@@ -93,7 +93,7 @@ module _ (first second : List Entry) (dist : ℕ) where
         pub past : (other.pos ≡ e.pos → dist < e.dist + other.dist) → HasMissed (k + 1) next
         past long = record {
           within = within;
-          behind = behind_next;
+          after = after_next;
           none = λ i lt. none_so_far i lt (λ q level m.
               let there = level_there q level m in
               let same : other.pos ≡ e.pos = omega (arith, ap pos_of there, level) in

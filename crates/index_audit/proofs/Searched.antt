@@ -41,7 +41,7 @@ module _ (row : List Entry) (up : Rises pos_of row) where
       elim (cases_lt h.0 k) [
         | inl before ↦ absurd (omega (arith, rises_at h.0 k before within, here, level))
         | inr not_before ↦ elim (cases_lt k h.0) [
-          | inl behind ↦ absurd (omega (arith, rises_at k h.0 behind h.1, here, level))
+          | inl after ↦ absurd (omega (arith, rises_at k h.0 after h.1, here, level))
           | inr even ↦ let same : h.0 ≡ k = omega (arith, not_before, even) in subst (λ i. get_or row i nothing ≡ e) same (at_place row e h)
         ]
       ]
@@ -62,5 +62,5 @@ module _ (row : List Entry) (up : Rises pos_of row) where
         let here : pos_at row h.0 ≡ p = ap pos_of (at_place row (record { pos = p; dist = d }) h) in
         elim (cases_lt h.0 at) [
           | inl before ↦ let below : pos_at row h.0 < p = ranked (pos_at row h.0) p _ (sym ((parted comparisons_rise).0 h.0 nothing (omega (arith, h.1)) before)) in omega (arith, below, here)
-          | inr behind ↦ let above : p < pos_at row h.0 = ranked (pos_at row h.0) p _ (sym ((parted comparisons_rise).1 h.0 nothing behind h.1)) in omega (arith, above, here)
+          | inr after ↦ let above : p < pos_at row h.0 = ranked (pos_at row h.0) p _ (sym ((parted comparisons_rise).1 h.0 nothing after h.1)) in omega (arith, above, here)
         ]

@@ -18,7 +18,7 @@ use Rattle.walk_laws.specs.Meet.{HasSum}
 use Rattle.walk_laws.proofs.Positions.{position-lt, position-get_or, slice_get-at_position}
 use Rattle.walk_laws.proofs.JoinedEdges.{Joined-sym, IsEdge-joined, Joined-positive, weights_of_edges}
 use Rattle.walk_laws.proofs.JoinedDecisions.{IsCanonical-or_joined_cover}
-use Rattle.walk_laws.proofs.Walks.{HasWalk-none_to, HasWalk-same, HasWalk-arc, HasWalk-behind}
+use Rattle.walk_laws.proofs.Walks.{HasWalk-none_to, HasWalk-same, HasWalk-arc, HasWalk-after}
 use Rattle.walk_laws.proofs.LeastWalks.{Predecessor, IsLeast-predecessor, IsLeast-same, IsLeast-unique, IsLeast-none}
 use Rattle.walk_laws.proofs.OnWalks.{IsOn-from_parts}
 use Rattle.walk_laws.proofs.CanonicalHubs.{IsCanonical-inherited, IsCanonical-ranked, IsCanonical-no_cover}
@@ -73,7 +73,7 @@ module _ (edges : List Edge) (at : List ℕ) (edge : All (IsEdge (length at)) ed
           | inr step ↦
               let is = IsEdge-joined (length at) edges v step.neighbour step.weight edge step.arc in
               let before = walk_below bound h step.neighbour p step.dist (omega (arith, step.long, is.weight)) is.to_one is.to_n step.there place in
-              HasWalk-same J h v (step.dist + step.weight) d step.long (HasWalk-behind J h step.neighbour v step.weight step.dist before (Joined-sym edges v step.neighbour step.weight step.arc))
+              HasWalk-same J h v (step.dist + step.weight) d step.long (HasWalk-after J h step.neighbour v step.weight step.dist before (Joined-sym edges v step.neighbour step.weight step.arc))
         ]
 
     pub walk_of : (h v p d : ℕ) → 1 ≤ v → v ≤ length at → Contains (label_row rows v) (record { pos = p; dist = d }) → slice_get at p ≡ Some h → HasWalk J h v d

@@ -25,7 +25,7 @@ use Rattle.index_file.specs.Judging.{Reached, ◌>>=◌, start, width, after_row
 use Rattle.index_file.specs.Cutting.{fed-append}
 use Rattle.index_file.proofs.Fields.{no_bytes, fed-field}
 use Rattle.index_file.specs.Sound.{AreRows, IsSoundNext, bytes_before}
-use Rattle.index_file.proofs.Rising.{pos_of, least_after-front, below_behind}
+use Rattle.index_file.proofs.Rising.{pos_of, least_after-prefix, below_after}
 use Rattle.index_file.proofs.SoundBytes.{IsSound-start, ok_is, Leads, Leads-bytes}
 use Rattle.index_file.proofs.Sizes.{length-well_formed}
 
@@ -66,76 +66,76 @@ Goes-number next x new fits accepts = record {
 
 -- ---- the order
 
-new_in_ranking : (front left : List ℕ) (v : ℕ) → IsRanking (front ++ v ∷ left) → is_new_node (record { n = length (front ++ v ∷ left); order = front }) v ≡ true
-new_in_ranking front left v ranking =
-    let at = front ++ v ∷ left in
-    let here : get_or (front ++ v ∷ left) (length front) 0 ≡ v = get_or-append_seam front v left 0 in
-    let inside : length front < length (front ++ v ∷ left) = omega (arith, length-append front (v ∷ left)) in
-    let node : (1 ≤ v) × (v ≤ length (front ++ v ∷ left)) = subst (λ x. (1 ≤ x) × (x ≤ length (front ++ v ∷ left))) here (ranking.node (length front) 0 inside) in
-    let before : take (length front) (front ++ v ∷ left) ≡ front = take_at front (v ∷ left) (length front) refl in
-    let new : list_any (nat_eq v) front ≡ false = false_from_ne_true (list_any (nat_eq v) front) (λ seen. repeated (front ++ v ∷ left) (length front) inside (subst (λ x. list_any (eqb x) (take (length front) (front ++ v ∷ left)) ≡ true) (sym here) (subst (λ xs. list_any (eqb v) xs ≡ true) (sym before) seen)) ranking.once) in
-    and_from (leb 1 v) (leb v (length (front ++ v ∷ left)) && not (list_any (nat_eq v) front)) (le-leb 1 v node.0) (and_from (leb v (length (front ++ v ∷ left))) (not (list_any (nat_eq v) front)) (le-leb v _ node.1) (not_from_false (list_any (nat_eq v) front) new))
+new_in_ranking : (prefix left : List ℕ) (v : ℕ) → IsRanking (prefix ++ v ∷ left) → is_new_node (record { n = length (prefix ++ v ∷ left); order = prefix }) v ≡ true
+new_in_ranking prefix left v ranking =
+    let at = prefix ++ v ∷ left in
+    let here : get_or (prefix ++ v ∷ left) (length prefix) 0 ≡ v = get_or-append_seam prefix v left 0 in
+    let inside : length prefix < length (prefix ++ v ∷ left) = omega (arith, length-append prefix (v ∷ left)) in
+    let node : (1 ≤ v) × (v ≤ length (prefix ++ v ∷ left)) = subst (λ x. (1 ≤ x) × (x ≤ length (prefix ++ v ∷ left))) here (ranking.node (length prefix) 0 inside) in
+    let before : take (length prefix) (prefix ++ v ∷ left) ≡ prefix = take_at prefix (v ∷ left) (length prefix) refl in
+    let new : list_any (nat_eq v) prefix ≡ false = false_from_ne_true (list_any (nat_eq v) prefix) (λ seen. repeated (prefix ++ v ∷ left) (length prefix) inside (subst (λ x. list_any (eqb x) (take (length prefix) (prefix ++ v ∷ left)) ≡ true) (sym here) (subst (λ xs. list_any (eqb v) xs ≡ true) (sym before) seen)) ranking.once) in
+    and_from (leb 1 v) (leb v (length (prefix ++ v ∷ left)) && not (list_any (nat_eq v) prefix)) (le-leb 1 v node.0) (and_from (leb v (length (prefix ++ v ∷ left))) (not (list_any (nat_eq v) prefix)) (le-leb v _ node.1) (not_from_false (list_any (nat_eq v) prefix) new))
 
-Goes-node : (n v : ℕ) (front : List ℕ) → length front < n → v < 2 ^ 32 → is_new_node (record { n = n; order = front }) v ≡ true → Goes (after_node (record { n = n; order = front })) (word v) (after_node (record { n = n; order = front ++ v ∷ [] }))
-Goes-node n v front more fits new =
-    let next : after_node (record { n = n; order = front }) ≡ Node (record { n = n; order = front }) = rw (ne_eqb (length front) n (λ same. omega arith)) refl in
-    Goes-from _ _ _ (word v) next (Goes-number (Node (record { n = n; order = front })) v (after_node (record { n = n; order = front ++ v ∷ [] })) fits (λ at. rw new refl))
+Goes-node : (n v : ℕ) (prefix : List ℕ) → length prefix < n → v < 2 ^ 32 → is_new_node (record { n = n; order = prefix }) v ≡ true → Goes (after_node (record { n = n; order = prefix })) (word v) (after_node (record { n = n; order = prefix ++ v ∷ [] }))
+Goes-node n v prefix more fits new =
+    let next : after_node (record { n = n; order = prefix }) ≡ Node (record { n = n; order = prefix }) = rw (ne_eqb (length prefix) n (λ same. omega arith)) refl in
+    Goes-from _ _ _ (word v) next (Goes-number (Node (record { n = n; order = prefix })) v (after_node (record { n = n; order = prefix ++ v ∷ [] })) fits (λ at. rw new refl))
 
-Goes-names : (front left : List ℕ) (n : ℕ) → n ≤ 2 ^ 30 → length (front ++ left) ≡ n → IsRanking (front ++ left) → Goes (after_node (record { n = n; order = front })) (flat_map word left) (after_row (record { order = front ++ left; rows = [] }))
-Goes-names front [] n small size ranking =
-    let all : front ++ [] ≡ front = append-nil front in
-    Goes-none (after_node (record { n = n; order = front })) (after_row (record { order = front ++ []; rows = [] })) (rw (eq-eqb (length front) n (ap length (sym all) ∙ size), all) refl)
-Goes-names front (v ∷ left) n small size ranking =
-    let regroup : (front ++ v ∷ []) ++ left ≡ front ++ v ∷ left = append_assoc front (v ∷ []) left in
-    let new : is_new_node (record { n = n; order = front }) v ≡ true = subst (λ k. is_new_node (record { n = k; order = front }) v ≡ true) size (new_in_ranking front left v ranking) in
-    let node : (1 ≤ get_or (front ++ v ∷ left) (length front) 0) × (get_or (front ++ v ∷ left) (length front) 0 ≤ length (front ++ v ∷ left)) = ranking.node (length front) 0 (omega (arith, length-append front (v ∷ left))) in
-    let fits : v < 2 ^ 32 = omega (arith, node.1, get_or-append_seam front v left 0) in
-    let one = Goes-node n v front (omega (arith, length-append front (v ∷ left))) fits new in
-    let rest = Goes-names (front ++ v ∷ []) left n small (ap length regroup ∙ size) (subst IsRanking (sym regroup) ranking) in
-    let rest_to = subst (λ at. Goes (after_node (record { n = n; order = front ++ v ∷ [] })) (flat_map word left) (after_row (record { order = at; rows = [] }))) regroup rest in
+Goes-names : (prefix left : List ℕ) (n : ℕ) → n ≤ 2 ^ 30 → length (prefix ++ left) ≡ n → IsRanking (prefix ++ left) → Goes (after_node (record { n = n; order = prefix })) (flat_map word left) (after_row (record { order = prefix ++ left; rows = [] }))
+Goes-names prefix [] n small size ranking =
+    let all : prefix ++ [] ≡ prefix = append-nil prefix in
+    Goes-none (after_node (record { n = n; order = prefix })) (after_row (record { order = prefix ++ []; rows = [] })) (rw (eq-eqb (length prefix) n (ap length (sym all) ∙ size), all) refl)
+Goes-names prefix (v ∷ left) n small size ranking =
+    let regroup : (prefix ++ v ∷ []) ++ left ≡ prefix ++ v ∷ left = append_assoc prefix (v ∷ []) left in
+    let new : is_new_node (record { n = n; order = prefix }) v ≡ true = subst (λ k. is_new_node (record { n = k; order = prefix }) v ≡ true) size (new_in_ranking prefix left v ranking) in
+    let node : (1 ≤ get_or (prefix ++ v ∷ left) (length prefix) 0) × (get_or (prefix ++ v ∷ left) (length prefix) 0 ≤ length (prefix ++ v ∷ left)) = ranking.node (length prefix) 0 (omega (arith, length-append prefix (v ∷ left))) in
+    let fits : v < 2 ^ 32 = omega (arith, node.1, get_or-append_seam prefix v left 0) in
+    let one = Goes-node n v prefix (omega (arith, length-append prefix (v ∷ left))) fits new in
+    let rest = Goes-names (prefix ++ v ∷ []) left n small (ap length regroup ∙ size) (subst IsRanking (sym regroup) ranking) in
+    let rest_to = subst (λ at. Goes (after_node (record { n = n; order = prefix ++ v ∷ [] })) (flat_map word left) (after_row (record { order = at; rows = [] }))) regroup rest in
     Goes-then _ _ _ (word v) (flat_map word left) one rest_to
 
 -- ---- one row
 
-last_entry : (done : HubIndex) (count : ℕ) (front : List Entry) → least_after front ≤ next_own done → length front + 1 ≡ count → next_own done < 2 ^ 32 →
-    Goes (Position done (record { count = count; entries = front })) (entry_bytes (own_entry done.order (next_node done))) (after_row (with_row done (front ++ own_entry done.order (next_node done) ∷ [])))
-last_entry done count front above last fits =
-    let part : Part = record { count = count; entries = front } in
+last_entry : (done : HubIndex) (count : ℕ) (prefix : List Entry) → least_after prefix ≤ next_own done → length prefix + 1 ≡ count → next_own done < 2 ^ 32 →
+    Goes (Position done (record { count = count; entries = prefix })) (entry_bytes (own_entry done.order (next_node done))) (after_row (with_row done (prefix ++ own_entry done.order (next_node done) ∷ [])))
+last_entry done count prefix above last fits =
+    let part : Part = record { count = count; entries = prefix } in
     let own = next_own done in
-    let is : eqb (length front + 1) count ≡ true = eq-eqb _ _ last in
-    let position : is_next_position (next_own done) (record { count = count; entries = front }) (next_own done) ≡ true = rw (le-leb (least_after front) (next_own done) above, is) (eq-eqb (next_own done) (next_own done) refl) in
-    let whole : eqb (length (front ++ own_entry done.order (next_node done) ∷ [])) count ≡ true = eq-eqb _ _ (length-append front (own_entry done.order (next_node done) ∷ []) ∙ last) in
+    let is : eqb (length prefix + 1) count ≡ true = eq-eqb _ _ last in
+    let position : is_next_position (next_own done) (record { count = count; entries = prefix }) (next_own done) ≡ true = rw (le-leb (least_after prefix) (next_own done) above, is) (eq-eqb (next_own done) (next_own done) refl) in
+    let whole : eqb (length (prefix ++ own_entry done.order (next_node done) ∷ [])) count ≡ true = eq-eqb _ _ (length-append prefix (own_entry done.order (next_node done) ∷ []) ∙ last) in
     Goes-then _ _ _ (word (next_own done)) (big_bytes 8 0)
-    (Goes-number (Position done (record { count = count; entries = front })) (next_own done) (Distance done (record { count = count; entries = front }) (next_own done)) fits (λ at. rw position refl))
-    (Goes-number (Distance done (record { count = count; entries = front }) (next_own done)) 0 (after_row (with_row done (front ++ own_entry done.order (next_node done) ∷ []))) (omega arith) (λ at. rw (is, whole) refl))
+    (Goes-number (Position done (record { count = count; entries = prefix })) (next_own done) (Distance done (record { count = count; entries = prefix }) (next_own done)) fits (λ at. rw position refl))
+    (Goes-number (Distance done (record { count = count; entries = prefix }) (next_own done)) 0 (after_row (with_row done (prefix ++ own_entry done.order (next_node done) ∷ []))) (omega arith) (λ at. rw (is, whole) refl))
 
-other_entry : (done : HubIndex) (count : ℕ) (front : List Entry) (e : Entry) → least_after front ≤ e.pos → e.pos < next_own done → (1 ≤ e.dist) × (e.dist < 2 ^ 62) → length front + 1 < count → next_own done < 2 ^ 32 →
-    Goes (Position done (record { count = count; entries = front })) (entry_bytes e) (Position done (record { count = count; entries = front ++ e ∷ [] }))
-other_entry done count front e above below far more fits =
-    let is : eqb (length front + 1) count ≡ false = ne_eqb _ _ (λ same. omega arith) in
-    let position : is_next_position (next_own done) (record { count = count; entries = front }) e.pos ≡ true = rw (le-leb (least_after front) e.pos above, is) (lt-ltb e.pos (next_own done) below) in
-    let distance : is_next_distance (record { count = count; entries = front }) e.dist ≡ true = rw is (and_from (leb 1 e.dist) (ltb e.dist (2 ^ 62)) (le-leb 1 e.dist far.0) (lt-ltb e.dist (2 ^ 62) far.1)) in
-    let not_whole : eqb (length (front ++ e ∷ [])) count ≡ false = ne_eqb _ _ (λ same. omega (arith, length-append front (e ∷ []))) in
+other_entry : (done : HubIndex) (count : ℕ) (prefix : List Entry) (e : Entry) → least_after prefix ≤ e.pos → e.pos < next_own done → (1 ≤ e.dist) × (e.dist < 2 ^ 62) → length prefix + 1 < count → next_own done < 2 ^ 32 →
+    Goes (Position done (record { count = count; entries = prefix })) (entry_bytes e) (Position done (record { count = count; entries = prefix ++ e ∷ [] }))
+other_entry done count prefix e above below far more fits =
+    let is : eqb (length prefix + 1) count ≡ false = ne_eqb _ _ (λ same. omega arith) in
+    let position : is_next_position (next_own done) (record { count = count; entries = prefix }) e.pos ≡ true = rw (le-leb (least_after prefix) e.pos above, is) (lt-ltb e.pos (next_own done) below) in
+    let distance : is_next_distance (record { count = count; entries = prefix }) e.dist ≡ true = rw is (and_from (leb 1 e.dist) (ltb e.dist (2 ^ 62)) (le-leb 1 e.dist far.0) (lt-ltb e.dist (2 ^ 62) far.1)) in
+    let not_whole : eqb (length (prefix ++ e ∷ [])) count ≡ false = ne_eqb _ _ (λ same. omega (arith, length-append prefix (e ∷ []))) in
     Goes-then _ _ _ (word e.pos) (big_bytes 8 e.dist)
-    (Goes-number (Position done (record { count = count; entries = front })) e.pos (Distance done (record { count = count; entries = front }) e.pos) (omega arith) (λ at. rw position refl))
-    (Goes-number (Distance done (record { count = count; entries = front }) e.pos) e.dist (Position done (record { count = count; entries = front ++ e ∷ [] })) (omega (arith, far.1)) (λ at. rw (distance, not_whole) refl))
+    (Goes-number (Position done (record { count = count; entries = prefix })) e.pos (Distance done (record { count = count; entries = prefix }) e.pos) (omega arith) (λ at. rw position refl))
+    (Goes-number (Distance done (record { count = count; entries = prefix }) e.pos) e.dist (Position done (record { count = count; entries = prefix ++ e ∷ [] })) (omega (arith, far.1)) (λ at. rw (distance, not_whole) refl))
 
-Goes-entries : (done : HubIndex) (count : ℕ) (front left : List Entry) → Rises pos_of (front ++ (left ++ own_entry done.order (next_node done) ∷ [])) → All (λ e. (1 ≤ e.dist) × (e.dist < 2 ^ 62)) left → length (front ++ (left ++ own_entry done.order (next_node done) ∷ [])) ≡ count → next_own done < 2 ^ 32 →
-    Goes (Position done (record { count = count; entries = front })) (flat_map entry_bytes (left ++ own_entry done.order (next_node done) ∷ [])) (after_row (with_row done (front ++ (left ++ own_entry done.order (next_node done) ∷ []))))
-Goes-entries done count front [] up far size fits =
-    subst (λ bytes. Goes (Position done (record { count = count; entries = front })) bytes (after_row (with_row done (front ++ own_entry done.order (next_node done) ∷ [])))) (sym (append-nil (entry_bytes (own_entry done.order (next_node done)))))
-    (last_entry done count front (least_after-front front (own_entry done.order (next_node done)) [] up) (sym (length-append front (own_entry done.order (next_node done) ∷ [])) ∙ size) fits)
-Goes-entries done count front (e ∷ left) up far size fits =
+Goes-entries : (done : HubIndex) (count : ℕ) (prefix left : List Entry) → Rises pos_of (prefix ++ (left ++ own_entry done.order (next_node done) ∷ [])) → All (λ e. (1 ≤ e.dist) × (e.dist < 2 ^ 62)) left → length (prefix ++ (left ++ own_entry done.order (next_node done) ∷ [])) ≡ count → next_own done < 2 ^ 32 →
+    Goes (Position done (record { count = count; entries = prefix })) (flat_map entry_bytes (left ++ own_entry done.order (next_node done) ∷ [])) (after_row (with_row done (prefix ++ (left ++ own_entry done.order (next_node done) ∷ []))))
+Goes-entries done count prefix [] up far size fits =
+    subst (λ bytes. Goes (Position done (record { count = count; entries = prefix })) bytes (after_row (with_row done (prefix ++ own_entry done.order (next_node done) ∷ [])))) (sym (append-nil (entry_bytes (own_entry done.order (next_node done)))))
+    (last_entry done count prefix (least_after-prefix prefix (own_entry done.order (next_node done)) [] up) (sym (length-append prefix (own_entry done.order (next_node done) ∷ [])) ∙ size) fits)
+Goes-entries done count prefix (e ∷ left) up far size fits =
     let own = own_entry done.order (next_node done) in
-    let regroup : (front ++ e ∷ []) ++ (left ++ own_entry done.order (next_node done) ∷ []) ≡ front ++ (e ∷ (left ++ own_entry done.order (next_node done) ∷ [])) = append_assoc front (e ∷ []) (left ++ own_entry done.order (next_node done) ∷ []) in
-    let above = least_after-front front e (left ++ own_entry done.order (next_node done) ∷ []) up in
-    let below = below_behind front e left (own_entry done.order (next_node done)) up in
-    let long = length-append front (e ∷ (left ++ own_entry done.order (next_node done) ∷ [])) in
+    let regroup : (prefix ++ e ∷ []) ++ (left ++ own_entry done.order (next_node done) ∷ []) ≡ prefix ++ (e ∷ (left ++ own_entry done.order (next_node done) ∷ [])) = append_assoc prefix (e ∷ []) (left ++ own_entry done.order (next_node done) ∷ []) in
+    let above = least_after-prefix prefix e (left ++ own_entry done.order (next_node done) ∷ []) up in
+    let below = below_after prefix e left (own_entry done.order (next_node done)) up in
+    let long = length-append prefix (e ∷ (left ++ own_entry done.order (next_node done) ∷ [])) in
     let longer = length-append left (own_entry done.order (next_node done) ∷ []) in
-    let one = other_entry done count front e above below (far 0 e (omega arith)) (omega (arith, long, longer, size)) fits in
-    let rest = Goes-entries done count (front ++ e ∷ []) left (subst (Rises pos_of) (sym regroup) up) (λ k d within. far (suc k) d (omega arith)) (ap length regroup ∙ size) fits in
+    let one = other_entry done count prefix e above below (far 0 e (omega arith)) (omega (arith, long, longer, size)) fits in
+    let rest = Goes-entries done count (prefix ++ e ∷ []) left (subst (Rises pos_of) (sym regroup) up) (λ k d within. far (suc k) d (omega arith)) (ap length regroup ∙ size) fits in
     Goes-then _ _ _ (entry_bytes e) (flat_map entry_bytes (left ++ own_entry done.order (next_node done) ∷ [])) one
-    (subst (λ row. Goes (Position done (record { count = count; entries = front ++ e ∷ [] })) (flat_map entry_bytes (left ++ own_entry done.order (next_node done) ∷ [])) (after_row (with_row done row))) regroup rest)
+    (subst (λ row. Goes (Position done (record { count = count; entries = prefix ++ e ∷ [] })) (flat_map entry_bytes (left ++ own_entry done.order (next_node done) ∷ [])) (after_row (with_row done row))) regroup rest)
 
 -- ---- all rows
 
@@ -151,20 +151,20 @@ Goes-row done row is more few fits =
     let entries_of_row = subst (λ r. Goes (Position done (record { count = length row; entries = [] })) (flat_map entry_bytes r) (after_row (with_row done r))) (sym ends) entries in
     Goes-from _ _ _ (row_bytes row) next (Goes-then _ _ _ (word (length row)) (flat_map entry_bytes row) (Goes-number (Count done) (length row) (Position done (record { count = length row; entries = [] })) few (λ at. rw some refl)) entries_of_row)
 
-Goes-rows : (order : List ℕ) (front left : List (List Entry)) → IsWellFormed order (front ++ left) → Goes (after_row (record { order = order; rows = front })) (flat_map row_bytes left) (after_row (record { order = order; rows = front ++ left }))
-Goes-rows order front [] is = Goes-none _ _ (ap (λ rows. after_row (record { order = order; rows = rows })) (sym (append-nil front)))
-Goes-rows order front (row ∷ left) is =
-    let done : HubIndex = record { order = order; rows = front } in
-    let v : ℕ = length front + 1 in
-    let more : length front < length order = omega (arith, is.size, length-append front (row ∷ left)) in
-    let place : length front + 1 - 1 ≡ length front = omega arith in
-    let here : label_row (front ++ row ∷ left) (length front + 1) ≡ row = ap (λ i. get_or (front ++ row ∷ left) i []) place ∙ get_or-append_seam front row left [] in
-    let well_formed : IsWellFormedRow order (length front + 1) row = subst (IsWellFormedRow order (length front + 1)) here (is.row (length front + 1) (omega arith) (omega arith)) in
-    let own : position_of order (length front + 1) < length order = position-lt order (length front + 1) is.ranking (omega arith) (omega arith) in
-    let one = Goes-row (record { order = order; rows = front }) row well_formed more (omega (arith, length-well_formed order (length front + 1) row well_formed, own, is.small)) (omega (arith, own, is.small)) in
-    let regroup : (front ++ row ∷ []) ++ left ≡ front ++ row ∷ left = append_assoc front (row ∷ []) left in
-    let rest = Goes-rows order (front ++ row ∷ []) left (subst (IsWellFormed order) (sym regroup) is) in
-    Goes-then _ _ _ (row_bytes row) (flat_map row_bytes left) one (subst (λ rows. Goes (after_row (record { order = order; rows = front ++ row ∷ [] })) (flat_map row_bytes left) (after_row (record { order = order; rows = rows }))) regroup rest)
+Goes-rows : (order : List ℕ) (prefix left : List (List Entry)) → IsWellFormed order (prefix ++ left) → Goes (after_row (record { order = order; rows = prefix })) (flat_map row_bytes left) (after_row (record { order = order; rows = prefix ++ left }))
+Goes-rows order prefix [] is = Goes-none _ _ (ap (λ rows. after_row (record { order = order; rows = rows })) (sym (append-nil prefix)))
+Goes-rows order prefix (row ∷ left) is =
+    let done : HubIndex = record { order = order; rows = prefix } in
+    let v : ℕ = length prefix + 1 in
+    let more : length prefix < length order = omega (arith, is.size, length-append prefix (row ∷ left)) in
+    let place : length prefix + 1 - 1 ≡ length prefix = omega arith in
+    let here : label_row (prefix ++ row ∷ left) (length prefix + 1) ≡ row = ap (λ i. get_or (prefix ++ row ∷ left) i []) place ∙ get_or-append_seam prefix row left [] in
+    let well_formed : IsWellFormedRow order (length prefix + 1) row = subst (IsWellFormedRow order (length prefix + 1)) here (is.row (length prefix + 1) (omega arith) (omega arith)) in
+    let own : position_of order (length prefix + 1) < length order = position-lt order (length prefix + 1) is.ranking (omega arith) (omega arith) in
+    let one = Goes-row (record { order = order; rows = prefix }) row well_formed more (omega (arith, length-well_formed order (length prefix + 1) row well_formed, own, is.small)) (omega (arith, own, is.small)) in
+    let regroup : (prefix ++ row ∷ []) ++ left ≡ prefix ++ row ∷ left = append_assoc prefix (row ∷ []) left in
+    let rest = Goes-rows order (prefix ++ row ∷ []) left (subst (IsWellFormed order) (sym regroup) is) in
+    Goes-then _ _ _ (row_bytes row) (flat_map row_bytes left) one (subst (λ rows. Goes (after_row (record { order = order; rows = prefix ++ row ∷ [] })) (flat_map row_bytes left) (after_row (record { order = order; rows = rows }))) regroup rest)
 
 -- ---- the whole file
 

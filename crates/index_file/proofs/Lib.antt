@@ -7,5 +7,5 @@ pub mod Sizes
 pub mod Layouts
 pub mod SoundIndexes
 pub mod Steps
-pub mod PutBehind
+pub mod PutAfter
 pub mod Pieces

@@ -34,7 +34,7 @@ pub TakesPiece-err : (old : Result Reached IndexFault) (piece : List ℕ) (e : I
 TakesPiece-err old piece e refused same =
     (elim refused [ inl none ↦ inl none | inr faults ↦ inr (ap fault_of faults) ], λ before is. same before (fault_is old before is), λ more. StandsAt-fault (Err e) more e (fed-err e more))
 
--- by what the code came to behind the piece
+-- by what the code came to after the piece
 pub TakesPiece-gives_ok : (old r : Result Reached IndexFault) (piece : List ℕ) (p : Reached) → r ≡ Ok p → Gives r (fed old piece) → TakesPiece fault_after index_after NoMemory old piece (Ok tt) r
 TakesPiece-gives_ok old (Ok q) piece p is gives = TakesPiece-ok old piece q gives
 TakesPiece-gives_ok old (Err e) piece p is gives = absurd cc

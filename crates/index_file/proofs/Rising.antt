@@ -39,7 +39,7 @@ increasing_push ys y rising below k within =
           omega (arith, below k before, first, second)
     ]
 
--- positions still rise with a greater one behind them
+-- positions still rise with a greater one after them
 pub rising_push : (xs : List Entry) (e : Entry) → IsStrictlyIncreasing (map pos_of xs) → least_after xs ≤ e.pos → IsStrictlyIncreasing (map pos_of (xs ++ e ∷ []))
 rising_push xs e rising above =
     subst IsStrictlyIncreasing (sym (map_push pos_of xs e)) (increasing_push (map pos_of xs) e.pos rising below)
@@ -63,34 +63,34 @@ IsWellFormedRow-last at v pos dist part is own none =
 
 -- ---- the other way round
 
-Rises-behind : (front xs : List Entry) → Rises pos_of (front ++ xs) → Rises pos_of xs
-Rises-behind [] xs up = up
-Rises-behind (x ∷ front) xs up = Rises-behind front xs (Rises-rest pos_of x (front ++ xs) up)
+Rises-after : (prefix xs : List Entry) → Rises pos_of (prefix ++ xs) → Rises pos_of xs
+Rises-after [] xs up = up
+Rises-after (x ∷ prefix) xs up = Rises-after prefix xs (Rises-rest pos_of x (prefix ++ xs) up)
 
-pub Contains-behind : (front : List Entry) (e : Entry) (xs : List Entry) → Contains (front ++ e ∷ xs) e
-Contains-behind [] e xs = Contains-first e xs
-Contains-behind (x ∷ front) e xs = Contains-next x e (front ++ e ∷ xs) (Contains-behind front e xs)
+pub Contains-after : (prefix : List Entry) (e : Entry) (xs : List Entry) → Contains (prefix ++ e ∷ xs) e
+Contains-after [] e xs = Contains-first e xs
+Contains-after (x ∷ prefix) e xs = Contains-next x e (prefix ++ e ∷ xs) (Contains-after prefix e xs)
 
 -- in rising rows each entry is above those before it
-pub least_after-front : (front : List Entry) (e : Entry) (xs : List Entry) → Rises pos_of (front ++ e ∷ xs) → least_after front ≤ e.pos
-least_after-front [] e xs up = omega arith
-least_after-front (x ∷ front) e xs up =
-    let first = Rises-first pos_of x e (front ++ e ∷ xs) up (Contains-behind front e xs) in
-    let rest = least_after-front front e xs (Rises-rest pos_of x (front ++ e ∷ xs) up) in
+pub least_after-prefix : (prefix : List Entry) (e : Entry) (xs : List Entry) → Rises pos_of (prefix ++ e ∷ xs) → least_after prefix ≤ e.pos
+least_after-prefix [] e xs up = omega arith
+least_after-prefix (x ∷ prefix) e xs up =
+    let first = Rises-first pos_of x e (prefix ++ e ∷ xs) up (Contains-after prefix e xs) in
+    let rest = least_after-prefix prefix e xs (Rises-rest pos_of x (prefix ++ e ∷ xs) up) in
     omega (arith, first, rest)
 
--- and below those behind it
-pub below_behind : (front : List Entry) (e : Entry) (xs : List Entry) (last : Entry) → Rises pos_of (front ++ (e ∷ (xs ++ last ∷ []))) → e.pos < last.pos
-below_behind front e xs last up =
-    Rises-first pos_of e last (xs ++ last ∷ []) (Rises-behind front (e ∷ (xs ++ last ∷ [])) up) (Contains-behind xs last [])
+-- and below those after it
+pub below_after : (prefix : List Entry) (e : Entry) (xs : List Entry) (last : Entry) → Rises pos_of (prefix ++ (e ∷ (xs ++ last ∷ []))) → e.pos < last.pos
+below_after prefix e xs last up =
+    Rises-first pos_of e last (xs ++ last ∷ []) (Rises-after prefix (e ∷ (xs ++ last ∷ [])) up) (Contains-after xs last [])
 
-behind_first : (x : Entry) (xs : List Entry) → Rises pos_of (x ∷ xs) → x.pos + 1 + length xs ≤ least_after (x ∷ xs)
-behind_first x [] up = omega arith
-behind_first x (y ∷ ys) up =
-    let rest = behind_first y ys (Rises-rest pos_of x (y ∷ ys) up) in
+after_first : (x : Entry) (xs : List Entry) → Rises pos_of (x ∷ xs) → x.pos + 1 + length xs ≤ least_after (x ∷ xs)
+after_first x [] up = omega arith
+after_first x (y ∷ ys) up =
+    let rest = after_first y ys (Rises-rest pos_of x (y ∷ ys) up) in
     omega (arith, rest, Rises-first pos_of x y (y ∷ ys) up (Contains-first y ys))
 
 -- rising entries are no more than the least position above them
 pub length-le-least : (xs : List Entry) → Rises pos_of xs → length xs ≤ least_after xs
 length-le-least [] up = omega arith
-length-le-least (x ∷ xs) up = let all = behind_first x xs up in omega (arith, all)
+length-le-least (x ∷ xs) up = let all = after_first x xs up in omega (arith, all)

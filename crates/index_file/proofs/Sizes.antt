@@ -17,7 +17,7 @@ use Rattle.index_file.specs.Layout.{word, entry_bytes, row_bytes, head_bytes, in
 use Rattle.index_file.specs.Parts.{Part, least_after, next_node, next_own}
 use Rattle.index_file.specs.Judging.{Reached, width}
 use Rattle.index_file.specs.Sound.{AreRows, IsPart, AreReading, IsSoundNext, IsSound, bytes_before}
-use Rattle.index_file.proofs.Rising.{pos_of, least_after-push, least_after-front, length-le-least}
+use Rattle.index_file.proofs.Rising.{pos_of, least_after-push, least_after-prefix, length-le-least}
 
 length-words : (xs : List ℕ) → length (flat_map word xs) ≡ 4 * length xs
 length-words [] = refl
@@ -46,7 +46,7 @@ pub length-well_formed : (at : List ℕ) (v : ℕ) (row : List Entry) → IsWell
 length-well_formed at v row is =
     let up : Rises pos_of row = AllPairs-from_increasing (map pos_of row) is.rising in
     let whole : Rises pos_of (is.others ++ own_entry at v ∷ []) = subst (Rises pos_of) is.ends up in
-    let greatest : least_after row ≡ position_of at v + 1 = ap least_after is.ends ∙ least_after-push is.others (own_entry at v) (least_after-front is.others (own_entry at v) [] whole) in
+    let greatest : least_after row ≡ position_of at v + 1 = ap least_after is.ends ∙ least_after-push is.others (own_entry at v) (least_after-prefix is.others (own_entry at v) [] whole) in
     omega (arith, length-le-least row up, greatest)
 
 -- rows that are done have at most 2^30 entries each

@@ -1,4 +1,4 @@
--- A field that is accepted leaves the fields sound, and its bytes are behind theirs.
+-- A field that is accepted leaves the fields sound, and its bytes are after theirs.
 use Rattle.std.proofs.Common.{◌≡◌, ℕ, zero, suc, ◌+◌, ◌-◌, ◌%◌, ◌^◌, ◌<◌, ◌≤◌, Bool, true, false, cond, eqb, leb, ltb, List, [], ◌∷◌, ◌++◌, length, take, get_or, Ok, Err, refl, sym, ap, subst, ◌∙◌, inl, inr, append_assoc, arith}
 use Rattle.std.specs.Prelude.{nat_eq, ◌&&◌, flat_map}
 use Rattle.std.specs.List.{IsDistinct, list_any}

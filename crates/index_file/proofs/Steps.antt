@@ -51,7 +51,7 @@ Refuses-part p rest field left e parts refuses = elim refuses [ inl none ↦ inl
 pub Refuses-none : (next : Next) (held : List ℕ) (at : ℕ) (field : List ℕ) (e : IndexFault) → held ≡ [] → Refuses (record { next = next; held = []; at = at }) field e → Refuses (record { next = next; held = held; at = at }) field e
 Refuses-none next held at field e none refuses = subst (λ h. Refuses (record { next = next; held = h; at = at }) field e) (sym none) refuses
 
--- a fault behind what was taken
+-- a fault after what was taken
 pub Refuses-then : (old cur : Reached) (bytes rest : List ℕ) (e : IndexFault) → Takes old bytes cur rest → Refuses cur rest e → Refuses old bytes e
 Refuses-then old cur bytes rest e takes refuses = elim refuses [
   | inl none ↦ inl none
@@ -80,11 +80,11 @@ pub record Runs (old : Reached) (bytes : List ℕ) (new : Reached) (rest : List 
   pub sound : IsSound new
   pub takes : Takes old bytes new rest
 
-IsBytes-behind : (a b : List ℕ) → IsBytes (a ++ b) → IsBytes b
-IsBytes-behind a b fits i = omega (arith, fits (length a + i), get_or-append-add a b i 0)
+IsBytes-after : (a b : List ℕ) → IsBytes (a ++ b) → IsBytes b
+IsBytes-after a b fits i = omega (arith, fits (length a + i), get_or-append-add a b i 0)
 
-IsBytes-front : (a b : List ℕ) → IsBytes (a ++ b) → IsBytes a
-IsBytes-front a b fits i = elim (cases_lt i (length a)) [
+IsBytes-prefix : (a b : List ℕ) → IsBytes (a ++ b) → IsBytes a
+IsBytes-prefix a b fits i = elim (cases_lt i (length a)) [
   | inl inside ↦ omega (arith, fits i, get_or-append a b 0 i inside)
   | inr past ↦ omega (arith, get_or_past a i 0 past)
 ]
@@ -98,8 +98,8 @@ Runs-none p bytes sound = record { sound = sound; takes = Takes-none p bytes }
 
 pub Runs-more : (old cur new : Reached) (bytes rest field left : List ℕ) → Runs old bytes cur rest → IsBytes bytes → rest ≡ field ++ left → fed (Ok cur) field ≡ Ok new → Runs old bytes new left
 Runs-more old cur new bytes rest field left runs fits parts leads =
-    let of_rest : IsBytes rest = IsBytes-behind runs.takes.taken rest (subst IsBytes runs.takes.parts fits) in
-    let of_field : IsBytes field = IsBytes-front field left (subst IsBytes parts of_rest) in
+    let of_rest : IsBytes rest = IsBytes-after runs.takes.taken rest (subst IsBytes runs.takes.parts fits) in
+    let of_field : IsBytes field = IsBytes-prefix field left (subst IsBytes parts of_rest) in
     record {
       sound = IsSound-fed cur new field runs.sound of_field leads;
       takes = Takes-more old cur new bytes rest field left runs.takes parts leads;
@@ -154,14 +154,14 @@ module _ (done : HubIndex) (part : Part) (at : ℕ) (field : List ℕ) (long : l
     second_value : big_number (length (drop 4 field)) (drop 4 field) ≡ dist
     second_value = ap (λ k. big_number k (drop 4 field)) second_long ∙ sym dist_is
 
-    behind : (r : Result Reached IndexFault) → fed (Ok (record { next = Distance done part pos; held = []; at = at + 4 })) (drop 4 field) ≡ r → fed (Ok (at_position done part at)) field ≡ r
+    after : (r : Result Reached IndexFault) → fed (Ok (record { next = Distance done part pos; held = []; at = at + 4 })) (drop 4 field) ≡ r → fed (Ok (at_position done part at)) field ≡ r
     unfolding at_distance
-    behind r is = ap (fed (Ok (at_position done part at))) at_distance.parts ∙ fed-append (Ok (at_position done part at)) (take 4 field) (drop 4 field) ∙ ap (λ s. fed s (drop 4 field)) at_distance.leads ∙ is
+    after r is = ap (fed (Ok (at_position done part at))) at_distance.parts ∙ fed-append (Ok (at_position done part at)) (take 4 field) (drop 4 field) ∙ ap (λ s. fed s (drop 4 field)) at_distance.leads ∙ is
 
     pub fed-no_distance : is_next_distance part dist ≡ false → fed (Ok (at_position done part at)) field ≡ Err (fault.Distance (next_node done) (length part.entries))
     fed-no_distance not_next =
         let judged : after_field (at + 4) (Distance done part pos) dist ≡ Err (fault.Distance (next_node done) (length part.entries)) = rw not_next refl in
-        behind (Err (fault.Distance (next_node done) (length part.entries)))
+        after (Err (fault.Distance (next_node done) (length part.entries)))
         (fed-refused (Distance done part pos) (at + 4) (drop 4 field) (fault.Distance (next_node done) (length part.entries)) second_long (ap (after_field (at + 4) (Distance done part pos)) second_value ∙ judged))
 
     pub fed-entry : is_next_distance part dist ≡ true → is_last part ≡ false → fed (Ok (at_position done part at)) field ≡ Ok (at_position done (with_entry part (record { pos = pos; dist = dist })) (at + 12))
@@ -170,7 +170,7 @@ module _ (done : HubIndex) (part : Part) (at : ℕ) (field : List ℕ) (long : l
         let not_whole : eqb (length (part.entries ++ record { pos = pos; dist = dist } ∷ [])) part.count ≡ false = ne_eqb (length (part.entries ++ record { pos = pos; dist = dist } ∷ [])) part.count (λ same. eqb-false (length part.entries + 1) part.count more (omega (arith, length-append part.entries (e ∷ [])))) in
         let judged : after_field (at + 4) (Distance done part pos) dist ≡ Ok (Position done (with_entry part (record { pos = pos; dist = dist }))) = rw (distance, not_whole) refl in
         let end : at + 4 + length (drop 4 field) ≡ at + 12 = omega (arith, second_long) in
-        behind (Ok (at_position done (with_entry part (record { pos = pos; dist = dist })) (at + 12)))
+        after (Ok (at_position done (with_entry part (record { pos = pos; dist = dist })) (at + 12)))
         (fed-accepted (Distance done part pos) (at + 4) (drop 4 field) (Position done (with_entry part (record { pos = pos; dist = dist }))) second_long (ap (after_field (at + 4) (Distance done part pos)) second_value ∙ judged)
         ∙ ap (λ k. Ok (record { next = Position done (with_entry part (record { pos = pos; dist = dist })); held = []; at = k })) end)
 
@@ -180,14 +180,14 @@ module _ (next : Next) (at : ℕ) where
   pub Gives-refused : (field : List ℕ) (e : IndexFault) → length field ≡ width next → (e ≡ fault.NoMemory) ⊎ (after_field at next (big_number (length field) field) ≡ Err e) → (e ≡ fault.NoMemory) ⊎ (fed (Ok (record { next = next; held = []; at = at })) field ≡ Err e)
   Gives-refused field e long judged = elim judged [ inl none ↦ inl none | inr is ↦ inr (fed-refused next at field e long is) ]
 
-  -- behind a whole field the fields are sound
+  -- after a whole field the fields are sound
   pub IsSound-whole : (held field : List ℕ) (new : Next) → IsSound (record { next = next; held = held; at = at }) → held ≡ [] → IsBytes field → length field ≡ width next → after_field at next (big_number (length field) field) ≡ Ok new → IsSound (record { next = new; held = held; at = at + length field })
   IsSound-whole held field new sound none fits long is =
       let before : IsSound (record { next = next; held = []; at = at }) = subst (λ h. IsSound (record { next = next; held = h; at = at })) none sound in
       subst (λ h. IsSound (record { next = new; held = h; at = at + length field })) (sym none)
       (IsSound-fed (record { next = next; held = []; at = at }) (record { next = new; held = []; at = at + length field }) field before fits (fed-accepted next at field new long is))
 
-  -- and behind the last byte of a field
+  -- and after the last byte of a field
   pub IsSound-gathered : (held field cleared : List ℕ) (b size : ℕ) (new : Next) → IsSound (record { next = next; held = held; at = at }) → b < 256 → field ≡ held ++ b ∷ [] → width next ≤ length field → after_field at next (big_number (length field) field) ≡ Ok new → cleared ≡ [] → size ≡ length field → IsSound (record { next = new; held = cleared; at = at + size })
   IsSound-gathered held field cleared b size new sound small is whole judged none long =
       let one : IsBytes (b ∷ []) = IsBytes-one b small in

@@ -4,7 +4,7 @@ use Rattle.desk_io.specs.Reader.{StandsAt}
 use Rattle.index_file.specs.declared.fault.IndexFault.{IndexFault}
 use Rattle.index_file.specs.Judging.{Reached, ◌>>=◌, after_byte, fed, fault_of, fault_after, index_after}
 
--- bytes behind bytes
+-- bytes after bytes
 pub fed-append : (reached : Result Reached IndexFault) (xs ys : List ℕ) → fed reached (xs ++ ys) ≡ fed (fed reached xs) ys
 fed-append reached [] ys = refl
 fed-append reached (b ∷ xs) ys = fed-append (reached >>= λ p. after_byte p b) xs ys
@@ -18,7 +18,7 @@ fault_is : (reached : Result Reached IndexFault) (e : IndexFault) → fault_of r
 fault_is (Ok p) e is = cc
 fault_is (Err d) e is = cc
 
--- bytes that lead to a fault lead to it with more behind them
+-- bytes that lead to a fault lead to it with more after them
 pub StandsAt-fault : (reached : Result Reached IndexFault) (bytes : List ℕ) (e : IndexFault) → fed reached bytes ≡ Err e → StandsAt fault_after index_after reached bytes e
 StandsAt-fault reached bytes e is = rw is (refl, refl)
 

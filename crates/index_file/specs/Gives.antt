@@ -19,7 +19,7 @@ at_node names at = record { next = Node names; held = []; at = at }
 abbrev pub at_position : HubIndex → Part → ℕ → Reached
 at_position done part at = record { next = Position done part; held = []; at = at }
 
--- some bytes were taken from the front of these, and led so far; the others are left
+-- some bytes were taken from the start of these, and led so far; the others are left
 pub record Takes (old : Reached) (bytes : List ℕ) (new : Reached) (left : List ℕ) : Type 0 where
   pub taken : List ℕ
   pub parts : bytes ≡ taken ++ left

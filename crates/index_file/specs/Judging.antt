@@ -17,18 +17,18 @@ abbrev pub ◌>>=◌ : {A B : Type 0} → Result A IndexFault → (A → Result 
 
 -- ---- which field follows
 
--- behind a row there is the next row, or the end
+-- after a row there is the next row, or the end
 abbrev pub after_row : HubIndex → Next
 after_row done = if length done.rows == length done.order then End done else Count done
 
--- behind an entry there is the next entry, or the row is done
+-- after an entry there is the next entry, or the row is done
 abbrev pub after_entry : HubIndex → Part → Next
 after_entry done part =
     if length part.entries == part.count
     then after_row (with_row done part.entries)
     else Position done part
 
--- behind a node of the order there is the next one, or the first row
+-- after a node of the order there is the next one, or the first row
 abbrev pub after_node : Names → Next
 after_node names =
     if length names.order == names.n
@@ -37,7 +37,7 @@ after_node names =
 
 -- ---- one field
 
--- how many bytes the next field has; behind the end each byte is one field too many
+-- how many bytes the next field has; after the end each byte is one field too many
 abbrev pub width : Next → ℕ
 width Letter = 1
 width Version = 1
@@ -83,18 +83,18 @@ pub record Reached : Type 0 where
 abbrev pub start : Reached
 start = record { next = Letter; held = []; at = 0 }
 
--- behind a whole field
+-- after a whole field
 abbrev pub after_whole : Reached → List ℕ → Result Reached IndexFault
 after_whole p field = after_field p.at p.next (big_number (length field) field) >>= λ next. Ok (record { next = next; held = []; at = p.at + length field })
 
--- behind one byte more, which may make a field whole
+-- after one byte more, which may make a field whole
 abbrev pub after_byte : Reached → ℕ → Result Reached IndexFault
 after_byte p b =
     if length p.held + 1 == width p.next
     then after_whole p (p.held ++ b ∷ [])
     else Ok (record { next = p.next; held = p.held ++ b ∷ []; at = p.at })
 
--- behind all these bytes more
+-- after all these bytes more
 abbrev pub fed : Result Reached IndexFault → List ℕ → Result Reached IndexFault
 fed reached [] = reached
 fed reached (b ∷ bytes) = fed (reached >>= λ p. after_byte p b) bytes

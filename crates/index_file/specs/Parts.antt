@@ -26,7 +26,7 @@ is_new_node names v = nat_le 1 v && (nat_le v names.n && not (list_any (nat_eq v
 abbrev pub with_row : HubIndex → List Entry → HubIndex
 with_row done row = record { order = done.order; rows = done.rows ++ row ∷ [] }
 
--- the node whose row comes behind those that are done, and its position
+-- the node whose row comes after those that are done, and its position
 abbrev pub next_node : HubIndex → ℕ
 next_node done = length done.rows + 1
 

@@ -10,7 +10,7 @@ pub enum IndexFault {
     /// The byte at the offset `at`, below 7, isn't its letter of `CHLABEL`.
     #[error("index: magic {at}")]
     Magic { at: u64 },
-    /// The byte behind the letters isn't 1.
+    /// The byte after the letters isn't 1.
     #[error("index: version {byte}")]
     Version { byte: u8 },
     /// There are more than 2^30 nodes.

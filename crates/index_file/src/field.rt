@@ -108,7 +108,7 @@ fn after_name(alloc: Global, names: Naming, v: u32) -> Result<Next, IndexFault>
     }
 }
 
-/// Behind the last node of the order come the rows.
+/// After the last node of the order come the rows.
 fn after_names(alloc: Global, names: Naming) -> Result<Next, IndexFault>
     requires { AreNames names }
     ensures { Gives result (Ok (after_node names)) }
@@ -120,7 +120,7 @@ fn after_names(alloc: Global, names: Naming) -> Result<Next, IndexFault>
     Ok(after_rows(done))
 }
 
-/// Behind the last row comes the end.
+/// After the last row comes the end.
 fn after_rows(done: Done) -> Next
     ensures { result ≡ after_row done }
 {
@@ -171,7 +171,7 @@ fn after_distance(done: Done, part: PartRow, pos: u32, dist: u64) -> Result<Next
     Ok(next)
 }
 
-/// Behind the last entry the row is done.
+/// After the last entry the row is done.
 fn after_entry(done: Done, mut part: PartRow, entry: Entry) -> Result<Next, AllocError>
     requires above { least_after part.entries ≤ entry.pos }
     requires more { length part.entries < part.count }

@@ -54,7 +54,7 @@ impl Feed for IndexReader {
 
     fn feed(&mut self, piece: &[u8]) -> Result<(), IndexFault> {
         let state = mem::replace(&mut self.state, Err(IndexFault::NoMemory));
-        self.state = behind(self.alloc, state, piece);
+        self.state = after(self.alloc, state, piece);
         match &self.state {
             Ok(_) => Ok(()),
             Err(fault) => Err(*fault),
@@ -62,8 +62,8 @@ impl Feed for IndexReader {
     }
 }
 
-/// Where a reading stands behind the piece; one that was refused stays so.
-fn behind(
+/// Where a reading stands after the piece; one that was refused stays so.
+fn after(
     alloc: Global,
     state: Result<Progress, IndexFault>,
     piece: &[u8],

@@ -13,9 +13,9 @@ pub enum Next {
     Size,
     /// A node of the order.
     Node(Naming),
-    /// The number of entries of the row behind those that are done.
+    /// The number of entries of the row after those that are done.
     Count(Done),
-    /// The position of the entry behind those of this row.
+    /// The position of the entry after those of this row.
     Position(Done, PartRow),
     /// The distance of the entry that has this position.
     Distance(Done, PartRow, u32),

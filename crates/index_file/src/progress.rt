@@ -48,7 +48,7 @@ impl Progress {
         }
     }
 
-    /// Behind the bytes of the piece, or their first fault.
+    /// After the bytes of the piece, or their first fault.
     pub fn feed(self, alloc: Global, piece: &[u8]) -> Result<Progress, IndexFault>
         ensures { Gives result (fed (Ok self) piece.now) }
     {
@@ -120,7 +120,7 @@ impl Progress {
     }
 }
 
-/// Behind a field that the piece holds whole.
+/// After a field that the piece holds whole.
 fn whole(
     alloc: Global,
     next: Next,
@@ -141,7 +141,7 @@ fn whole(
     })
 }
 
-/// Behind one byte of a field, which may make it whole.
+/// After one byte of a field, which may make it whole.
 fn gather(
     alloc: Global,
     next: Next,

@@ -67,7 +67,7 @@ fn the_path_of_three(rt: HostRuntime) -> Result<(), Fail> {
 }
 
 #[test]
-fn a_front_is_short_and_more_is_long(rt: HostRuntime) -> Result<(), Fail> {
+fn a_prefix_is_short_and_more_is_long(rt: HostRuntime) -> Result<(), Fail> {
     let alloc = rt.alloc();
     for size in 0..96 {
         let fault = read(alloc, &PATH[..size], 5).err();

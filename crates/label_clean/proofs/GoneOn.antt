@@ -1,4 +1,4 @@
--- A global table that is gone on with: the labelling up to a position, and what survives of later entries behind it.
+-- A global table that is gone on with: the labelling up to a position, and what survives of later entries after it.
 use Rattle.std.proofs.Common.{◌≡◌, ◌↔◌, ℕ, ◌+◌, ◌<◌, ◌≤◌, List, [], ◌∷◌, ◌++◌, Contains, length, map, refl, sym, subst, ◌∙◌, inl, inr, arith}
 use Rattle.std.proofs.lemmas.Bool.{cases_lt}
 use Rattle.std.proofs.lemmas.List.{length-append, get_or_append_left, get_or-append-add}
@@ -18,7 +18,7 @@ use Rattle.label_clean.proofs.Covering.{pos_of}
 use Rattle.label_clean.proofs.RowFacts.{one_place}
 use Rattle.label_clean.proofs.Cleaned.{surviving_hubs}
 
--- two rising rows, one behind the other
+-- two rising rows, one after the other
 Rises-append : (xs ys : List Entry) → Rises pos_of xs → Rises pos_of ys → ((e f : Entry) → Contains xs e → Contains ys f → e.pos < f.pos) → Rises pos_of (xs ++ ys)
 Rises-append [] ys up more below = more
 Rises-append (x ∷ xs) ys up more below =
@@ -40,8 +40,8 @@ module _ (edges : List Edge) (at : List ℕ) (ranking : IsRanking at) (p c : ℕ
   hubs_kept = surviving_hubs at ranking edges c global raw holds v from_one up_to_n (label_row kept v) (survive v from_one up_to_n)
 
   -- no surviving entry has a position of the table
-  behind : (e f : Entry) → Contains (label_row global v) e → Contains (label_row kept v) f → e.pos < f.pos
-  behind e f there here =
+  after : (e f : Entry) → Contains (label_row global v) e → Contains (label_row kept v) f → e.pos < f.pos
+  after e f there here =
       let row = global_is.row v from_one up_to_n in
       let known = (hubs_kept f).0 here in
       elim (cases_lt f.pos p) [
@@ -58,7 +58,7 @@ module _ (edges : List Edge) (at : List ℕ) (ranking : IsRanking at) (p c : ℕ
       both_rise : Rises pos_of (label_row global v ++ label_row kept v)
       both_rise =
           Rises-append (label_row global v) (label_row kept v) (AllPairs-from_increasing (map pos_of (label_row global v)) (global_is.row v from_one up_to_n).rising)
-          (AllPairs-from_increasing (map pos_of (label_row kept v)) (survive v from_one up_to_n).rising) behind
+          (AllPairs-from_increasing (map pos_of (label_row kept v)) (survive v from_one up_to_n).rising) after
 
       there : (e : Entry) → Contains (label_row global v ++ label_row kept v) e → IsHubEntry (Joined edges) at v e × (e.pos < c)
       there e h = elim (Contains-append_cases (label_row global v) (label_row kept v) e h) [

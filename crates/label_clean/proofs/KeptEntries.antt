@@ -18,7 +18,7 @@ pub record IsKept (P : Entry → Type 0) (row kept : List Entry) : Type 0 where
   pub rises : Rises pos_of kept
   pub each : (e : Entry) → Contains kept e ↔ (Contains row e × ¬ P e)
 
--- a rising row still rises with an entry behind it that is above all others
+-- a rising row still rises with an entry after it that is above all others
 Rises-push : (xs : List Entry) (x : Entry) → Rises pos_of xs → ((e : Entry) → Contains xs e → e.pos < x.pos) → Rises pos_of (xs ++ x ∷ [])
 Rises-push xs x up below =
     subst (λ ks. (i j d : ℕ) → i < j → j < length ks → get_or ks i d < get_or ks j d) (sym (map-append pos_of xs (x ∷ [])))
@@ -93,7 +93,7 @@ module _ (P : Entry → Type 0) where
     pub IsKept-without : P (get_or row i d) → IsKept P (take (i + 1) row) kept
     IsKept-without bad = subst (λ xs. IsKept P xs kept) (sym cut) (one_left_out (take i row) kept (get_or row i d) so_far bad)
 
-  -- behind the last entry the whole row has been gone through
+  -- after the last entry the whole row has been gone through
   pub IsKept-whole : (row kept : List Entry) (i : ℕ) → length row ≤ i → IsKept P (take i row) kept → IsKept P row kept
   IsKept-whole row kept i over so_far = subst (λ xs. IsKept P xs kept) (take_all i row over) so_far
 

@@ -44,7 +44,7 @@ module _ (at : List ℕ) (global near : List (List Entry)) where
     ];
   }
 
-  -- rows behind others
+  -- rows after others
   pub AreKeptRows-append : (from mid to : ℕ) (first second : Kept) → AreKeptRows at global near from mid first → AreKeptRows at global near mid to second → AreKeptRows at global near from to (first ++ second)
   AreKeptRows-append from mid to first second a b = record {
     size = omega (arith, a.size, b.size, length-append first second);

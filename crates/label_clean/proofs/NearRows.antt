@@ -30,9 +30,9 @@ IsRawRow-near n entries row near within = record {
   once = near.once;
 }
 
--- behind an entry that is too far nothing covers
-pub no_cover_behind : (table : List (Option ℕ)) (p d : ℕ) (row : List Entry) (i : ℕ) (none : Entry) → IsNonDecreasingBy dist_of row → i < length row → d < (get_or row i none).dist → All (λ e. IsCover table p d e → ⊥) (take i row) → HasCover table p d row → ⊥
-no_cover_behind table p d row i none nearing within far before (e, (k, k_within, is), cover) = elim (cases_lt k i) [
+-- after an entry that is too far nothing covers
+pub no_cover_after : (table : List (Option ℕ)) (p d : ℕ) (row : List Entry) (i : ℕ) (none : Entry) → IsNonDecreasingBy dist_of row → i < length row → d < (get_or row i none).dist → All (λ e. IsCover table p d e → ⊥) (take i row) → HasCover table p d row → ⊥
+no_cover_after table p d row i none nearing within far before (e, (k, k_within, is), cover) = elim (cases_lt k i) [
   | inl earlier ↦
       All-contains (λ x. IsCover table p d x → ⊥) (take i row) e before (k, omega (arith, earlier, within, length-take i row), get_or-take i row k e earlier ∙ is) cover
   | inr later ↦

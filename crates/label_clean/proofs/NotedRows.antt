@@ -88,7 +88,7 @@ module _ (table : List (Option ℕ)) (row : List Entry) (e : Entry) (h : HoldsLe
     pub HoldsLeast-noted : HoldsLeast (with_noted table e) (row ++ e ∷ [])
     HoldsLeast-noted = record { there = noted_there; least = noted_least }
 
--- the entries before a place, and the one that stands there, behind the rows before
+-- the entries before a place, and the one that stands there, after the rows before
 pub take_more : (before row : List Entry) (i : ℕ) (d : Entry) → i < length row → (before ++ take i row) ++ get_or row i d ∷ [] ≡ before ++ take (i + 1) row
 take_more before row i d within =
     let cut : take (i + 1) row ≡ take i row ++ get_or row i d ∷ [] = rw add-one (take-suc row i d within) in

@@ -29,14 +29,14 @@ pub never_falls : (row : List Entry) → IsStrictlyIncreasing (map pos_of row) �
 never_falls row up i j d le lt = elim (cases_lt i j) [
   | inl before ↦
       omega (arith, AllPairs-from_increasing (map pos_of row) up i j 0 before (omega (arith, lt, length-map row pos_of)), get_or-map pos_of row i d 0 (omega (arith, lt, before)), get_or-map pos_of row j d 0 lt)
-  | inr behind ↦ let is : i ≡ j = omega (arith, le, behind) in omega (arith, ap (λ k. (get_or row k d).pos) is)
+  | inr after ↦ let is : i ≡ j = omega (arith, le, after) in omega (arith, ap (λ k. (get_or row k d).pos) is)
 ]
 
--- an entry that is put behind all that are not above it
+-- an entry that is put after all that are not above it
 pub IsSortedRow-inserted : (row : List Entry) (i : ℕ) (e : Entry) → IsStrictlyIncreasing (map pos_of row) → HasEachOnce (e ∷ row) → i ≤ length row
     → ((k : ℕ) (d : Entry) → k < i → (get_or row k d).pos ≤ e.pos) → ((k : ℕ) (d : Entry) → i ≤ k → k < length row → e.pos ≤ (get_or row k d).pos) → IsSortedRow (e ∷ row) (insert row i e)
-IsSortedRow-inserted row i e up once within before behind =
-    IsSortedRow-from_sort (e ∷ row) (insert row i e) once (IsPermutation-insert row i e) (IsNonDecreasingBy-insert pos_of row i e (never_falls row up) within before behind)
+IsSortedRow-inserted row i e up once within before after =
+    IsSortedRow-from_sort (e ∷ row) (insert row i e) once (IsPermutation-insert row i e) (IsNonDecreasingBy-insert pos_of row i e (never_falls row up) within before after)
 
 -- the row has then one entry more
 pub IsSortedRow-with : (entries row now : List Entry) (e : Entry) → IsSortedRow entries row → IsSortedRow (e ∷ row) now → IsSortedRow (entries ++ e ∷ []) now
@@ -111,7 +111,7 @@ module _ (n p : ℕ) (global : List (List Entry)) (fresh : List NodeEntry) where
     abbrev it : NodeEntry
     it = get_or fresh i d
 
-    -- it is one of its node's entries, behind those so far
+    -- it is one of its node's entries, after those so far
     parted : (v : ℕ) → entries_of_node fresh v ≡ so_many i v ++ entries_of_node (drop i fresh) v
     parted v = ap (λ es. entries_of_node es v) (sym (take-append-drop i fresh)) ∙ entries_of_node-append (take i fresh) (drop i fresh) v
 

@@ -38,7 +38,7 @@ same_entry row e f once (i, i_within, here) (j, j_within, there) same = elim (ca
   | inl level ↦ sym here ∙ get_or_default row i e f i_within ∙ ap (λ k. get_or row k f) level ∙ there
   | inr differ ↦ elim (cases_lt i j) [
     | inl before ↦ absurd (one_place row i j e f once before j_within here there same)
-    | inr behind ↦ absurd (one_place row j i f e once (omega (arith, behind, differ)) i_within there here (sym same))
+    | inr after ↦ absurd (one_place row j i f e once (omega (arith, after, differ)) i_within there here (sym same))
   ]
 ]
 

@@ -47,15 +47,15 @@ among (x ∷ xs) v = elim (cases_eq x v) [
   ]
 ]
 
--- the entries behind a place, where those before it lie before p and the others do not
+-- the entries after a place, where those before it lie before p and the others do not
 pub AreLater-drop : (p i : ℕ) (row : List Entry) → ((k : ℕ) (d : Entry) → k < i → k < length row → (get_or row k d).pos < p) → ((k : ℕ) (d : Entry) → i ≤ k → k < length row → p ≤ (get_or row k d).pos) → AreLater p row (drop i row)
-AreLater-drop p i row before behind e = (there, back)
+AreLater-drop p i row before after e = (there, back)
   where
     there : Contains (drop i row) e → Contains row e × (p ≤ e.pos)
     there (k, within, is) =
         let inside : i + k < length row = omega (arith, within, length-drop i row) in
         let here : get_or row (i + k) e ≡ e = sym (get_or-drop i row k e) ∙ is in
-        ((i + k, inside, here), omega (arith, behind (i + k) e (omega arith) inside, ap pos_of here))
+        ((i + k, inside, here), omega (arith, after (i + k) e (omega arith) inside, ap pos_of here))
 
     back : Contains row e × (p ≤ e.pos) → Contains (drop i row) e
     back ((k, within, is), from) = elim (cases_lt k i) [

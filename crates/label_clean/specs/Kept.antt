@@ -11,7 +11,7 @@ abbrev pub IsKeptRow : List ℕ → List (List Entry) → List (List Entry) → 
 IsKeptRow at global near v None = All (λ e. ¬ IsNeedless at global near v e) (label_row near v)
 IsKeptRow at global near v (Some kept) = IsSurvivingRow at global near v kept.items
 
--- what is kept of the rows of the nodes behind `from` up to `to`
+-- what is kept of the rows of the nodes after `from` up to `to`
 pub record AreKeptRows (at : List ℕ) (global near : List (List Entry)) (from to : ℕ) (kept : List (Option (Vec Entry Global))) : Type 0 where
   pub size : from + length kept ≡ to
   pub each : (k : ℕ) → k < length kept → IsKeptRow at global near (from + k + 1) (get_or kept k None)

@@ -12,6 +12,6 @@ use Rattle.label_clean.specs.Below.{HoldsBelow, IsChlBelow}
 abbrev pub TheWholeIsTheLabelling : Type 0
 TheWholeIsTheLabelling = (edges : List Edge) (at : List ℕ) (rows : List (List Entry)) → IsChlBelow edges at (length at) rows ↔ IsChl (Joined edges) at rows
 
--- where the global table is the labelling up to p, and every hub up to c stands in both tables together, the global rows with what survives of the raw ones behind them are the labelling up to c
+-- where the global table is the labelling up to p, and every hub up to c stands in both tables together, the global rows with what survives of the raw ones after them are the labelling up to c
 abbrev pub SurvivorsGoOn : Type 0
 SurvivorsGoOn = (edges : List Edge) (at : List ℕ) (p c : ℕ) (global raw kept rows : List (List Entry)) → IsRanking at → p ≤ c → IsChlBelow edges at p global → HoldsBelow edges at c global raw → ((v : ℕ) → 1 ≤ v → v ≤ length at → IsSurvivingRow at global raw v (label_row kept v)) → length rows ≡ length at → ((v : ℕ) → 1 ≤ v → v ≤ length at → label_row rows v ≡ label_row global v ++ label_row kept v) → IsChlBelow edges at c rows

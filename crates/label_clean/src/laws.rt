@@ -6,7 +6,7 @@ pub fn the_whole_is_the_labelling()
     ensures { TheWholeIsTheLabelling }
 {}
 
-/// A global table that is the labelling up to a position is gone on with by putting what survives of raw rows behind its
+/// A global table that is the labelling up to a position is gone on with by putting what survives of raw rows after its
 /// rows.
 pub fn survivors_go_on()
     ensures { SurvivorsGoOn }

@@ -62,7 +62,7 @@ fn put_in(
     insert_entry(&mut rows[place], entry.entry())
 }
 
-/// Puts the node behind the touched ones where its row has just one entry from `first` on. The only error is that memory
+/// Puts the node after the touched ones where its row has just one entry from `first` on. The only error is that memory
 /// ran out.
 fn note_node(touched: &mut Vec<u32>, node: u32, row: &[Entry], first: u32) -> Result<(), AllocError>
     requires { IsStrictlyIncreasing (map (λ e. e.pos) row.now) }
@@ -102,17 +102,17 @@ fn insert_entry(row: &mut Vec<Entry>, entry: Entry) -> Result<(), AllocError>
     requires once { HasEachOnce (entry ∷ row.old.items) }
     ensures { OnOk result (IsSortedRow (entry ∷ row.old.items) row.new.items) }
 {
-    let place = place_behind(row.as_slice(), entry.pos);
+    let place = place_after(row.as_slice(), entry.pos);
     row.insert(place, entry)?;
     Ok(())
 }
 
-/// The place behind the entries of a row by rising position that are not above `pos`. It is sought from the end.
-fn place_behind(row: &[Entry], pos: u32) -> usize
+/// The place after the entries of a row by rising position that are not above `pos`. It is sought from the end.
+fn place_after(row: &[Entry], pos: u32) -> usize
     requires { IsStrictlyIncreasing (map (λ e. e.pos) row.now) }
     ensures within { result ≤ length row.now }
     ensures before { (k : ℕ) (d : AnEntry) → k < result → (get_or row.now k d).pos ≤ pos }
-    ensures behind { (k : ℕ) (d : AnEntry) → result ≤ k → k < length row.now → pos ≤ (get_or row.now k d).pos }
+    ensures after { (k : ℕ) (d : AnEntry) → result ≤ k → k < length row.now → pos ≤ (get_or row.now k d).pos }
 {
     let mut place = row.len();
     while place > 0 {

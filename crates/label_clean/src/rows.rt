@@ -30,7 +30,7 @@ pub fn together(alloc: Global, global: &RowList, raw: &RowList) -> Result<RowLis
     Ok(RowList::from_rows(rows))
 }
 
-/// A row behind another. The only error is that memory ran out.
+/// A row after another. The only error is that memory ran out.
 fn both(alloc: Global, first: &[Entry], second: &[Entry]) -> Result<Vec<Entry>, AllocError>
     ensures { IfOk result (λ row. row.items ≡ first.now ++ second.now) }
 {

@@ -122,7 +122,7 @@ fn kept_row(
     Ok(Some(row))
 }
 
-/// What is kept of the rows of the nodes behind `from` up to `to`, tested one after another with one table. The only error
+/// What is kept of the rows of the nodes after `from` up to `to`, tested one after another with one table. The only error
 /// is that memory ran out.
 fn test_in_turn(
     alloc: Global,
@@ -145,7 +145,7 @@ fn test_in_turn(
     Ok(kept)
 }
 
-/// Some node up to which the rows behind `from` have about half the entries of those up to `to`.
+/// Some node up to which the rows after `from` have about half the entries of those up to `to`.
 fn halfway(rows: &RowList, from: u32, to: u32) -> u32
     requires rising { from ≤ to }
     requires within { to ≤ length rows.now }
@@ -156,17 +156,17 @@ fn halfway(rows: &RowList, from: u32, to: u32) -> u32
     for place in from..to {
         entries = entries.saturating_add(rows.row(place + 1).len() as u64);
     }
-    let mut behind = 0u64;
+    let mut after = 0u64;
     for place in from..to {
-        behind = behind.saturating_add(rows.row(place + 1).len() as u64);
-        if behind >= entries / 2 {
+        after = after.saturating_add(rows.row(place + 1).len() as u64);
+        if after >= entries / 2 {
             return place + 1;
         }
     }
     to
 }
 
-/// What is kept of the rows of the nodes behind `from` up to `to`, tested in pieces of about equal numbers of entries, side
+/// What is kept of the rows of the nodes after `from` up to `to`, tested in pieces of about equal numbers of entries, side
 /// by side: so many times they are cut in two. Each piece has a table of its own. The only error is that memory ran out.
 #[cycle(halves)]
 pub fn test_rows<R: Threads + Sync>(

@@ -28,7 +28,7 @@ use Rattle.label_pool.specs.Steps.{Drew, FilledNext, FilledDist, Found, LinkedTo
 use Rattle.label_pool.proofs.Cells.{chain-most}
 use Rattle.label_pool.proofs.Seats as seats
 use Rattle.label_pool.proofs.Steps as steps
-use Rattle.label_pool.proofs.Tails.{named-small, seen-still, tail-further, cell-at, all-behind}
+use Rattle.label_pool.proofs.Tails.{named-small, seen-still, tail-further, cell-at, all-after}
 
 module _ {F : Type 0} (fact : F → ℕ → Entry → Type 0) (about : About F) (slots id : ℕ) where
   module _ (me : Sitter F) (live : 1 ≤ me.0.seats) where
@@ -124,8 +124,8 @@ module _ {F : Type 0} (fact : F → ℕ → Entry → Type 0) (about : About F) 
             let old = (lawful.chains look.node node).1 in
             let still = All-contains (λ x. x.node ≡ look.node → IsTailOf x.found chain) me.0.knows.looks look (old.found id me.0 at) there refl in
             let whole = tail-further (l ∷ ls) look.found chain tail still in
-            let holds = cell-at about.n s.words whole.front l ls (subst (IsChain about.n s.words) whole.parted old.linked) in
-            let rest = named-small about.cells ls (all-behind (IsWithin about.cells) (whole.front ++ l ∷ []) ls (subst (All (IsWithin about.cells)) (whole.parted ∙ sym (append_assoc whole.front (l ∷ []) ls)) old.within)) in
+            let holds = cell-at about.n s.words whole.prefix l ls (subst (IsChain about.n s.words) whole.parted old.linked) in
+            let rest = named-small about.cells ls (all-after (IsWithin about.cells) (whole.prefix ++ l ∷ []) ls (subst (All (IsWithin about.cells)) (whole.parted ∙ sym (append_assoc whole.prefix (l ∷ []) ls)) old.within)) in
             record {
               next = λ is.
                   let read = ap (slice_index s.words) (is ∙ ap (λ k. next_at k l.cell) n) in
@@ -157,7 +157,7 @@ module _ {F : Type 0} (fact : F → ℕ → Entry → Type 0) (about : About F) 
                 let u_is : u ≡ v = omega (arith, word) in (
                   λ _. subst (λ x. IsLink me x (knowing me.0 (steps.linked fact about s id me.0 at lawful live v here cell next dist is name_is fact_here), me.1)) (sym u_is)
                       (record {
-                        behind = chain;
+                        older = chain;
                         goes_on = seen-still v chain me.0.knows.marks (old.seen id me.0 at);
                         view = ap (λ (l : Linked). knowing me.0 (record me.0.knows { filling = None; puts = me.0.knows.puts ++ record { node = v; linked = l } ∷ []; marks = record { node = v; found = l ∷ chain } ∷ me.0.knows.marks })) (sym (ap linked_of is));
                         slots = refl;

@@ -37,14 +37,14 @@ module _ {F : Type 0} where
       after_is = (λ k. seated (same k) left (after_is k).knows) ∙ ap (λ (b : Seated F). record b { looks = b.looks ++ record { node = v; found = found } ∷ []; marks = record { node = v; found = found } ∷ b.marks }) is;
     }
 
-    pub has-put : (v : ℕ) (e : Entry) (cell : ℕ) (behind : List Linked) → IsTailOf (seen_of me.knows.marks v) behind → (filling : Option Filling) → linked_of filling ≡ record { cell = cell; entry = e }
-        → after ≡ knowing me (with_link (with_filling me.knows filling) v behind) → HasPut before v e (seated id' left after.knows)
-    has-put v e cell behind goes_on filling linked after_is = record {
+    pub has-put : (v : ℕ) (e : Entry) (cell : ℕ) (older : List Linked) → IsTailOf (seen_of me.knows.marks v) older → (filling : Option Filling) → linked_of filling ≡ record { cell = cell; entry = e }
+        → after ≡ knowing me (with_link (with_filling me.knows filling) v older) → HasPut before v e (seated id' left after.knows)
+    has-put v e cell older goes_on filling linked after_is = record {
       cell = cell;
-      behind = behind;
-      goes_on = subst (λ marks. IsTailOf (seen_of marks v) behind) (ap (λ b. b.marks) is) goes_on;
+      older = older;
+      goes_on = subst (λ marks. IsTailOf (seen_of marks v) older) (ap (λ b. b.marks) is) goes_on;
       after_is =
           (λ k. seated (same k) left (after_is k).knows)
-          ∙ ap (λ (l : Linked). seated id left (record me.knows { filling = None; puts = me.knows.puts ++ record { node = v; linked = l } ∷ []; marks = record { node = v; found = l ∷ behind } ∷ me.knows.marks })) linked
-          ∙ ap (λ (b : Seated F). record b { puts = b.puts ++ record { node = v; linked = record { cell = cell; entry = e } } ∷ []; marks = record { node = v; found = record { cell = cell; entry = e } ∷ behind } ∷ b.marks }) is;
+          ∙ ap (λ (l : Linked). seated id left (record me.knows { filling = None; puts = me.knows.puts ++ record { node = v; linked = l } ∷ []; marks = record { node = v; found = l ∷ older } ∷ me.knows.marks })) linked
+          ∙ ap (λ (b : Seated F). record b { puts = b.puts ++ record { node = v; linked = record { cell = cell; entry = e } } ∷ []; marks = record { node = v; found = record { cell = cell; entry = e } ∷ older } ∷ b.marks }) is;
     }

@@ -1,4 +1,4 @@
--- What all seats have, one behind another, as views change: the same in another order, with what came.
+-- What all seats have, one after another, as views change: the same in another order, with what came.
 use Rattle.std.proofs.Common.{◌≡◌, ◌≢◌, ℕ, zero, suc, List, [], ◌∷◌, ◌++◌, set, refl, sym, ap, ◌∙◌, subst, arith}
 use Rattle.std.specs.List.{flat_map}
 use Rattle.std.specs.List.Sorted.{IsPermutation}

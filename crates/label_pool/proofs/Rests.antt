@@ -29,7 +29,7 @@ rest-at looks cell (l ∷ ls) r = record { look = r.look; l = l; ls = ls; there 
 pub cell-within : (looks : List Look) (cells cell : ℕ) → All (λ look. All (λ l. l.cell < cells) look.found) looks → IsAt looks cell → cell < cells
 cell-within looks cells cell within at =
     let found = All-contains (λ look. All (λ l. l.cell < cells) look.found) looks at.look within at.there in
-    subst (λ c. c < cells) at.is (all-at (λ l. l.cell < cells) at.tail.front at.l at.ls (subst (All (λ l. l.cell < cells)) at.tail.parted found))
+    subst (λ c. c < cells) at.is (all-at (λ l. l.cell < cells) at.tail.prefix at.l at.ls (subst (All (λ l. l.cell < cells)) at.tail.parted found))
 
 -- what a walk gives that stands at a cell
 pub next-given : (looks : List Look) (cell : ℕ) (given : Option Entry) (at : Option ℕ) (rest : List Linked)

@@ -252,7 +252,7 @@ module _ {F : Type 0} (fact : F → ℕ → Entry → Type 0) (about : About F) 
           further : (looks : List Look) → StillIn v chain looks → StillIn v (mine ∷ chain) looks
           further looks still = All-weaker (λ look. look.node ≡ v → IsTailOf look.found chain) (λ look. look.node ≡ v → IsTailOf look.found (mine ∷ chain)) (λ look t node_is. tail-under look.found chain mine (t node_is)) looks still
 
-      -- the open cell is linked in front of the chain
+      -- the open cell is linked before the chain
       pub links : IsLawful fact about (Next After linked)
       links =
           let seated = seated_here in

@@ -9,33 +9,33 @@ use Rattle.label_pool.specs.Chains.{named, first_cell, HoldsCell, IsChain, IsWit
 use Rattle.label_pool.specs.Lawful.{StillIn}
 
 pub tail-self : (chain : List Linked) → IsTailOf chain chain
-tail-self chain = record { front = []; parted = refl }
+tail-self chain = record { prefix = []; parted = refl }
 
 pub tail-nothing : (chain : List Linked) → IsTailOf [] chain
-tail-nothing chain = record { front = chain; parted = sym (append-nil chain) }
+tail-nothing chain = record { prefix = chain; parted = sym (append-nil chain) }
 
 pub tail-under : (tail chain : List Linked) (l : Linked) → IsTailOf tail chain → IsTailOf tail (l ∷ chain)
-tail-under tail chain l t = record { front = l ∷ t.front; parted = ap (λ ls. l ∷ ls) t.parted }
+tail-under tail chain l t = record { prefix = l ∷ t.prefix; parted = ap (λ ls. l ∷ ls) t.parted }
 
 pub tail-further : (tail whole chain : List Linked) → IsTailOf tail whole → IsTailOf whole chain → IsTailOf tail chain
-tail-further tail whole chain t u = record { front = u.front ++ t.front; parted = u.parted ∙ ap (λ ls. u.front ++ ls) t.parted ∙ sym (append_assoc u.front t.front tail) }
+tail-further tail whole chain t u = record { prefix = u.prefix ++ t.prefix; parted = u.parted ∙ ap (λ ls. u.prefix ++ ls) t.parted ∙ sym (append_assoc u.prefix t.prefix tail) }
 
--- the end behind the first cell of an end
+-- the end after the first cell of an end
 pub tail-rest : (l : Linked) (ls chain : List Linked) → IsTailOf (l ∷ ls) chain → IsTailOf ls chain
-tail-rest l ls chain t = record { front = t.front ++ l ∷ []; parted = t.parted ∙ sym (append_assoc t.front (l ∷ []) ls) }
+tail-rest l ls chain t = record { prefix = t.prefix ++ l ∷ []; parted = t.parted ∙ sym (append_assoc t.prefix (l ∷ []) ls) }
 
 -- the cell at which an end begins holds its entry, and the name of the next
-pub cell-at : (n : ℕ) (words : List ℕ) (front : List Linked) (l : Linked) (ls : List Linked) → IsChain n words (front ++ l ∷ ls) → HoldsCell n words l (named (first_cell ls))
+pub cell-at : (n : ℕ) (words : List ℕ) (prefix : List Linked) (l : Linked) (ls : List Linked) → IsChain n words (prefix ++ l ∷ ls) → HoldsCell n words l (named (first_cell ls))
 cell-at n words [] l ls chain = chain.0
-cell-at n words (m ∷ front) l ls chain = cell-at n words front l ls chain.1
+cell-at n words (m ∷ prefix) l ls chain = cell-at n words prefix l ls chain.1
 
-pub all-at : (P : Linked → Type 0) (front : List Linked) (l : Linked) (ls : List Linked) → All P (front ++ l ∷ ls) → P l
+pub all-at : (P : Linked → Type 0) (prefix : List Linked) (l : Linked) (ls : List Linked) → All P (prefix ++ l ∷ ls) → P l
 all-at P [] l ls all = All-head P l ls all
-all-at P (m ∷ front) l ls all = all-at P front l ls (All-tail P m (front ++ l ∷ ls) all)
+all-at P (m ∷ prefix) l ls all = all-at P prefix l ls (All-tail P m (prefix ++ l ∷ ls) all)
 
-pub all-behind : (P : Linked → Type 0) (front ls : List Linked) → All P (front ++ ls) → All P ls
-all-behind P [] ls all = all
-all-behind P (m ∷ front) ls all = all-behind P front ls (All-tail P m (front ++ ls) all)
+pub all-after : (P : Linked → Type 0) (prefix ls : List Linked) → All P (prefix ++ ls) → All P ls
+all-after P [] ls all = all
+all-after P (m ∷ prefix) ls all = all-after P prefix ls (All-tail P m (prefix ++ ls) all)
 
 -- the name of the first of so many cells is small
 pub named-small : (cells : ℕ) (chain : List Linked) → All (IsWithin cells) chain → named (first_cell chain) ≤ cells

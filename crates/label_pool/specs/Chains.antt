@@ -49,8 +49,8 @@ entries_at_node v = map (λ e. record { node = v; pos = e.pos; dist = e.dist })
 
 -- the one chain is the end of the other
 pub record IsTailOf (tail whole : List Linked) : Type 0 where
-  pub front : List Linked
-  pub parted : whole ≡ front ++ tail
+  pub prefix : List Linked
+  pub parted : whole ≡ prefix ++ tail
 
 -- the chain of the node v as it was last seen, by the last of these marks, which come newest first
 abbrev pub seen_of : List Look → ℕ → List Linked

@@ -46,7 +46,7 @@ module _ {F : Type 0} (fact : F → ℕ → Entry → Type 0) where
   FindsKeep = (about : About F) (s : Table F) (id : ℕ) (me : SeatView (View F)) (v : ℕ) → IsLawful fact about s → IsSeat s.views id me → IsNode about.n v
       → (chain : List Linked) × IsChainOf fact about s v chain × IsLawful fact about (with_view s id me (with_look me.knows v chain))
 
-  -- a seat links its filled cell, which names the head that it finds, in front of the chain
+  -- a seat links its filled cell, which names the head that it finds, before the chain
   abbrev pub LinksKeep : Type 0
   LinksKeep = (about : About F) (s : Table F) (id : ℕ) (me : SeatView (View F)) (v cell next dist : ℕ) → IsLawful fact about s → IsSeat s.views id me → IsNode about.n v
       → me.knows.filling ≡ Some (filled cell (Some next) dist) → name_in next ≡ slice_index s.words (head_at v) → fact about.fact v (record { pos = pos_in next; dist = dist })

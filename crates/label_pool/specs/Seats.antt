@@ -48,12 +48,12 @@ module _ {F : Type 0} where
   IsMet fact None v e = ⊥
   IsMet fact (Some value) v e = fact value v e
 
-  -- The seat put the entry at the node v: the chain that it saw by that has its cell in front, then what others put meanwhile, and what it had seen before at the end
+  -- The seat put the entry at the node v: the chain that it saw by that has its cell first, then what others put meanwhile, and what it had seen before at the end
   pub record HasPut (before : Seated F) (v : ℕ) (e : Entry) (after : Seated F) : Type 0 where
     pub cell : ℕ
-    pub behind : List Linked
-    pub goes_on : IsTailOf (seen_of before.marks v) behind
-    pub after_is : after ≡ record before { puts = before.puts ++ record { node = v; linked = record { cell = cell; entry = e } } ∷ []; marks = record { node = v; found = record { cell = cell; entry = e } ∷ behind } ∷ before.marks }
+    pub older : List Linked
+    pub goes_on : IsTailOf (seen_of before.marks v) older
+    pub after_is : after ≡ record before { puts = before.puts ++ record { node = v; linked = record { cell = cell; entry = e } } ∷ []; marks = record { node = v; found = record { cell = cell; entry = e } ∷ older } ∷ before.marks }
 
   -- The seat found this chain at the node v: what it had seen before is its end, all its entries meet the fact, and it has no more cells than the pool
   pub record HasFound (fact : F → ℕ → Entry → Type 0) (pool : PoolId F) (before : Seated F) (v : ℕ) (found : List Linked) (after : Seated F) : Type 0 where

@@ -60,15 +60,15 @@ module _ {F : Type 0} where
   abbrev pub Found : (F → ℕ → Entry → Type 0) → Step (Unit {0}) → Sitter F → ℕ → Sitter F → Type 0
   Found fact step me number after = (v : ℕ) → step.word ≡ head_at v → IsFound fact me v number after
 
-  -- what a seat knows that linked its open cell in front of this chain
+  -- what a seat knows that linked its open cell before this chain
   abbrev pub with_link : View F → ℕ → List Linked → View F
-  with_link v node behind = record v { filling = None; puts = v.puts ++ record { node = node; linked = linked_of v.filling } ∷ []; marks = record { node = node; found = linked_of v.filling ∷ behind } ∷ v.marks }
+  with_link v node older = record v { filling = None; puts = v.puts ++ record { node = node; linked = linked_of v.filling } ∷ []; marks = record { node = node; found = linked_of v.filling ∷ older } ∷ v.marks }
 
   -- what a link tells where the head was the one that was expected
   pub record IsLink (me : Sitter F) (v : ℕ) (after : Sitter F) : Type 0 where
-    pub behind : List Linked
-    pub goes_on : IsTailOf (seen_of me.0.knows.marks v) behind
-    pub view : after.0 ≡ knowing me.0 (with_link me.0.knows v behind)
+    pub older : List Linked
+    pub goes_on : IsTailOf (seen_of me.0.knows.marks v) older
+    pub view : after.0 ≡ knowing me.0 (with_link me.0.knows v older)
     pub slots : after.1 ≡ me.1
 
   -- where it was another, nothing has changed

@@ -58,7 +58,7 @@ pub fn listed(
     Ok(list)
 }
 
-/// Puts entries of a node, a number from 1, behind others. The only error is that memory ran out.
+/// Puts entries of a node, a number from 1, after others. The only error is that memory ran out.
 fn list_entries(list: &mut Vec<NodeEntry>, node: u32, entries: &[Entry]) -> Result<(), AllocError>
     ensures { OnOk result (list.new.items ≡ list.old.items ++ entries_at_node node entries.now) }
 {

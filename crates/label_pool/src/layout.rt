@@ -1,4 +1,4 @@
-//! Which word of a pool's table holds what. The cells stand behind the heads, and neither shares a line of the cache with
+//! Which word of a pool's table holds what. The cells stand after the heads, and neither shares a line of the cache with
 //! the counter or with the other. A cell has two words, which begin at an even word, so that no cell lies on two lines: the
 //! name of the next cell, in the high half, with the position, and the distance. Who gives a cell more words, or a distance
 //! two, changes this file and `specs/Layout`.

@@ -1,4 +1,4 @@
-//! A put, behind its draw: the drawn cell is filled, and linked in front of a chain.
+//! A put, after its draw: the drawn cell is filled, and linked before a chain.
 ghost use Rattle.std.specs.Prelude.{◌≡◌, ◌<◌, ◌≤◌, ℕ, Some, None, List};
 ghost use Rattle.hub_index.specs.Views.{IsNode};
 ghost use Rattle.table_seats.specs.Seats.{knowing};
@@ -37,7 +37,7 @@ pub fn fill<F: LinkFact>(
     words.store::<FillsDist>(seat, dist_word(n, cell), dist);
 }
 
-/// Links the filled cell, a number from 0, in front of the chain of the node `v`, a number from 1, in a pool of `n` nodes. It
+/// Links the filled cell, a number from 0, before the chain of the node `v`, a number from 1, in a pool of `n` nodes. It
 /// stores the position with the name of the first cell of the chain as its next, and tries one exchange of the head; where
 /// another came first it tries again with the head that it found.
 pub fn link<F: LinkFact, R: Wait>(
@@ -56,8 +56,8 @@ pub fn link<F: LinkFact, R: Wait>(
     requires node { IsNode n v }
     requires filled { (dist : ℕ) × (seat.old.me.0.knows.filling ≡ Some (filled cell None dist)) × IsMet F.fact seat.old.me.0.knows.fact v (record { pos = pos; dist = dist }) }
     ensures same { (seat.new.table_id ≡ seat.old.table_id) × (seat.new.id ≡ seat.old.id) }
-    ensures linked { (behind : List Linked) × (next : ℕ) × (pos_in next ≡ pos) × IsTailOf (seen_of seat.old.me.0.knows.marks v) behind
-        × (seat.new.me ≡ (knowing seat.old.me.0 (with_link (with_filling seat.old.me.0.knows (with_next (Some next) seat.old.me.0.knows.filling)) v behind), seat.old.me.1)) }
+    ensures linked { (older : List Linked) × (next : ℕ) × (pos_in next ≡ pos) × IsTailOf (seen_of seat.old.me.0.knows.marks v) older
+        × (seat.new.me ≡ (knowing seat.old.me.0 (with_link (with_filling seat.old.me.0.knows (with_next (Some next) seat.old.me.0.knows.filling)) v older), seat.old.me.1)) }
 {
     let mut head = words.peek(head_word(v));
     for _ in rt.forever() {

@@ -98,7 +98,7 @@ impl<F: LinkFact> Pool<F> {
         Ok((pool, PoolSeat { seat, left }))
     }
 
-    /// Puts the entry in front of the chain of the node `v`, a number from 1. It draws one cell number, once; where no cell
+    /// Puts the entry before the chain of the node `v`, a number from 1. It draws one cell number, once; where no cell
     /// has that number it answers Full, and the seat is past the cells and puts no more. It tries its link again where
     /// others came first, which may take forever as far as its contract goes.
     pub fn put<R: Wait>(&self, rt: &R, seat: &mut PoolSeat<F>, v: u32, entry: Entry) -> PoolPut

@@ -113,7 +113,7 @@ impl<F: LinkFact> Play<(), SeatView<View<F>>> for Finds {
     ghost then = { Found F.fact };
 }
 
-/// The open cell is linked in front of a chain, where its head is the one that was expected.
+/// The open cell is linked before a chain, where its head is the one that was expected.
 pub struct Links;
 
 impl<F: LinkFact> Play<(), SeatView<View<F>>> for Links {

@@ -24,21 +24,21 @@ use Rattle.label_rows.proofs.SeenRows.{goes_on-self, goes_on-further, visits-her
 use Rattle.label_rows.proofs.Steps.{StillIn, places_at, next_lawful}
 use Rattle.label_rows.proofs.Turn.{no_turn, one_turn, one_row}
 
--- the seat that gave the turn of v back, with an entry put behind the row or none
+-- the seat that gave the turn of v back, with an entry put after the row or none
 abbrev pub went : SeatView View → ℕ → List Entry → Option Entry → SeatView View
 went me v found put = knowing me (record me.knows { hold = None; visits = me.knows.visits ++ record { node = v; found = found; put = put } ∷ [] })
 
-behind : (found : List Entry) (put : Option Entry) → slice_get (found ++ put_list put) (length found) ≡ put
-behind [] None = refl
-behind [] (Some e) = refl
-behind (x ∷ xs) put = behind xs put
+after : (found : List Entry) (put : Option Entry) → slice_get (found ++ put_list put) (length found) ≡ put
+after [] None = refl
+after [] (Some e) = refl
+after (x ∷ xs) put = after xs put
 
 pub gave-is : (me : SeatView View) (v : ℕ) (found : List Entry) (put : Option Entry) → Holds me v found → gave me (found ++ put_list put) ≡ went me v found put
 gave-is me v found put holds =
     ap (λ held. knowing me (record me.knows { hold = None; visits = me.knows.visits ++ visits_by held (found ++ put_list put) })) holds
-    ∙ ap (went me v found) (behind found put)
+    ∙ ap (went me v found) (after found put)
 
--- the numbers below the length of a row, behind which an entry is put
+-- the numbers below the length of a row, after which an entry is put
 numbers-put : (row : List Entry) (put : Option Entry) (x : ℕ) → times x (numbers 0 (length (row ++ put_list put))) ≡ times x (numbers 0 (length row)) + times x (place_of put (length row))
 numbers-put row None x = let a = ap (λ es. times x (numbers 0 (length es))) (append-nil row) in let none : times x [] ≡ 0 = refl in omega arith
 numbers-put row (Some e) x =
@@ -91,7 +91,7 @@ module _ (about : About) (s : Table) (id : ℕ) (me : SeatView View) (at : get_e
       visits = visits-else me.knows.visits Made u (λ is. other (sym is));
     })
 
-  -- a turn is given back, with the row that was found, or with that and one entry behind it
+  -- a turn is given back, with the row that was found, or with that and one entry after it
   pub gives : (found : List Entry) (put : Option Entry) → Holds me v found → All (EntryFits (Joined about.graph.value.edges) about.ranking.value v) (put_list put)
       → IsLawful about (record { words = set s.words v 0; homes = set s.homes (v - 1) (some (found ++ put_list put)); views = set s.views id (gave me (found ++ put_list put)) })
   gives found put holds fits =

@@ -18,10 +18,10 @@ use Rattle.label_rows.proofs.SeenRows.{longest-still, longest-places}
 nothing : Entry
 nothing = record { pos = 0; dist = 0 }
 
--- the entry behind others in a row that goes on from them
-behind : (found more : List Entry) (e : Entry) → get_or ((found ++ e ∷ []) ++ more) (length found) nothing ≡ e
-behind [] more e = refl
-behind (x ∷ xs) more e = behind xs more e
+-- the entry after others in a row that goes on from them
+after : (found more : List Entry) (e : Entry) → get_or ((found ++ e ∷ []) ++ more) (length found) nothing ≡ e
+after [] more e = refl
+after (x ∷ xs) more e = after xs more e
 
 -- the entries that were put are those of the row at their places
 puts-at : (row : List Entry) (xs : List Visit) → All (λ x. GoesOnFrom (left_by x) row) xs
@@ -34,7 +34,7 @@ puts-at row (x ∷ xs) all =
   where
     at_place : (put : Option Entry) → GoesOnFrom (x.found ++ put_list put) row → put_list put ≡ map (λ i. get_or row i nothing) (place_of put (length x.found))
     at_place None g = refl
-    at_place (Some e) g = ap (λ y. y ∷ []) (sym (ap (λ es. get_or es (length x.found) nothing) g.grown ∙ behind x.found g.more e))
+    at_place (Some e) g = ap (λ y. y ∷ []) (sym (ap (λ es. get_or es (length x.found) nothing) g.grown ∙ after x.found g.more e))
 
 -- a row is its entries at the numbers below its length
 each_place : (row before : List Entry) → map (λ i. get_or (before ++ row) i nothing) (range_with_len (length before) (length row)) ≡ row
@@ -42,7 +42,7 @@ each_place [] before = refl
 each_place (e ∷ es) before =
     let longer : length (before ++ e ∷ []) ≡ length before + 1 = length-append before (e ∷ []) in
     let whole : (before ++ e ∷ []) ++ es ≡ before ++ e ∷ es = append_assoc before (e ∷ []) es in
-    let here : get_or (before ++ e ∷ es) (length before) nothing ≡ e = ap (λ xs. get_or xs (length before) nothing) (sym whole) ∙ behind before es e in
+    let here : get_or (before ++ e ∷ es) (length before) nothing ≡ e = ap (λ xs. get_or xs (length before) nothing) (sym whole) ∙ after before es e in
     let rest =
     ap (λ k. map (λ i. get_or (before ++ e ∷ es) i nothing) (range_with_len k (length es))) (sym longer)
     ∙ ap (λ xs. map (λ i. get_or xs i nothing) (range_with_len (length (before ++ e ∷ [])) (length es))) (sym whole)

@@ -51,7 +51,7 @@ longer-length a b = dite (dec_lt (length b) (length a))
     (λ less. let is = ap (λ t. length (if t then a else b)) (lt-ltb (length b) (length a) less) in (omega arith, omega arith))
     (λ more. let is = ap (λ t. length (if t then a else b)) (le-ltb (length b) (length a) (omega arith)) in (omega arith, omega arith))
 
--- where an entry was put behind k others, the longest row that was left has more than k
+-- where an entry was put after k others, the longest row that was left has more than k
 pub longest-places : (k : ℕ) (xs : List Visit) → 0 < times k (flat_map (λ x. place_of x.put (length x.found)) xs) → k < length (longest (map left_by xs))
 longest-places k [] some = absurd (omega arith)
 longest-places k (x ∷ xs) some =
@@ -117,8 +117,8 @@ module _ (visits : List Visit) (x : Visit) (u : ℕ) (other : x.node ≢ u) wher
   pub puts-else : puts_of (visits ++ x ∷ []) u ≡ puts_of visits u
   puts-else = ap (flat_map (λ y. put_list y.put)) (visits-else visits x u other)
 
--- the list with the entry behind it where it was put
-pub put-behind : (entries : List Entry) (e : Entry) (answer : Offer) → entries ++ put_list (put_by e answer) ≡ with_put entries e answer
-put-behind entries e Put = refl
-put-behind entries e (Covered pos dist) = append-nil entries
-put-behind entries e NoMemory = append-nil entries
+-- the list with the entry after it where it was put
+pub put-after : (entries : List Entry) (e : Entry) (answer : Offer) → entries ++ put_list (put_by e answer) ≡ with_put entries e answer
+put-after entries e Put = refl
+put-after entries e (Covered pos dist) = append-nil entries
+put-after entries e NoMemory = append-nil entries

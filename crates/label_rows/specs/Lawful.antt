@@ -71,7 +71,7 @@ nothing = record { edges = []; order = []; all = 0; hold = None; visits = [] }
 pub record IsLawful (about : About) (s : Table) : Type 0 where
   -- the seats, with those that may still be split from them, are as many as the rows have, and all are of one graph and one ranking
   pub seating : IsSeating about.seats (IsSeated about) nothing s.views
-  -- a word for each node, behind one that is always 0, and a slot for each node
+  -- a word for each node, after one that is always 0, and a slot for each node
   pub words : length s.words ≡ length about.ranking.value + 1
   pub zero : slice_index s.words 0 ≡ 0
   pub slots : length s.homes ≡ length about.ranking.value
@@ -119,7 +119,7 @@ slot_row (slot ∷ others) = slot.1
 abbrev pub Gave : Step (List Entry) → Sitter → ℕ → Sitter → Type 0
 Gave step me found after = (after.0 ≡ gave me.0 (slot_row me.1)) × (after.1 ≡ rest me.1)
 
--- a seat which has the turn of v may give back the row that it found, or that with one entry behind it which may stand there
+-- a seat which has the turn of v may give back the row that it found, or that with one entry after it which may stand there
 pub record MayGive (seat : SeatView View) (v : ℕ) (row : List Entry) : Type 0 where
   pub found : List Entry
   pub put : Option Entry

@@ -32,7 +32,7 @@ abbrev pub TakesKeep : Type 0
 TakesKeep = (about : About) (s : Table) (id : ℕ) (me : SeatView View) (v : ℕ) → IsLawful about s → IsSeat s id me → me.knows.hold ≡ None → IsNode (length about.ranking.value) v → slice_index s.words v ≡ 0
     → (row : List Entry) × (get_elem? s.homes (v - 1) ≡ some (some row)) × IsLawful about (with_turn s v 1 none id (took me v row))
 
--- a seat gives a turn back with the row that it found, or with that and one entry behind it which may stand there
+-- a seat gives a turn back with the row that it found, or with that and one entry after it which may stand there
 abbrev pub GivesKeep : Type 0
 GivesKeep = (about : About) (s : Table) (id : ℕ) (me : SeatView View) (v : ℕ) (found : List Entry) (put : Option Entry) → IsLawful about s → IsSeat s id me → IsNode (length about.ranking.value) v → Holds me v found
     → All (EntryFits (Joined about.graph.value.edges) about.ranking.value v) (put_list put) → IsLawful about (with_turn s v 0 (some (found ++ put_list put)) id (gave me (found ++ put_list put)))

@@ -20,7 +20,7 @@ put_by e NoMemory = None
 abbrev pub visit_of : ℕ → List Entry → Option Entry → Visit
 visit_of v found put = record { node = v; found = found; put = put }
 
--- the row as the visit left it: the row that it found, with the entry that it put behind it
+-- the row as the visit left it: the row that it found, with the entry that it put after it
 abbrev pub left_by : Visit → List Entry
 left_by x = x.found ++ put_list x.put
 
@@ -43,7 +43,7 @@ longest (x ∷ xs) = longer x (longest xs)
 abbrev pub seen_of : List Visit → ℕ → List Entry
 seen_of visits v = longest (map left_by (visits_of visits v))
 
--- where an entry was put: behind so many entries
+-- where an entry was put: after so many entries
 abbrev pub place_of : Option Entry → ℕ → List ℕ
 place_of None n = []
 place_of (Some e) n = n ∷ []

@@ -57,7 +57,7 @@ impl<'a, R: Wait> RowHand<'a, R> {
 
 /// The list seen of a node's row is the longest that a visit left. Each call takes the turn of its node once, waits while
 /// another seat has it, and is one visit of the seat: the row that it found, and the entry that it put, or none. What was
-/// seen before is the front of that row, and after a put the list seen is the row with the entry behind it.
+/// seen before is the prefix of that row, and after a put the list seen is the row with the entry after it.
 impl<'a, R: Wait> RowView for RowHand<'a, R> {
     ghost use Rattle.walk_laws.specs.Joined.{Joined};
     ghost use Rattle.walk_laws.specs.Labelling.{EntryFits};

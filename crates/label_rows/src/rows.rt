@@ -18,7 +18,7 @@ use table_seats::{SeatView, join_in, split_off};
 use walk_laws::{Entry, Graph};
 
 /// A row of entries for each node of a graph under a ranking, which many workers write. Each row has a turn: a seat that
-/// has it reads the row and puts an entry behind it, and no other seat does anything to the row. Contracts see which table
+/// has it reads the row and puts an entry after it, and no other seat does anything to the row. Contracts see which table
 /// it is, the edges, the order of the nodes and how many seats there are.
 ///
 /// ```text

@@ -21,7 +21,7 @@ pub struct Held {
     pub row: LinkedList<Entry>,
 }
 
-/// What a seat did at a node, a number from 1: the row that it found, and the entry that it put behind it, or none. No value
+/// What a seat did at a node, a number from 1: the row that it found, and the entry that it put after it, or none. No value
 /// of it is made.
 pub struct Visit {
     pub node: u32,

@@ -21,13 +21,13 @@ use Rattle.pruned_tree.specs.Grown.{Gains, HoldsHigher, IsGrown}
 use Rattle.pruned_tree.proofs.GrownPuts.{pos_of, when_ok}
 use Rattle.pruned_tree.proofs.TreeRounds.{root_node}
 
--- a rising row with an entry behind it whose position is above all others
-Rises-behind : (xs : List Entry) (e : Entry) → Rises pos_of xs → ((x : Entry) → Contains xs x → x.pos < e.pos) → Rises pos_of (xs ++ e ∷ [])
-Rises-behind [] e up above = λ i j d lt within. absurd (omega (arith, lt, within))
-Rises-behind (x ∷ xs) e up above =
+-- a rising row with an entry after it whose position is above all others
+Rises-after : (xs : List Entry) (e : Entry) → Rises pos_of xs → ((x : Entry) → Contains xs x → x.pos < e.pos) → Rises pos_of (xs ++ e ∷ [])
+Rises-after [] e up above = λ i j d lt within. absurd (omega (arith, lt, within))
+Rises-after (x ∷ xs) e up above =
     AllPairs-cons (λ a b. a < b) x.pos (map pos_of (xs ++ e ∷ []))
     (All-map (λ q. x.pos < q) pos_of (xs ++ e ∷ []) (All-weaker (Contains (xs ++ e ∷ [])) (λ (y : Entry). x.pos < y.pos) later (xs ++ e ∷ []) (All-contains_itself (xs ++ e ∷ []))))
-    (Rises-behind xs e (Rises-rest pos_of x xs up) (λ y there. above y (Contains-next x y xs there)))
+    (Rises-after xs e (Rises-rest pos_of x xs up) (λ y there. above y (Contains-next x y xs there)))
   where
     later : (y : Entry) → Contains (xs ++ e ∷ []) y → x.pos < y.pos
     later y there = elim (Contains-append_cases xs (e ∷ []) y there) [
@@ -86,7 +86,7 @@ module _ (n : ℕ) (edges : List Edge) (at : List ℕ) (graph : IsGraph n edges)
       row_with =
           let row = are v node in
           record {
-            rising = λ k inside. Rises-behind (before v) entry (AllPairs-from_increasing (map pos_of (before v)) row.rising) (λ x there. ((row.each x).0 there).1) k (k + 1) 0 (omega arith) inside;
+            rising = λ k inside. Rises-after (before v) entry (AllPairs-from_increasing (map pos_of (before v)) row.rising) (λ x there. ((row.each x).0 there).1) k (k + 1) 0 (omega arith) inside;
             each = λ e. (
               λ there. elim (Contains-append_cases (before v) (entry ∷ []) e there) [
                 | inl here ↦ let known = (row.each e).0 here in (known.0, omega (arith, known.1))

@@ -33,8 +33,8 @@ pub each_of_both : (P : Entry → Type 0) (narrow : List NarrowEntry) (wide : Li
 each_of_both P narrow wide narrow_all wide_all e there =
     All-contains P (all_widened narrow ++ wide) e (All-append P (all_widened narrow) wide (All-map P (λ x. widened x) narrow narrow_all) wide_all) there
 
-pub Contains-in_row : (front row : List Entry) (k : ℕ) (e : Entry) → slice_get row k ≡ Some e → Contains (front ++ row) e
-Contains-in_row front row k e is = Contains-append_right front row e (Contains-from_slice_get row k e is)
+pub Contains-in_row : (prefix row : List Entry) (k : ℕ) (e : Entry) → slice_get row k ≡ Some e → Contains (prefix ++ row) e
+Contains-in_row prefix row k e is = Contains-append_right prefix row e (Contains-from_slice_get row k e is)
 
 pub none_then : {X : Type 0} (o : Option X) (P Q : Type 0) → (P → Q) → IfNone o P → IfNone o Q
 none_then None P Q f p = f p
@@ -45,12 +45,12 @@ pub narrow_within : (n : ℕ) (row : List Entry) (narrow : List NarrowEntry) (wi
 narrow_within n row narrow wide is all i d lt =
     All-contains (λ e. e.pos < n) (all_widened narrow ++ wide) (widened (get_or narrow i d)) (subst (λ r. All (λ e. e.pos < n) r) (sym is) all) (Contains-append_left (all_widened narrow) wide (widened (get_or narrow i d)) (Contains-widened narrow i d lt))
 
-pub wide_within : (n : ℕ) (row front wide : List Entry) → row ≡ front ++ wide → All (λ e. e.pos < n) row → (i : ℕ) (d : Entry) → i < length wide → (get_or wide i d).pos < n
-wide_within n row front wide is all i d lt =
-    All-contains (λ e. e.pos < n) (front ++ wide) (get_or wide i d) (subst (λ r. All (λ e. e.pos < n) r) is all) (Contains-append_right front wide (get_or wide i d) (Contains-get_or wide i d lt))
+pub wide_within : (n : ℕ) (row prefix wide : List Entry) → row ≡ prefix ++ wide → All (λ e. e.pos < n) row → (i : ℕ) (d : Entry) → i < length wide → (get_or wide i d).pos < n
+wide_within n row prefix wide is all i d lt =
+    All-contains (λ e. e.pos < n) (prefix ++ wide) (get_or wide i d) (subst (λ r. All (λ e. e.pos < n) r) is all) (Contains-append_right prefix wide (get_or wide i d) (Contains-get_or wide i d lt))
 
--- behind a list, one more of a row
-pub behind_next : (front row : List Entry) (i : ℕ) (d : Entry) → i < length row → (front ++ take i row) ++ get_or row i d ∷ [] ≡ front ++ take (i + 1) row
-behind_next front row i d lt =
+-- after a list, one more of a row
+pub after_next : (prefix row : List Entry) (i : ℕ) (d : Entry) → i < length row → (prefix ++ take i row) ++ get_or row i d ∷ [] ≡ prefix ++ take (i + 1) row
+after_next prefix row i d lt =
     let cut : take (i + 1) row ≡ take i row ++ get_or row i d ∷ [] = rw add-one (take-suc row i d lt) in
-    append_assoc front (take i row) (get_or row i d ∷ []) ∙ ap (λ es. front ++ es) (sym cut)
+    append_assoc prefix (take i row) (get_or row i d ∷ []) ∙ ap (λ es. prefix ++ es) (sym cut)

@@ -9,7 +9,7 @@ use Rattle.std.proofs.lemmas.List.Elements.{All-contains, All-contains_itself, A
 use mathlib.Core.Bool.{true≢false}
 use Rattle.walk_laws.proofs.Members.{Contains-first}
 
--- of two results one behind another
+-- of two results one after another
 pub IsOk-both : {T E : Type 0} (r s : Result T E) → IsOk (result_and r s) → IsOk r × IsOk s
 IsOk-both (Ok x) s ok = (refl, ok)
 IsOk-both (Err e) s ok = absurd (true≢false (sym ok))
@@ -23,7 +23,7 @@ over_both (Err e) s one two over is h = tt
 pub puts_of-append : (xs ys : List Visit) (v : ℕ) → puts_of (xs ++ ys) v ≡ puts_of xs v ++ puts_of ys v
 puts_of-append xs ys v = ap (flat_map (λ x. put_list x.put)) (filter-append (λ x. nat_eq x.node v) xs ys) ∙ flat_map-append (λ x. put_list x.put) (visits_of xs v) (visits_of ys v)
 
--- a list with one element behind
+-- a list with one element after
 pub both_parts : {X : Type 0} (P : X → Type 0) (xs ys : List X) (x : X) → xs ≡ ys ++ x ∷ [] → All P xs → All P ys × P x
 both_parts P xs ys x is all = (
   All-weaker (Contains ys) P (λ y here. All-contains P xs y all (subst (λ zs. Contains zs y) (sym is) (Contains-append_left ys (x ∷ []) y here))) ys (All-contains_itself ys),

@@ -46,11 +46,11 @@ module _ (n : ℕ) (edges : List Edge) (at : List ℕ) (graph : IsGraph n edges)
         All-weaker (EntryFits (Joined edges) at v) (λ (e : Entry). e.pos < length at) (λ e fits. omega (arith, fits.ranked, position-lt at v ranking from_one up_to_n)) (label_row rows v) (fit v (node v from_one up_to_n));
     once = λ v from_one up_to_n.
         let grown = done.grown v (node v from_one up_to_n) in
-        let moved : IsPermutation grown.puts (label_row rows v) = subst (λ xs. IsPermutation xs (label_row rows v)) grown.behind (puts v (node v from_one up_to_n)) in
+        let moved : IsPermutation grown.puts (label_row rows v) = subst (λ xs. IsPermutation xs (label_row rows v)) grown.joined (puts v (node v from_one up_to_n)) in
         IsDistinct-IsPermutation eqb eqb_flips (map pos_of grown.puts) (map pos_of (label_row rows v)) (IsPermutation-map pos_of grown.puts (label_row rows v) moved) grown.once;
     hubs = λ v from_one up_to_n e hub below.
         let grown = done.grown v (node v from_one up_to_n) in
-        let moved : IsPermutation grown.puts (label_row rows v) = subst (λ xs. IsPermutation xs (label_row rows v)) grown.behind (puts v (node v from_one up_to_n)) in
+        let moved : IsPermutation grown.puts (label_row rows v) = subst (λ xs. IsPermutation xs (label_row rows v)) grown.joined (puts v (node v from_one up_to_n)) in
         let got : Contains share.claims.got e.pos = Contains-permutation (numbers 0 (length at)) share.claims.got e.pos (IsPermutation-sym share.claims.got (numbers 0 (length at)) all_got) (below_n (length at) e.pos below) in
         Contains-permutation grown.puts (label_row rows v) e moved (grown.hubs ok e hub got);
   }

@@ -73,7 +73,7 @@ impl NarrowRow {
         }
     }
 
-    /// Puts the entry behind the row unless an entry of the row covers it by way of the root's hubs in the table. No memory
+    /// Puts the entry after the row unless an entry of the row covers it by way of the root's hubs in the table. No memory
     /// is taken where an entry covers, and where there is none the row stays as it was.
     pub fn offer(&mut self, entry: Entry, table: &RootTable) -> Offer
         requires { entry.pos ≤ length table.now }
@@ -158,7 +158,7 @@ mod tests {
     use super::*;
     use std::test::Fail;
 
-    /// 4294967295 is the greatest distance that fits in the half room. Behind the first entry that doesn't fit none is put
+    /// 4294967295 is the greatest distance that fits in the half room. After the first entry that doesn't fit none is put
     /// there, so the entries keep their order.
     #[test]
     fn entries_of_both_widths_keep_their_order(rt: HostRuntime) -> Result<(), Fail> {

@@ -89,7 +89,7 @@ fn rows_of_entries(alloc: Global, rows: Vec<NarrowRow>) -> Result<Vec<Vec<Entry>
 }
 
 /// The rows themselves are what was last seen of them, and all that was put: the row that a call finds is the list seen
-/// before, and after a put the list seen is that row with the entry behind it.
+/// before, and after a put the list seen is that row with the entry after it.
 impl RowView for NarrowRows {
     ghost use Rattle.walk_laws.specs.Joined.{Joined};
     ghost use Rattle.walk_laws.specs.Labelling.{EntryFits, label_row};

@@ -39,10 +39,10 @@ emptied_set old i d y within =
 -- the next one is found empty, too
 pub emptied_more : (old : List Reached) (i : ℕ) (d : Reached) → i < length old → set (emptied i old) i (found_empty (get_or old i d)) ≡ emptied (i + 1) old
 emptied_more old i d within =
-    let front = map found_empty (take i old) in
+    let prefix = map found_empty (take i old) in
     let x = found_empty (get_or old i d) in
-    let more : map found_empty (take (i + 1) old) ≡ front ++ x ∷ [] = ap (map found_empty) (take_more old i d within) ∙ map-append found_empty (take i old) (get_or old i d ∷ []) in
-    emptied_set old i d x within ∙ sym (ap (λ xs. xs ++ drop (i + 1) old) more ∙ append_assoc front (x ∷ []) (drop (i + 1) old))
+    let more : map found_empty (take (i + 1) old) ≡ prefix ++ x ∷ [] = ap (map found_empty) (take_more old i d within) ∙ map-append found_empty (take i old) (get_or old i d ∷ []) in
+    emptied_set old i d x within ∙ sym (ap (λ xs. xs ++ drop (i + 1) old) more ∙ append_assoc prefix (x ∷ []) (drop (i + 1) old))
 
 -- the next one gives a batch
 pub asked_gives : (old items : List Reached) (i : ℕ) (d y : Reached) (b : ℕ) → i < length old → items ≡ emptied i old → y ≡ taken_from (get_or items i d) b → Asked (Some b) old (set items i y)

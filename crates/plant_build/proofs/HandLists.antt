@@ -25,10 +25,10 @@ slice_get_set (z ∷ zs) (suc i) (suc j) y x at = elim (slice_get_set zs i j y x
   | inr apart ↦ inr ((λ e. apart.0 (omega (arith, e))), apart.1)
 ]
 
-pub slice_get_front : {X : Type 0} (xs ys : List X) (k : ℕ) → k < length xs → slice_get (xs ++ ys) k ≡ slice_get xs k
-slice_get_front [] ys k within = absurd (omega (arith, within))
-slice_get_front (x ∷ xs) ys zero within = refl
-slice_get_front (x ∷ xs) ys (suc k) within = slice_get_front xs ys k (omega (arith, within))
+pub slice_get_prefix : {X : Type 0} (xs ys : List X) (k : ℕ) → k < length xs → slice_get (xs ++ ys) k ≡ slice_get xs k
+slice_get_prefix [] ys k within = absurd (omega (arith, within))
+slice_get_prefix (x ∷ xs) ys zero within = refl
+slice_get_prefix (x ∷ xs) ys (suc k) within = slice_get_prefix xs ys k (omega (arith, within))
 
 pub slice_get_last : {X : Type 0} (xs : List X) (y : X) (k : ℕ) → k ≡ length xs → slice_get (xs ++ y ∷ []) k ≡ Some y
 slice_get_last [] y zero last = refl
@@ -138,7 +138,7 @@ rest_more all place os o so_far now k within =
     let split : deques_of (os ++ o ∷ []) ≡ deques_of os ++ o.deque ∷ [] = map-append deque_of os (o ∷ []) in
     let room = ap length split in
     ap (λ ds. slice_get ds k) split ∙ elim (before_or_last k (length (deques_of os)) (omega (arith, within, room, length_push (deques_of os) o.deque))) [
-      | inl early ↦ slice_get_front (deques_of os) (o.deque ∷ []) k early ∙ so_far k early
+      | inl early ↦ slice_get_prefix (deques_of os) (o.deque ∷ []) k early ∙ so_far k early
       | inr last ↦ slice_get_last (deques_of os) o.deque k last ∙ sym now ∙ ap (λ j. slice_get all ((place + 1 + j) % length all)) (sym (last ∙ size))
     ]
 

@@ -106,5 +106,5 @@ pub nothing_long : {X : Type 0} (xs : List X) → length xs ≡ 0 → xs ≡ []
 nothing_long [] none = refl
 nothing_long (x ∷ xs) none = absurd (omega (arith, none))
 
-pub whole_of_front : {X : Type 0} (front rest : List X) {all : List X} → rest ≡ [] → front ++ rest ≡ all → front ≡ all
-whole_of_front front rest none whole = sym (append-nil front) ∙ ap (λ xs. front ++ xs) (sym none) ∙ whole
+pub whole_of_prefix : {X : Type 0} (prefix rest : List X) {all : List X} → rest ≡ [] → prefix ++ rest ≡ all → prefix ≡ all
+whole_of_prefix prefix rest none whole = sym (append-nil prefix) ∙ ap (λ xs. prefix ++ xs) (sym none) ∙ whole

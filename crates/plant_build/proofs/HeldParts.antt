@@ -46,9 +46,9 @@ differ_append xs ys first second apart i j d lt within =
           ]
     ]
 
--- the front differs, too, and the last number from it
-differ_front : (xs : List ℕ) (x : ℕ) → Differ (xs ++ x ∷ []) → Differ xs
-differ_front xs x all i j d lt within = let h = all i j d lt (omega (arith, length-append xs (x ∷ []))) in rw (get_or_append_left xs (x ∷ []) d i (omega arith), get_or_append_left xs (x ∷ []) d j within) at h
+-- the prefix differs, too, and the last number from it
+differ_prefix : (xs : List ℕ) (x : ℕ) → Differ (xs ++ x ∷ []) → Differ xs
+differ_prefix xs x all i j d lt within = let h = all i j d lt (omega (arith, length-append xs (x ∷ []))) in rw (get_or_append_left xs (x ∷ []) d i (omega arith), get_or_append_left xs (x ∷ []) d j within) at h
 
 differ_last : (xs : List ℕ) (x : ℕ) → Differ (xs ++ x ∷ []) → Contains xs x → ⊥
 differ_last xs x all (k, within, is) =
@@ -145,7 +145,7 @@ module _ (edges : List Edge) (at : List ℕ) where
   -- one batch more
   pub HoldsBatches-more : (batches b : ℕ) (numbers : List ℕ) (old new : Sunk) → HoldsBatches edges at batches numbers old → GainsPart edges at (λ p. p % batches ≡ b) old new → HoldsBatches edges at batches (numbers ++ b ∷ []) new
   HoldsBatches-more batches b numbers old new holds gains once =
-      HoldsPart-gains (λ p. Contains numbers (p % batches)) (λ p. p % batches ≡ b) (λ p. Contains (numbers ++ b ∷ []) (p % batches)) old new (holds (differ_front numbers b once)) gains
+      HoldsPart-gains (λ p. Contains numbers (p % batches)) (λ p. p % batches ≡ b) (λ p. Contains (numbers ++ b ∷ []) (p % batches)) old new (holds (differ_prefix numbers b once)) gains
       (λ p there here. differ_last numbers b once (subst (Contains numbers) here there))
       (λ p _ either. elim either [
         | inl there ↦ Contains-append_left numbers (b ∷ []) (p % batches) there

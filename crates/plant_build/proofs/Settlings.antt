@@ -10,8 +10,8 @@ use Rattle.plant_build.specs.Hands.{DequeId, Reached, Owned, IsSettled}
 use Rattle.plant_build.specs.Balance.{times}
 use Rattle.plant_build.specs.Rounds.{Share, share_of, put_by, taken_by, got_from, deques_of, reaches, IsOneRound}
 use Rattle.plant_build.specs.Dealt.{others_of, lent_by, back_by, borrowed_by}
-use Rattle.plant_build.specs.Settled.{kept_of, owned_deques, put_into, got_of, left_of, AreBehind, EachBehind, AreSettled}
-use Rattle.plant_build.proofs.HandLists.{slice_get_front, slice_get_last, slice_get_map, map_at, length_push, lent_total, borrowed_total}
+use Rattle.plant_build.specs.Settled.{kept_of, owned_deques, put_into, got_of, left_of, AreAfter, EachAfter, AreSettled}
+use Rattle.plant_build.proofs.HandLists.{slice_get_prefix, slice_get_last, slice_get_map, map_at, length_push, lent_total, borrowed_total}
 
 deques_by_kept : (owns : List Owned) → owned_deques owns ≡ map (λ t. t.2) (map kept_of owns)
 deques_by_kept [] = refl
@@ -45,21 +45,21 @@ deques_push os o = map-append (λ (r : Reached). r.deque) os (o ∷ [])
 deques_length : (os : List Reached) → length (deques_of os) ≡ length os
 deques_length os = length-map os (λ (r : Reached). r.deque)
 
-pub behind_front : (all : List DequeId) (place : ℕ) (os : List Reached) (o : Reached) → AreBehind all place (deques_of (os ++ o ∷ [])) → AreBehind all place (deques_of os)
-behind_front all place os o behind k within =
+pub after_prefix : (all : List DequeId) (place : ℕ) (os : List Reached) (o : Reached) → AreAfter all place (deques_of (os ++ o ∷ [])) → AreAfter all place (deques_of os)
+after_prefix all place os o after k within =
     let longer = ap length (deques_push os o) in
-    sym (slice_get_front (deques_of os) (o.deque ∷ []) k within) ∙ ap (λ ds. slice_get ds k) (sym (deques_push os o)) ∙ behind k (omega (arith, within, longer, length_push (deques_of os) o.deque))
+    sym (slice_get_prefix (deques_of os) (o.deque ∷ []) k within) ∙ ap (λ ds. slice_get ds k) (sym (deques_push os o)) ∙ after k (omega (arith, within, longer, length_push (deques_of os) o.deque))
 
-pub behind_last : (all : List DequeId) (place : ℕ) (os : List Reached) (o : Reached) → AreBehind all place (deques_of (os ++ o ∷ [])) → slice_get all ((place + 1 + length os) % length all) ≡ Some o.deque
-behind_last all place os o behind =
+pub after_last : (all : List DequeId) (place : ℕ) (os : List Reached) (o : Reached) → AreAfter all place (deques_of (os ++ o ∷ [])) → slice_get all ((place + 1 + length os) % length all) ≡ Some o.deque
+after_last all place os o after =
     let longer = ap length (deques_push os o) in
-    sym (behind (length os) (omega (arith, longer, length_push (deques_of os) o.deque, deques_length os)))
+    sym (after (length os) (omega (arith, longer, length_push (deques_of os) o.deque, deques_length os)))
     ∙ ap (λ ds. slice_get ds (length os)) (deques_push os o) ∙ slice_get_last (deques_of os) o.deque (length os) (sym (deques_length os))
 
-pub each_front : (all : List DequeId) (rounds : List (List Reached)) (round : List Reached) → EachBehind all (rounds ++ round ∷ []) → EachBehind all rounds
-each_front all rounds round each place others at = each place others (slice_get_front rounds (round ∷ []) place (slice_get_within rounds place others at) ∙ at)
+pub each_prefix : (all : List DequeId) (rounds : List (List Reached)) (round : List Reached) → EachAfter all (rounds ++ round ∷ []) → EachAfter all rounds
+each_prefix all rounds round each place others at = each place others (slice_get_prefix rounds (round ∷ []) place (slice_get_within rounds place others at) ∙ at)
 
-pub each_last : (all : List DequeId) (rounds : List (List Reached)) (round : List Reached) → EachBehind all (rounds ++ round ∷ []) → AreBehind all (length rounds) (deques_of round)
+pub each_last : (all : List DequeId) (rounds : List (List Reached)) (round : List Reached) → EachAfter all (rounds ++ round ∷ []) → AreAfter all (length rounds) (deques_of round)
 each_last all rounds round each = each (length rounds) round (slice_get_last rounds round (length rounds) refl)
 
 -- what is left in some deques, and in one more
@@ -119,8 +119,8 @@ all_are_owned hands round =
     let place : (k + 0) % length round.all ≡ k = ap (λ j. j % length round.all) (let e : k + 0 ≡ k = omega arith in e) ∙ mod-eq_of_lt within in
     sym (ap (slice_get all) place) ∙ sym is ∙ sym (map_at (λ (o : Owned). o.reached.deque) (map own hands) k h.own (map_at own hands k h found.1)))
 
-pub round_each_behind : (hands : List Hand) → IsOneRound (map share_of hands) → EachBehind (owned_deques (map (λ h. h.own) hands)) (others_of hands)
-round_each_behind hands round place others at k within =
+pub round_each_after : (hands : List Hand) → IsOneRound (map share_of hands) → EachAfter (owned_deques (map (λ h. h.own) hands)) (others_of hands)
+round_each_after hands round place others at k within =
     let found = slice_get_map (λ (h : Hand). h.others.items) hands place others at in
     let h = found.0 in
     let is = round.rounds place (share_of h) (map_at share_of hands place h found.1) in

@@ -23,13 +23,13 @@ got_of x owns = sum_by (λ own. times x own.reached.got) owns
 abbrev pub left_of : ℕ → List (List ℕ) → ℕ
 left_of x rests = sum_by (λ rest. times x rest) rests
 
--- these deques are those behind a place, one round
-abbrev pub AreBehind : List DequeId → ℕ → List DequeId → Type 0
-AreBehind all place deques = (k : ℕ) → k < length deques → slice_get deques k ≡ slice_get all ((place + 1 + k) % length all)
+-- these deques are those after a place, one round
+abbrev pub AreAfter : List DequeId → ℕ → List DequeId → Type 0
+AreAfter all place deques = (k : ℕ) → k < length deques → slice_get deques k ≡ slice_get all ((place + 1 + k) % length all)
 
--- the deques that are lent to each hand are those behind its own
-abbrev pub EachBehind : List DequeId → List (List Reached) → Type 0
-EachBehind all rounds = (place : ℕ) (others : List Reached) → slice_get rounds place ≡ Some others → AreBehind all place (deques_of others)
+-- the deques that are lent to each hand are those after its own
+abbrev pub EachAfter : List DequeId → List (List Reached) → Type 0
+EachAfter all rounds = (place : ℕ) (others : List Reached) → slice_get rounds place ≡ Some others → AreAfter all place (deques_of others)
 
 abbrev pub AreSettled : List Owned → List (List ℕ) → Type 0
 AreSettled [] [] = Unit {0}

@@ -1,7 +1,7 @@
 ghost use Rattle.std.specs.Prelude.{◌≡◌, ℕ, ◌+◌, ◌<◌, ◌≤◌, List, length, map, vec_len, sum_by, IfOk};
 ghost use Rattle.plant_build.specs.Rounds.{deques_of, share_of, put_by, taken_by, got_from, IsOneRound};
 ghost use Rattle.plant_build.specs.Dealt.{others_of};
-ghost use Rattle.plant_build.specs.Settled.{kept_of, owned_deques, put_into, got_of, left_of, AreBehind, EachBehind};
+ghost use Rattle.plant_build.specs.Settled.{kept_of, owned_deques, put_into, got_of, left_of, AreAfter, EachAfter};
 
 use crate::hand::Hand;
 use crate::other::Other;
@@ -37,7 +37,7 @@ fn apart(alloc: Global, hands: Vec<Hand>) -> Result<(Vec<Own>, Vec<Vec<Other>>),
 /// The deques that are lent to each hand come back.
 fn all_back(owns: &mut [Own], mut rounds: Vec<Vec<Other>>)
     requires rounds { vec_len rounds ≤ length owns.old }
-    requires behind { EachBehind (owned_deques owns.old) (map (λ os. os.items) rounds.items) }
+    requires after { EachAfter (owned_deques owns.old) (map (λ os. os.items) rounds.items) }
     ensures kept { map kept_of owns.new ≡ map kept_of owns.old }
     ensures back { sum_by (λ own. own.back) owns.new ≡ sum_by (λ own. own.back) owns.old + sum_by vec_len rounds.items }
     ensures got { (x : ℕ) → got_of x owns.new ≡ got_of x owns.old + sum_by (λ os. got_from x os.items) rounds.items }
@@ -50,7 +50,7 @@ fn all_back(owns: &mut [Own], mut rounds: Vec<Vec<Other>>)
 /// The deques that are lent to the hand at a place come back.
 fn round_back(owns: &mut [Own], mut others: Vec<Other>, place: usize)
     requires place { place < length owns.old }
-    requires behind { AreBehind (owned_deques owns.old) place (deques_of others.items) }
+    requires after { AreAfter (owned_deques owns.old) place (deques_of others.items) }
     ensures kept { map kept_of owns.new ≡ map kept_of owns.old }
     ensures back { sum_by (λ own. own.back) owns.new ≡ sum_by (λ own. own.back) owns.old + vec_len others }
     ensures got { (x : ℕ) → got_of x owns.new ≡ got_of x owns.old + got_from x others.items }

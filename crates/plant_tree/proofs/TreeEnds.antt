@@ -91,7 +91,7 @@ module _ (J : ℕ → ℕ → ℕ → Type 0) (positive : (x y w : ℕ) → J x 
       ] in
       (IsLeast-unique J h y g.dist a (tree.least y g settled) hub.least, omega (arith, highest.above h (IsOn-start J h y a hub.least)))
 
-  -- so no node behind it for which the root is canonical is queued: it would carry the root
+  -- so no node after it for which the root is canonical is queued: it would carry the root
   never_queued : (y v w a d : ℕ) (g q : Found) → IsCanonical J at h y a → IsCanonical J at h v d → reach_of nodes y ≡ Settled g → J y v w → a + w ≡ d → reach_of nodes v ≡ Queued q → ⊥
   never_queued y v w a d g q before hub settled arc long queued =
       let root = carries_root y a g before settled in

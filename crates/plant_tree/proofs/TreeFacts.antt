@@ -5,7 +5,7 @@ use Rattle.walk_laws.specs.Walk.{HasWalk}
 use Rattle.walk_laws.specs.Least.{IsLeast}
 use Rattle.walk_laws.specs.On.{IsOn}
 use Rattle.walk_laws.specs.Ranking.{position_of}
-use Rattle.walk_laws.proofs.Walks.{HasWalk-none_to, HasWalk-same, HasWalk-behind, HasWalk-leaves, Leaving}
+use Rattle.walk_laws.proofs.Walks.{HasWalk-none_to, HasWalk-same, HasWalk-after, HasWalk-leaves, Leaving}
 use Rattle.walk_laws.proofs.LeastWalks.{IsLeast-unique, IsLeast-same}
 use Rattle.walk_laws.proofs.OnWalks.{IsOn-end, IsOn-last, IsOn-step}
 use Rattle.plant_tree.proofs.TreeTypes.{Found, Reach}
@@ -74,7 +74,7 @@ module _ (J : ℕ → ℕ → ℕ → Type 0) (at : List ℕ) (h : ℕ) (nodes :
     | inl root ↦ HasWalk-same J h v 0 f.dist (sym root.1) (HasWalk-none_to J h v (sym root.0))
     | inr from ↦
         HasWalk-same J h v (from.0.found.dist + from.0.weight) f.dist from.1
-        (HasWalk-behind J h from.0.node v from.0.weight from.0.found.dist (tree.least from.0.node from.0.found from.0.settled).walk from.0.arc)
+        (HasWalk-after J h from.0.node v from.0.weight from.0.found.dist (tree.least from.0.node from.0.found from.0.settled).walk from.0.arc)
   ]
 
   -- where that is the least length, it carries a node on a shortest walk

@@ -231,7 +231,7 @@ node_of_queued n heaviest total nodes v f sized queued =
     ] in
     (not_zero, omega (arith, sized.size))
 
--- no walk of the tree and an edge behind it is as long as 2 ^ 64
+-- no walk of the tree and an edge after it is as long as 2 ^ 64
 pub fits_64 : (n : ℕ) (edges : List Edge) (dist more : ℕ) → IsGraph n edges → 1 ≤ n → dist + greatest_weight edges + more ≤ (n + 1) * greatest_weight edges → dist + greatest_weight edges < 2 ^ 64
 fits_64 n edges dist more graph some room =
     let one : 1 * greatest_weight edges ≤ n * greatest_weight edges = mul-le-mul_right (greatest_weight edges) some in

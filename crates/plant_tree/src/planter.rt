@@ -47,7 +47,7 @@ impl Planter {
     ///
     /// Each round settles a nearest queued node and offers its neighbours the walks by way of it. Of the walks that a node
     /// is offered the shortest count, and it carries the highest-ranked node on any of these. The tree ends once no
-    /// queued node carries the root, since no node behind one that carries another has the root for its hub.
+    /// queued node carries the root, since no node after one that carries another has the root for its hub.
     pub fn plant(
         &mut self,
         alloc: Global,

@@ -54,7 +54,7 @@ fn plants_the_square(rt: HostRuntime) -> Result<(), Fail> {
     )
 }
 
-/// In the path 1-2-3 with the order 2, 1, 3 no node behind node 1 can have it for a hub, so the tree ends at once.
+/// In the path 1-2-3 with the order 2, 1, 3 no node after node 1 can have it for a hub, so the tree ends at once.
 #[test]
 fn stops_where_no_node_carries_the_root(rt: HostRuntime) -> Result<(), Fail> {
     let edges = vec![in rt.alloc(); Edge { u: 1, v: 2, w: 1 }, Edge { u: 2, v: 3, w: 1 }]?;

@@ -42,15 +42,15 @@ viewing-put before seat v e viewing put stands =
     let looks = before.seat.looks in
     let marks = before.seat.marks in
     let l : Linked = record { cell = put.cell; entry = e } in
-    let then : IsViewing (pooled before v put.cell e put.behind) = record {
+    let then : IsViewing (pooled before v put.cell e put.older) = record {
       pool = viewing.pool;
       global = viewing.global;
       own = viewing.own;
       seen = λ u. elim (cases_eq v u) [
         | inl here ↦
-            let there = IsSeen-put (fact_of before v) looks marks v (viewing.seen v) l put.behind put.goes_on stands in
-            subst (λ x. IsSeen (fact_of before x) looks (look_at v (l ∷ put.behind) ∷ marks) x) here there
-        | inr other ↦ IsSeen-put_else looks marks v u other (l ∷ put.behind) (fact_of before u) (viewing.seen u)
+            let there = IsSeen-put (fact_of before v) looks marks v (viewing.seen v) l put.older put.goes_on stands in
+            subst (λ x. IsSeen (fact_of before x) looks (look_at v (l ∷ put.older) ∷ marks) x) here there
+        | inr other ↦ IsSeen-put_else looks marks v u other (l ∷ put.older) (fact_of before u) (viewing.seen u)
       ];
     } in
     subst (λ s. IsViewing (record before { seat = s })) (sym put.after_is) then
@@ -90,14 +90,14 @@ visited-seen before after v found viewing visit =
     ap (λ w. seen_row w v) (visited-is before after v found visit)
     ∙ ap (λ es. label_row before.global v ++ reverse es ++ label_row before.own v) (seen-looked (fact_of before v) before.seat.looks before.seat.marks v (viewing.seen v) found visit.0.goes_on)
 
--- and after a put in the pool that with the entry behind it
+-- and after a put in the pool that with the entry after it
 pub pooled-seen : (before after : Viewing) (v : ℕ) (e : Entry) → IsViewing before → (put : IsInPool before v e after) → seen_row after v ≡ seen_row before v ++ e ∷ []
 pooled-seen before after v e viewing put =
     let G = label_row before.global v in
     let N = seen_chain before.seat.looks before.seat.marks v in
     let own_none : (es : List Entry) → es ++ label_row before.own v ≡ es = λ es. ap (λ xs. es ++ xs) put.none_own ∙ append-nil es in
     ap (λ w. seen_row w v) (pooled-is before after v e put)
-    ∙ ap (λ es. G ++ reverse es ++ label_row before.own v) (seen-put (fact_of before v) before.seat.looks before.seat.marks v (viewing.seen v) (record { cell = put.put.cell; entry = e }) put.put.behind put.put.goes_on)
+    ∙ ap (λ es. G ++ reverse es ++ label_row before.own v) (seen-put (fact_of before v) before.seat.looks before.seat.marks v (viewing.seen v) (record { cell = put.put.cell; entry = e }) put.put.older put.put.goes_on)
     ∙ own_none (G ++ reverse (e ∷ N))
     ∙ ap (λ es. G ++ es) (reverse-append (e ∷ []) N)
     ∙ sym (append_assoc G (reverse N) (e ∷ []))

@@ -34,15 +34,15 @@ nodes-none n = record {
   some = λ v node. (λ there. absurd (Contains-empty v there), λ some. absurd (some (get_or-replicate n (v - 1) [] [] (let size = length-replicate {A = List Entry} n [] in omega (arith, node.from_one, node.up_to_n, size)))));
 }
 
-some_behind : (row : List Entry) (e : Entry) → row ++ e ∷ [] ≢ []
-some_behind row e is = absurd (Contains-empty e (subst (λ xs. Contains xs e) is (Contains-push row e)))
+some_after : (row : List Entry) (e : Entry) → row ++ e ∷ [] ≢ []
+some_after row e is = absurd (Contains-empty e (subst (λ xs. Contains xs e) is (Contains-push row e)))
 
 module _ (rows : List (List Entry)) (nodes : List ℕ) (v : ℕ) (e : Entry) (from_one : 1 ≤ v) (within : v ≤ length rows) (are : AreNodesOf rows nodes) where
   size : length (with_entry rows v e) ≡ length rows
   size = length-set rows (v - 1) _
 
   gains_here : label_row (with_entry rows v e) v ≢ []
-  gains_here is = some_behind (label_row rows v) e (sym (row_gains rows v e from_one within) ∙ is)
+  gains_here is = some_after (label_row rows v) e (sym (row_gains rows v e from_one within) ∙ is)
 
   in_rows : (u : ℕ) → IsNode (length (with_entry rows v e)) u → IsNode (length rows) u
   in_rows u node = record { from_one = node.from_one; up_to_n = omega (arith, node.up_to_n, size) }

@@ -27,7 +27,7 @@ noted-next table row i d lt =
 pub noted-whole : (table : List (Option ℕ)) (row : List Entry) (i : ℕ) → length row ≤ i → noted table (take i row) ≡ noted table row
 noted-whole table row i over = ap (noted table) (take_all i row over)
 
--- a table that held a row holds it with the entries behind it
+-- a table that held a row holds it with the entries after it
 pub HoldsEach-noted_all : (table : List (Option ℕ)) (row es : List Entry) → All (λ e. e.pos < length table) es → HoldsEach table row → HoldsEach (noted table es) (row ++ es)
 HoldsEach-noted_all table row [] inside each = subst (HoldsEach table) (sym (append-nil row)) each
 HoldsEach-noted_all table row (e ∷ es) inside each =

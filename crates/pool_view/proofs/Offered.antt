@@ -54,10 +54,10 @@ module _ (before after : Viewing) (v : ℕ) (found : List Linked) (visit : HasVi
 
 -- the view after a put in the pool
 abbrev pub pooled : Viewing → ℕ → ℕ → Entry → List Linked → Viewing
-pooled before v cell e behind = record before { seat = record before.seat { puts = before.seat.puts ++ record { node = v; linked = record { cell = cell; entry = e } } ∷ []; marks = look_at v (record { cell = cell; entry = e } ∷ behind) ∷ before.seat.marks } }
+pooled before v cell e older = record before { seat = record before.seat { puts = before.seat.puts ++ record { node = v; linked = record { cell = cell; entry = e } } ∷ []; marks = look_at v (record { cell = cell; entry = e } ∷ older) ∷ before.seat.marks } }
 
 module _ (before after : Viewing) (v : ℕ) (e : Entry) (put : IsInPool before v e after) where
-  pub pooled-is : after ≡ pooled before v put.put.cell e put.put.behind
+  pub pooled-is : after ≡ pooled before v put.put.cell e put.put.older
   pooled-is = put.same ∙ ap (λ s. record before { seat = s }) put.put.after_is
 
   pub pooled-puts : puts_row after v ≡ puts_row before v ++ e ∷ []
@@ -70,7 +70,7 @@ module _ (before after : Viewing) (v : ℕ) (e : Entry) (put : IsInPool before v
 
   pub pooled-else : (u : ℕ) → v ≢ u → (seen_row after u ≡ seen_row before u) × (puts_row after u ≡ puts_row before u)
   pooled-else u other = (
-    ap (λ w. seen_row w u) pooled-is ∙ ap (λ es. label_row before.global u ++ reverse es ++ label_row before.own u) (seen-put_else before.seat.looks before.seat.marks v u other (record { cell = put.put.cell; entry = e } ∷ put.put.behind)),
+    ap (λ w. seen_row w u) pooled-is ∙ ap (λ es. label_row before.global u ++ reverse es ++ label_row before.own u) (seen-put_else before.seat.looks before.seat.marks v u other (record { cell = put.put.cell; entry = e } ∷ put.put.older)),
     ap (λ w. puts_row w u) pooled-is ∙ ap (λ es. es ++ label_row before.own u) (entries-else before.seat.puts v (record { cell = put.put.cell; entry = e }) u other),
   )
 
@@ -87,10 +87,10 @@ module _ (before after : Viewing) (v : ℕ) (e : Entry) (from_one : 1 ≤ v) (pu
 
   pub owned-seen : seen_row after v ≡ seen_row before v ++ e ∷ []
   owned-seen =
-      let front = label_row before.global v ++ reverse (seen_chain before.seat.looks before.seat.marks v) in
+      let prefix = label_row before.global v ++ reverse (seen_chain before.seat.looks before.seat.marks v) in
       ap (λ w. seen_row w v) put.same
-      ∙ ap (λ es. front ++ es) own_here
-      ∙ sym (append_assoc front (label_row before.own v) (e ∷ []))
+      ∙ ap (λ es. prefix ++ es) own_here
+      ∙ sym (append_assoc prefix (label_row before.own v) (e ∷ []))
 
   pub owned-else : (u : ℕ) → 1 ≤ u → v ≢ u → (seen_row after u ≡ seen_row before u) × (puts_row after u ≡ puts_row before u)
   owned-else u u_from_one other =
@@ -99,7 +99,7 @@ module _ (before after : Viewing) (v : ℕ) (e : Entry) (from_one : 1 ≤ v) (pu
         ap (λ w. puts_row w u) put.same ∙ ap (λ es. entries_at before.seat.puts u ++ es) stays,
       )
 
--- behind a visit, whatever the answer is
+-- after a visit, whatever the answer is
 pub after-kept : (before after : Viewing) (v : ℕ) (e : Entry) (answer : Offer) → IsAfter before v e answer after → view_kept after ≡ view_kept before
 after-kept before after v e IsPut (inl put) = ap view_kept (pooled-is before after v e put)
 after-kept before after v e IsPut (inr put) = ap view_kept put.same

@@ -6,7 +6,7 @@ use Rattle.std.proofs.lemmas.List.{append_assoc, length-append, map-append, reve
 use Rattle.std.proofs.lemmas.List.Elements.{All-cons, All-nil, All-weaker, All-head, All-tail}
 use Rattle.walk_laws.specs.declared.entry.Entry.{Entry}
 use Rattle.hub_index.specs.Views.{StandsIn}
-use Rattle.hub_index.proofs.FoundRows.{StandsIn-self, StandsIn-behind}
+use Rattle.hub_index.proofs.FoundRows.{StandsIn-self, StandsIn-after}
 use Rattle.label_pool.specs.declared.rule.Linked.{Linked}
 use Rattle.label_pool.specs.declared.rule.Look.{Look}
 use Rattle.label_pool.specs.Chains.{IsTailOf, entries_of, seen_of}
@@ -43,27 +43,27 @@ since-none : (v n : ℕ) (marks : List Look) → All (Short v n) marks → put_s
 since-none v n [] all = refl
 since-none v n (m ∷ marks) all = since-over v n m marks (All-head (Short v n) m marks all) ∙ since-none v n marks (All-tail (Short v n) m marks all)
 
-since-here : (v n : ℕ) (l : Linked) (behind : List Linked) (marks : List Look) → n < length (l ∷ behind) → put_since (look_at v (l ∷ behind) ∷ marks) v n ≡ l.entry ∷ put_since marks v n
-since-here v n l behind marks longer =
-    ap (λ t. if t then (if nat_lt n (length (l ∷ behind)) then l.entry ∷ put_since marks v n else put_since marks v n) else put_since marks v n) (eq-eqb v v refl)
-    ∙ ap (λ t. if t then l.entry ∷ put_since marks v n else put_since marks v n) (lt-ltb n (length (l ∷ behind)) longer)
+since-here : (v n : ℕ) (l : Linked) (older : List Linked) (marks : List Look) → n < length (l ∷ older) → put_since (look_at v (l ∷ older) ∷ marks) v n ≡ l.entry ∷ put_since marks v n
+since-here v n l older marks longer =
+    ap (λ t. if t then (if nat_lt n (length (l ∷ older)) then l.entry ∷ put_since marks v n else put_since marks v n) else put_since marks v n) (eq-eqb v v refl)
+    ∙ ap (λ t. if t then l.entry ∷ put_since marks v n else put_since marks v n) (lt-ltb n (length (l ∷ older)) longer)
 
 since-else : (v u n : ℕ) (found : List Linked) (marks : List Look) → v ≢ u → put_since (look_at v found ∷ marks) u n ≡ put_since marks u n
 since-else v u n found marks other = ap (λ t. if t then (if nat_lt n (length found) then first_entry found (put_since marks u n) else put_since marks u n) else put_since marks u n) (ne_eqb v u other)
 
 tail-length : (tail whole : List Linked) → IsTailOf tail whole → length tail ≤ length whole
-tail-length tail whole t = let a = ap length t.parted ∙ length-append t.front tail in omega arith
+tail-length tail whole t = let a = ap length t.parted ∙ length-append t.prefix tail in omega arith
 
 pub tail-entries : (tail whole : List Linked) (list : List Entry) → IsTailOf tail whole → StandsIn list (entries_of tail) → StandsIn list (entries_of whole)
 tail-entries tail whole list t stands =
-    subst (StandsIn list) (sym (ap entries_of t.parted ∙ map-append (λ l. l.entry) t.front tail)) (StandsIn-behind (entries_of t.front) list (entries_of tail) stands)
+    subst (StandsIn list) (sym (ap entries_of t.parted ∙ map-append (λ l. l.entry) t.prefix tail)) (StandsIn-after (entries_of t.prefix) list (entries_of tail) stands)
 
 tail-through : (tail middle whole : List Linked) → IsTailOf tail middle → IsTailOf middle whole → IsTailOf tail whole
-tail-through tail middle whole t u = record { front = u.front ++ t.front; parted = u.parted ∙ ap (λ ls. u.front ++ ls) t.parted ∙ sym (append_assoc u.front t.front tail) }
+tail-through tail middle whole t u = record { prefix = u.prefix ++ t.prefix; parted = u.parted ∙ ap (λ ls. u.prefix ++ ls) t.parted ∙ sym (append_assoc u.prefix t.prefix tail) }
 
 -- nothing was found and put
 pub IsSeen-nothing : (fact : Entry → Type 0) (v : ℕ) → IsSeen fact [] [] v
-IsSeen-nothing fact v = record { longest = All-nil _; tail = record { front = []; parted = refl }; stands = tt; met = All-nil fact }
+IsSeen-nothing fact v = record { longest = All-nil _; tail = record { prefix = []; parted = refl }; stands = tt; met = All-nil fact }
 
 module _ (fact : Entry → Type 0) (looks marks : List Look) (v : ℕ) (seen : IsSeen fact looks marks v) where
   -- a visit: what was seen is then what it found
@@ -79,27 +79,27 @@ module _ (fact : Entry → Type 0) (looks marks : List Look) (v : ℕ) (seen : I
     pub IsSeen-looked : All fact (entries_of found) → IsSeen fact (looks ++ look_at v found ∷ []) (look_at v found ∷ marks) v
     IsSeen-looked met = record {
       longest = subst (λ ls. All (Short v (length ls)) (look_at v found ∷ marks)) (sym (mark-here v found marks)) (All-cons (Short v (length found)) (look_at v found) marks (λ _. omega arith) short);
-      tail = record { front = []; parted = mark-here v found marks ∙ sym (last-here v found looks) };
+      tail = record { prefix = []; parted = mark-here v found marks ∙ sym (last-here v found looks) };
       stands = subst (λ ls. StandsIn (seen_chain (looks ++ look_at v found ∷ []) (look_at v found ∷ marks) v) (entries_of ls)) (sym (mark-here v found marks)) (subst (λ es. StandsIn es (entries_of found)) (sym seen-looked) (StandsIn-self (entries_of found)));
       met = subst (All fact) (sym seen-looked) met;
     }
 
   -- a put: its entry is then the newest
-  module _ (l : Linked) (behind : List Linked) (goes_on : IsTailOf (seen_of marks v) behind) where
-    longer : length (seen_of marks v) < length (l ∷ behind)
-    longer = let a = tail-length (seen_of marks v) behind goes_on in omega arith
+  module _ (l : Linked) (older : List Linked) (goes_on : IsTailOf (seen_of marks v) older) where
+    longer : length (seen_of marks v) < length (l ∷ older)
+    longer = let a = tail-length (seen_of marks v) older goes_on in omega arith
 
-    pub seen-put : seen_chain looks (look_at v (l ∷ behind) ∷ marks) v ≡ l.entry ∷ seen_chain looks marks v
-    seen-put = ap (λ es. es ++ entries_of (last_found looks v)) (since-here v (length (last_found looks v)) l behind marks (let a = tail-length (last_found looks v) (seen_of marks v) seen.tail in omega (arith, a, longer)))
+    pub seen-put : seen_chain looks (look_at v (l ∷ older) ∷ marks) v ≡ l.entry ∷ seen_chain looks marks v
+    seen-put = ap (λ es. es ++ entries_of (last_found looks v)) (since-here v (length (last_found looks v)) l older marks (let a = tail-length (last_found looks v) (seen_of marks v) seen.tail in omega (arith, a, longer)))
 
-    pub IsSeen-put : fact l.entry → IsSeen fact looks (look_at v (l ∷ behind) ∷ marks) v
+    pub IsSeen-put : fact l.entry → IsSeen fact looks (look_at v (l ∷ older) ∷ marks) v
     IsSeen-put keeps = record {
-      longest = subst (λ ls. All (Short v (length ls)) (look_at v (l ∷ behind) ∷ marks)) (sym (mark-here v (l ∷ behind) marks))
-          (All-cons (Short v (length (l ∷ behind))) (look_at v (l ∷ behind)) marks (λ _. omega arith)
-          (All-weaker (λ m. m.node ≡ v → length m.found ≤ length (seen_of marks v)) (Short v (length (l ∷ behind))) (λ m most at. let a = most at in omega (arith, longer, a)) marks seen.longest));
-      tail = subst (IsTailOf (last_found looks v)) (sym (mark-here v (l ∷ behind) marks)) (tail-through (last_found looks v) (seen_of marks v) (l ∷ behind) seen.tail (record { front = l ∷ goes_on.front; parted = ap (λ ls. l ∷ ls) goes_on.parted }));
-      stands = subst (λ ls. StandsIn (seen_chain looks (look_at v (l ∷ behind) ∷ marks) v) (entries_of ls)) (sym (mark-here v (l ∷ behind) marks))
-          (subst (λ es. StandsIn es (entries_of (l ∷ behind))) (sym seen-put) (inl (refl, tail-entries (seen_of marks v) behind (seen_chain looks marks v) goes_on seen.stands)));
+      longest = subst (λ ls. All (Short v (length ls)) (look_at v (l ∷ older) ∷ marks)) (sym (mark-here v (l ∷ older) marks))
+          (All-cons (Short v (length (l ∷ older))) (look_at v (l ∷ older)) marks (λ _. omega arith)
+          (All-weaker (λ m. m.node ≡ v → length m.found ≤ length (seen_of marks v)) (Short v (length (l ∷ older))) (λ m most at. let a = most at in omega (arith, longer, a)) marks seen.longest));
+      tail = subst (IsTailOf (last_found looks v)) (sym (mark-here v (l ∷ older) marks)) (tail-through (last_found looks v) (seen_of marks v) (l ∷ older) seen.tail (record { prefix = l ∷ goes_on.prefix; parted = ap (λ ls. l ∷ ls) goes_on.parted }));
+      stands = subst (λ ls. StandsIn (seen_chain looks (look_at v (l ∷ older) ∷ marks) v) (entries_of ls)) (sym (mark-here v (l ∷ older) marks))
+          (subst (λ es. StandsIn es (entries_of (l ∷ older))) (sym seen-put) (inl (refl, tail-entries (seen_of marks v) older (seen_chain looks marks v) goes_on seen.stands)));
       met = subst (All fact) (sym seen-put) (All-cons fact l.entry (seen_chain looks marks v) keeps seen.met);
     }
 

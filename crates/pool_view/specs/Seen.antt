@@ -10,7 +10,7 @@ use Rattle.label_pool.specs.Chains.{IsTailOf, entries_of, seen_of}
 abbrev pub last_found : List Look → ℕ → List Linked
 last_found looks v = seen_of (reverse looks) v
 
--- the entry of the first cell, in front of these
+-- the entry of the first cell, before these
 abbrev pub first_entry : List Linked → List Entry → List Entry
 first_entry [] es = es
 first_entry (l ∷ ls) es = l.entry ∷ es

@@ -83,7 +83,7 @@ pub record IsInOwn (before : Viewing) (v : ℕ) (e : Entry) (after : Viewing) : 
 abbrev pub HasGained : Viewing → ℕ → Entry → Viewing → Type 0
 HasGained before v e after = IsInPool before v e after ⊎ IsInOwn before v e after
 
--- what an offer changes behind its visit: nothing where an entry covers; the entry is put in the pool, or, where that is full, in the worker's own row; where that finds no memory nothing is gained
+-- what an offer changes after its visit: nothing where an entry covers; the entry is put in the pool, or, where that is full, in the worker's own row; where that finds no memory nothing is gained
 abbrev pub IsAfter : Viewing → ℕ → Entry → Offer → Viewing → Type 0
 IsAfter before v e IsPut after = HasGained before v e after
 IsAfter before v e (Covered pos dist) after = after ≡ before
@@ -98,7 +98,7 @@ pub record IsOfferedToGlobal (table : List (Option ℕ)) (before : Viewing) (v :
   pub row : IsFound (fact_of before v) (seen_row before v) (seen_row before v)
   pub same : after ≡ before
 
--- an offer that went to the pool by one visit: no entry of the global row covers, the answer is right of the whole row that was found, and the list seen is then that row, with the entry behind it where it was put
+-- an offer that went to the pool by one visit: no entry of the global row covers, the answer is right of the whole row that was found, and the list seen is then that row, with the entry after it where it was put
 pub record IsOfferedToAll (table : List (Option ℕ)) (before : Viewing) (v : ℕ) (e : Entry) (answer : Offer) (after : Viewing) : Type 0 where
   pub uncovered : All (λ c. ¬ IsCover table e.pos e.dist c) (label_row before.global v)
   pub found : List Linked

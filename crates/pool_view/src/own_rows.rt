@@ -76,7 +76,7 @@ impl OwnRows {
         Ok(())
     }
 
-    /// Moves all entries behind others, and gives the rows back, which are empty then. It costs the entries. The only error
+    /// Moves all entries after others, and gives the rows back, which are empty then. It costs the entries. The only error
     /// is that memory ran out, and then the rows are given up.
     pub fn empty_into(self, others: &mut Vec<NodeEntry>) -> Result<OwnRows, AllocError>
         ensures empty { IfOk result (λ own. own ≡ replicate (length self) []) }
@@ -98,7 +98,7 @@ impl OwnRows {
     }
 }
 
-/// Puts entries of a node, a number from 1, behind others. The only error is that memory ran out.
+/// Puts entries of a node, a number from 1, after others. The only error is that memory ran out.
 fn list_entries(others: &mut Vec<NodeEntry>, node: u32, entries: &[Entry]) -> Result<(), AllocError>
     ensures entries { OnOk result ((v : ℕ) → entries_of_node others.new.items v ≡ entries_of_node others.old.items v ++ (if nat_eq node v then entries.now else [])) }
     ensures nodes { (n : ℕ) → IsNode n node → All (λ e. IsNode n e.node) others.old.items → All (λ e. IsNode n e.node) others.new.items }

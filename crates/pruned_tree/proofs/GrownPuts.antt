@@ -73,7 +73,7 @@ module _ (edges : List Edge) (at : List ℕ) where
   unfolding IsDistinct
   IsGrownBy-none whole v row = record {
     puts = [];
-    behind = sym (append-nil row);
+    joined = sym (append-nil row);
     fit = λ k d within. absurd (omega (arith, within));
     once = tt;
     of_roots = λ k d within. absurd (omega (arith, within));
@@ -90,7 +90,7 @@ module _ (edges : List Edge) (at : List ℕ) where
   IsGrownBy-tree p seen before after result grown whole ok v from_one = elim (grown.pruned.one v from_one) [
     | inl same ↦ record {
       puts = [];
-      behind = same ∙ sym (append-nil (before v));
+      joined = same ∙ sym (append-nil (before v));
       fit = λ k d within. absurd (omega (arith, within));
       once = tt;
       of_roots = λ k d within. absurd (omega (arith, within));
@@ -98,7 +98,7 @@ module _ (edges : List Edge) (at : List ℕ) where
     }
     | inr got ↦ record {
       puts = entry p got.0 ∷ [];
-      behind = got.1;
+      joined = got.1;
       fit = All-one (EntryFits (Joined edges) at v) (entry p got.0) (grown.pruned.fits v got.0 from_one got.1);
       once = (tt, tt);
       of_roots = one_entry p got.0;
@@ -122,7 +122,7 @@ module _ (edges : List Edge) (at : List ℕ) where
   pub IsGrownBy-then : (first second : List ℕ) (one two whole : Type 0) (v : ℕ) (before mid after : List Entry) → IsGrownBy edges at first one v before mid → IsGrownBy edges at second two v mid after → AreApart first second → (whole → one × two) → IsGrownBy edges at (first ++ second) whole v before after
   IsGrownBy-then first second one two whole v before mid after a b apart both = record {
     puts = a.puts ++ b.puts;
-    behind = b.behind ∙ ap (λ row. row ++ b.puts) a.behind ∙ append_assoc before a.puts b.puts;
+    joined = b.joined ∙ ap (λ row. row ++ b.puts) a.joined ∙ append_assoc before a.puts b.puts;
     fit = All-append (EntryFits (Joined edges) at v) a.puts b.puts a.fit b.fit;
     once =
         subst (IsDistinct eqb) (sym (map-append pos_of a.puts b.puts))
@@ -137,11 +137,11 @@ module _ (edges : List Edge) (at : List ℕ) where
     ];
   }
 
-  -- the same entries behind others
-  pub IsGrownBy-behind : (roots : List ℕ) (whole : Type 0) (v : ℕ) (row after : List Entry) → IsGrownBy edges at roots whole v [] after → IsGrownBy edges at roots whole v row (row ++ after)
-  IsGrownBy-behind roots whole v row after g = record {
+  -- the same entries after others
+  pub IsGrownBy-after : (roots : List ℕ) (whole : Type 0) (v : ℕ) (row after : List Entry) → IsGrownBy edges at roots whole v [] after → IsGrownBy edges at roots whole v row (row ++ after)
+  IsGrownBy-after roots whole v row after g = record {
     puts = g.puts;
-    behind = ap (λ xs. row ++ xs) g.behind;
+    joined = ap (λ xs. row ++ xs) g.joined;
     fit = g.fit;
     once = g.once;
     of_roots = g.of_roots;

@@ -7,7 +7,7 @@ use Rattle.walk_laws.specs.declared.entry.Entry.{Entry}
 use Rattle.walk_laws.specs.declared.graph.Arc.{Arc}
 use Rattle.walk_laws.specs.Ranking.{position_of}
 use Rattle.walk_laws.specs.Walk.{HasWalk}
-use Rattle.walk_laws.proofs.Walks.{HasWalk-behind, HasWalk-same}
+use Rattle.walk_laws.proofs.Walks.{HasWalk-after, HasWalk-same}
 use Rattle.frontier.specs.declared.reach.Found.{Found}
 use Rattle.frontier.specs.declared.reach.Reach.{Reach}
 use Rattle.frontier.specs.declared.reach.Reach.TheVariants.{Queued}
@@ -17,7 +17,7 @@ use Rattle.pruned_tree.specs.Grown.{Gains, ExtendsOne, IsPruned}
 use Rattle.pruned_tree.specs.Relaxed.{HasDistance, IsSettledAt, Along, IsRelaxed}
 use Rattle.pruned_tree.proofs.OfferedNodes.{has_distance, not_settled, settle_was, settle_keeps}
 
--- a list with an element behind it is another list, and tells that element
+-- a list with an element after it is another list, and tells that element
 pub not_longer : (xs : List Entry) (e : Entry) → xs ++ e ∷ [] ≡ xs → ⊥
 not_longer xs e same = omega (arith, length-append xs (e ∷ []), ap length same)
 
@@ -25,7 +25,7 @@ pub same_last : (xs : List Entry) (e f : Entry) → xs ++ e ∷ [] ≡ xs ++ f �
 same_last [] e f same = cc
 same_last (x ∷ xs) e f same = let rest : xs ++ e ∷ [] ≡ xs ++ f ∷ [] = cc in same_last xs e f rest
 
--- each node that is reached has a walk of its distance behind nodes that gained their entries, and each entry gained is that of a settled node
+-- each node that is reached has a walk of its distance after nodes that gained their entries, and each entry gained is that of a settled node
 pub record IsGrowth (J : ℕ → ℕ → ℕ → Type 0) (at : List ℕ) (h p : ℕ) (before : ℕ → List Entry) (nodes : List (Reach Bare)) (puts : ℕ → List Entry) : Type 0 where
   pub one : (x : ℕ) → 1 ≤ x → (puts x ≡ before x) ⊎ ((d : ℕ) × IsSettledAt (reach_at nodes x) d × Gains before puts p x d)
   pub from_one : (x d : ℕ) → HasDistance (reach_at nodes x) d → 1 ≤ x
@@ -132,7 +132,7 @@ module _ (J : ℕ → ℕ → ℕ → Type 0) (at : List ℕ) (h p : ℕ) (befor
           ];
           walk = λ x e reached. elim (relaxed.came x e reached) [
             | inl old ↦ grown.walk x e old
-            | inr new ↦ HasWalk-same J h x (d + new.0.arc.w) e new.0.long (HasWalk-behind J h v x new.0.arc.w d (grown.walk v d (has_distance (reach_at nodes v) d there)) (arc_along x e new.0))
+            | inr new ↦ HasWalk-same J h x (d + new.0.arc.w) e new.0.long (HasWalk-after J h v x new.0.arc.w d (grown.walk v d (has_distance (reach_at nodes v) d there)) (arc_along x e new.0))
           ];
           ranked = λ x e reached. elim (relaxed.came x e reached) [ inl old ↦ grown.ranked x e old | inr new ↦ new.1 ];
           way = λ x e reached far. elim (relaxed.came x e reached) [

@@ -115,7 +115,7 @@ module _ {C : Type 0} where
       let few : unsettled nodes * heaviest ≤ (n + 1) * heaviest = mul-le-mul_right heaviest (omega (arith, unsettled-le nodes, size)) in
       omega (arith, few, start x d there)
 
--- no walk of the tree and an edge behind it is as long as 2 ^ 64
+-- no walk of the tree and an edge after it is as long as 2 ^ 64
 pub fits_64 : (n : ℕ) (edges : List Edge) (dist more : ℕ) → IsGraph n edges → 1 ≤ n → dist + greatest_weight edges + more ≤ (n + 1) * greatest_weight edges → dist + greatest_weight edges < 2 ^ 64
 fits_64 n edges dist more graph some room =
     let one : 1 * greatest_weight edges ≤ n * greatest_weight edges = mul-le-mul_right (greatest_weight edges) some in

@@ -8,7 +8,7 @@ use Rattle.walk_laws.specs.Joined.{Joined}
 use Rattle.walk_laws.specs.Labelling.{EntryFits, IsHubEntry}
 use Rattle.walk_laws.specs.Meet.{HasSum}
 
--- the entries of the node v are those of before, with one at the position p and the distance d behind them
+-- the entries of the node v are those of before, with one at the position p and the distance d after them
 abbrev pub Gains : (ℕ → List Entry) → (ℕ → List Entry) → ℕ → ℕ → ℕ → Type 0
 Gains before after p v d = after v ≡ before v ++ record { pos = p; dist = d } ∷ []
 

@@ -84,10 +84,10 @@ impl JudgesLines for NodeLines {
 fn node_of_line(line: &[u8], n: u32, line_number: u64) -> Result<u32, OrderFault>
     ensures { result ≡ node_of_words n line_number (words_of line.now) }
 {
-    let Some((value, behind)) = first_number(line) else {
+    let Some((value, after)) = first_number(line) else {
         return Err(OrderFault::BadField { line: line_number });
     };
-    if first_word(behind).is_some() {
+    if first_word(after).is_some() {
         return Err(OrderFault::BadField { line: line_number });
     }
     let Some(v) = value else {

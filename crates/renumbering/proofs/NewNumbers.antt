@@ -75,7 +75,7 @@ Joined-there tour edges x y w h =
       | inr other_way ↦ inr (Contains-there tour edges (edge y x w) other_way)
     ]
 
--- the old edge behind a new one between x and y
+-- the old edge after a new one between x and y
 came_back : (n : ℕ) (tour : List ℕ) (edges : List Edge) (x y w : ℕ) → All (IsEdge n) edges → IsRanking tour → length tour ≡ n → Contains (renumbered_edges tour edges) (edge x y w) → Contains edges (edge (node_at tour x) (node_at tour y) w)
 came_back n tour edges x y w fits r size h =
     let came = Contains-came tour edges (edge x y w) h in

@@ -85,7 +85,7 @@ range-push a zero = let same : a ≡ a + 0 = omega arith in ap (λ k. k ∷ []) 
 range-push a (suc n) = let same : a + 1 + n ≡ a + suc n = omega arith in
     ap (λ ks. a ∷ ks) (range-push (a + 1) n ∙ ap (λ k. range_with_len (a + 1) n ++ k ∷ []) same)
 
--- the numbers up to the one behind the next
+-- the numbers up to the one after the next
 pub numbers-push : (first next : ℕ) → first ≤ next → numbers first (next + 1) ≡ numbers first next ++ next ∷ []
 numbers-push first next within =
     let more : next + 1 - first ≡ suc (next - first) = omega arith in

@@ -1,4 +1,4 @@
--- The words and lines of a text that is printed: words without blanks, one space between two, and one LF behind each line.
+-- The words and lines of a text that is printed: words without blanks, one space between two, and one LF after each line.
 use Rattle.std.proofs.Common.{◌≡◌, ◌≢◌, inl, inr, ℕ, ◌^◌, ◌<◌, ◌≤◌, true, false, eqb, All, List, [], ◌∷◌, ◌++◌, length, Some, refl, ap, sym, ◌∙◌, arith}
 use Rattle.std.specs.Fmt.{decimal}
 use Rattle.std.specs.List.{AllByRecursion}
@@ -12,8 +12,8 @@ use Rattle.std.proofs.lemmas.Str.Parse.{digit_from_value}
 use Rattle.desk_io.specs.Lines.{without_cr, whole_lines, open_rest}
 use Rattle.desk_io.proofs.LineCuts.{whole_lines-first, open_rest-first}
 use Rattle.desk_io.proofs.LineEnds.{without_cr-keep}
-use Rattle.text_lines.specs.Words.{is_blank, word_if_any, words_behind, words_of, number_of}
-use Rattle.text_lines.proofs.Digits.{digit_in_range, number_of-front}
+use Rattle.text_lines.specs.Words.{is_blank, word_if_any, words_after, words_of, number_of}
+use Rattle.text_lines.proofs.Digits.{digit_in_range, number_of-prefix}
 
 -- bytes that part no words
 abbrev pub IsSolid : List ℕ → Type 0
@@ -29,11 +29,11 @@ apart x y above = elim (eqb_tells x y) [ inl same ↦ absurd (omega (arith, same
 not_blank : (b : ℕ) → 32 < b → is_blank b ≡ false
 not_blank b solid = rw (apart b 32 solid, apart b 9 (omega arith)) refl
 
-solid_run : (begun word rest : List ℕ) → IsSolid word → words_behind begun (word ++ rest) ≡ words_behind (begun ++ word) rest
-solid_run begun [] rest solid = ap (λ w. words_behind w rest) (sym (append-nil begun))
+solid_run : (begun word rest : List ℕ) → IsSolid word → words_after begun (word ++ rest) ≡ words_after (begun ++ word) rest
+solid_run begun [] rest solid = ap (λ w. words_after w rest) (sym (append-nil begun))
 solid_run begun (b ∷ word) rest solid =
-    let goes_on : words_behind begun (b ∷ (word ++ rest)) ≡ words_behind (begun ++ b ∷ []) (word ++ rest) = rw (not_blank b solid.0) refl in
-    goes_on ∙ solid_run (begun ++ b ∷ []) word rest solid.1 ∙ ap (λ w. words_behind w rest) (append_assoc begun (b ∷ []) word)
+    let goes_on : words_after begun (b ∷ (word ++ rest)) ≡ words_after (begun ++ b ∷ []) (word ++ rest) = rw (not_blank b solid.0) refl in
+    goes_on ∙ solid_run (begun ++ b ∷ []) word rest solid.1 ∙ ap (λ w. words_after w rest) (append_assoc begun (b ∷ []) word)
 
 any_word : (word : List ℕ) → 0 < length word → word_if_any word ≡ word ∷ []
 any_word [] some = absurd (omega arith)
@@ -48,8 +48,8 @@ pub words_of-last : (word : List ℕ) → 0 < length word → IsSolid word → w
 words_of-last word some solid = ap words_of (sym (append-nil word)) ∙ solid_run [] word [] solid ∙ any_word word some
 
 pub IsPrintable-append : (xs ys : List ℕ) → IsPrintable xs → IsPrintable ys → IsPrintable (xs ++ ys)
-IsPrintable-append [] ys front back = back
-IsPrintable-append (x ∷ xs) ys front back = (front.0, IsPrintable-append xs ys front.1 back)
+IsPrintable-append [] ys prefix back = back
+IsPrintable-append (x ∷ xs) ys prefix back = (prefix.0, IsPrintable-append xs ys prefix.1 back)
 
 pub IsPrintable-from_solid : (word : List ℕ) → IsSolid word → IsPrintable word
 IsPrintable-from_solid [] solid = tt
@@ -73,8 +73,8 @@ digits_solid : (ds : List ℕ) → AllDigits 10 ds → (all_ascii_digits ds ≡ 
 digits_solid [] all = (refl, tt)
 digits_solid (d ∷ ds) all =
     let range = digit_from_value d all.0 in
-    let behind = digits_solid ds all.1 in
-    (rw (digit_in_range d range.0 range.1) behind.0, (omega (arith, range.0), behind.1))
+    let after = digits_solid ds all.1 in
+    (rw (digit_in_range d range.0 range.1) after.0, (omega (arith, range.0), after.1))
 
 -- a printed number is a word that is that number
 pub record PrintsNumber (n : ℕ) : Type 0 where
@@ -86,4 +86,4 @@ pub decimal_prints : (n : ℕ) → n < 2 ^ 64 → PrintsNumber n
 decimal_prints n small =
     let numeral = decimal_is_IsNumeral n small in
     let digits = digits_solid (decimal n) numeral.0.1 in
-    record { some = numeral.0.0; solid = digits.1; number = number_of-front (decimal n) numeral.0.0 digits.0 ∙ ap Some numeral.1 }
+    record { some = numeral.0.0; solid = digits.1; number = number_of-prefix (decimal n) numeral.0.0 digits.0 ∙ ap Some numeral.1 }

@@ -4,9 +4,9 @@ use Rattle.std.specs.Result.{result_err}
 use Rattle.desk_io.specs.Lines.{whole_lines, lines_of}
 use Rattle.text_lines.specs.Words.{words_of, is_skipped}
 
--- the number of the line behind a line; lines count from 1, and the count stands still at 2^64 - 1
-abbrev pub number_behind : ℕ → ℕ
-number_behind number = min (number + 1) (2 ^ 64 - 1)
+-- the number of the line after a line; lines count from 1, and the count stands still at 2^64 - 1
+abbrev pub number_after : ℕ → ℕ
+number_after number = min (number + 1) (2 ^ 64 - 1)
 
 -- how far a text is judged: the number of the next line, and what the lines before it came to
 pub record Progress (S : Type 0) : Type 0 where
@@ -20,20 +20,20 @@ abbrev pub ◌>>=◌ : {A B F : Type 0} → Result A F → (A → Result B F) �
 
 -- `judged` says what the words of the line with a number make of a state, and `ended` what the end with a number makes of it
 module _ {S V F : Type 0} (judged : S → ℕ → List (List ℕ) → Result S F) (ended : S → ℕ → Result V F) where
-  -- behind one line more, which is counted and, where it is blank or a comment, skipped
-  abbrev pub behind_line : Progress S → List ℕ → Result (Progress S) F
-  behind_line at line =
+  -- after one line more, which is counted and, where it is blank or a comment, skipped
+  abbrev pub after_line : Progress S → List ℕ → Result (Progress S) F
+  after_line at line =
       (if is_skipped (words_of line) then Ok at.state else judged at.state at.next (words_of line))
-      >>= λ state. Ok (record { next = number_behind at.next; state = state })
+      >>= λ state. Ok (record { next = number_after at.next; state = state })
 
-  -- behind some lines more, or the first fault among them
-  abbrev pub behind_lines : Progress S → List (List ℕ) → Result (Progress S) F
-  behind_lines at [] = Ok at
-  behind_lines at (line ∷ lines) = behind_line at line >>= λ after. behind_lines after lines
+  -- after some lines more, or the first fault among them
+  abbrev pub after_lines : Progress S → List (List ℕ) → Result (Progress S) F
+  after_lines at [] = Ok at
+  after_lines at (line ∷ lines) = after_line at line >>= λ after. after_lines after lines
 
   -- what some lines more and then the end come to
   abbrev pub value_of_lines : Progress S → List (List ℕ) → Result V F
-  value_of_lines at lines = behind_lines at lines >>= λ after. ended after.state after.next
+  value_of_lines at lines = after_lines at lines >>= λ after. ended after.state after.next
 
   -- what a whole text comes to
   abbrev pub value_of_text : S → List ℕ → Result V F
@@ -41,7 +41,7 @@ module _ {S V F : Type 0} (judged : S → ℕ → List (List ℕ) → Result S F
 
   -- the first fault among the lines of a text that an LF ends
   abbrev pub fault_within : S → List ℕ → Option F
-  fault_within start text = result_err (behind_lines (record { next = 1; state = start }) (whole_lines [] text))
+  fault_within start text = result_err (after_lines (record { next = 1; state = start }) (whole_lines [] text))
 
   module _ (no_memory : F) where
     -- how one who judges may take a line: as it is judged, but for want of memory

@@ -2,7 +2,7 @@
 use Rattle.std.specs.Prelude.{◌≡◌, ◌⊎◌, ℕ, List, [], ◌++◌, Option, Some, None, Result, Ok, Err}
 use Rattle.std.specs.Result.{result_err}
 use Rattle.desk_io.specs.Lines.{whole_lines, last_line, open_rest}
-use Rattle.text_lines.specs.Judgement.{Progress, behind_lines, value_of_lines}
+use Rattle.text_lines.specs.Judgement.{Progress, after_lines, value_of_lines}
 
 -- how far the whole lines are judged, the bytes of the line that is open, and the fault that was answered, after which no
 -- other is
@@ -27,7 +27,7 @@ unless_refused None now = now
 module _ {S V F : Type 0} (judged : S → ℕ → List (List ℕ) → Result S F) (ended : S → ℕ → Result V F) where
   -- the first fault that is plain by the end of these bytes
   abbrev pub refused : Reading S F → List ℕ → Option F
-  refused reading bytes = earlier_fault reading.refusal (behind_lines judged ended reading.progress (whole_lines reading.begun bytes))
+  refused reading bytes = earlier_fault reading.refusal (after_lines judged ended reading.progress (whole_lines reading.begun bytes))
 
   -- what these bytes come to where nothing follows them
   abbrev pub comes_to : Reading S F → List ℕ → Result V F
@@ -40,10 +40,10 @@ module _ {S V F : Type 0} (judged : S → ℕ → List (List ℕ) → Result S F
   Reads no_memory before piece (Ok done) after =
       (before.refusal ≡ None)
       × (after.refusal ≡ None)
-      × (behind_lines judged ended before.progress (whole_lines before.begun piece) ≡ Ok after.progress)
+      × (after_lines judged ended before.progress (whole_lines before.begun piece) ≡ Ok after.progress)
       × (after.begun ≡ open_rest before.begun piece)
   Reads no_memory before piece (Err fault) after =
       (after.refusal ≡ Some fault)
       × ((before.refusal ≡ Some fault)
       ⊎ ((before.refusal ≡ None)
-      × ((fault ≡ no_memory) ⊎ (behind_lines judged ended before.progress (whole_lines before.begun piece) ≡ Err fault))))
+      × ((fault ≡ no_memory) ⊎ (after_lines judged ended before.progress (whole_lines before.begun piece) ≡ Err fault))))

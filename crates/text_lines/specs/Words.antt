@@ -14,13 +14,13 @@ word_if_any [] = []
 word_if_any (b ∷ word) = (b ∷ word) ∷ []
 
 -- the words of a line, the first of them begun by some bytes before
-abbrev pub words_behind : List ℕ → List ℕ → List (List ℕ)
-words_behind begun [] = word_if_any begun
-words_behind begun (b ∷ line) = if is_blank b then word_if_any begun ++ words_behind [] line else words_behind (begun ++ b ∷ []) line
+abbrev pub words_after : List ℕ → List ℕ → List (List ℕ)
+words_after begun [] = word_if_any begun
+words_after begun (b ∷ line) = if is_blank b then word_if_any begun ++ words_after [] line else words_after (begun ++ b ∷ []) line
 
 -- the words of a line: its runs of bytes other than space and tab
 abbrev pub words_of : List ℕ → List (List ℕ)
-words_of line = words_behind [] line
+words_of line = words_after [] line
 
 -- whether the words of a line are none, or a comment, whose first word begins with `c`
 abbrev pub is_skipped : List (List ℕ) → Bool
@@ -37,10 +37,10 @@ number_of (b ∷ word) = if all_ascii_digits (b ∷ word) then Some (digits_valu
 abbrev pub number_of_word : List ℕ → Option ℕ
 number_of_word word = option_map (λ n. min n (2 ^ 64 - 1)) (number_of word)
 
--- the first of some words is this number, and these words are behind it
-pub record IsFirstNumber (words : List (List ℕ)) (number : Option ℕ) (behind : List (List ℕ)) : Type 0 where
+-- the first of some words is this number, and these words are after it
+pub record IsFirstNumber (words : List (List ℕ)) (number : Option ℕ) (after : List (List ℕ)) : Type 0 where
   pub word : List ℕ
-  pub first : words ≡ word ∷ behind
+  pub first : words ≡ word ∷ after
   pub value : number ≡ number_of_word word
 
 -- the numbers that some words are, all of them

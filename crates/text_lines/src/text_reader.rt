@@ -1,5 +1,5 @@
 ghost use Rattle.std.specs.Prelude.{◌≡◌, ◌≢◌, ◌⊎◌, ℕ, List, ◌∷◌, ◌++◌, All, Result, Ok, Err, IfOk, OnOk, IfErr, IfSome, IfNone};
-ghost use Rattle.text_lines.specs.Judgement.{behind_line};
+ghost use Rattle.text_lines.specs.Judgement.{after_line};
 ghost use Rattle.text_lines.specs.TextReading.{at_start};
 
 use crate::judges_lines::JudgesLines;
@@ -118,35 +118,35 @@ where
 {
     ghost use Rattle.std.specs.Prelude.{◌≡◌, ◌≢◌, ◌⊎◌, [], ◌++◌, All, Ok, Err, OnOk, IfErr};
     ghost use Rattle.desk_io.specs.Lines.{without_cr, whole_lines, open_rest};
-    ghost use Rattle.text_lines.specs.Judgement.{behind_line, behind_lines};
+    ghost use Rattle.text_lines.specs.Judgement.{after_line, after_lines};
 
-    /// Judges the lines that end within a piece, and keeps what is behind them.
+    /// Judges the lines that end within a piece, and keeps what is after them.
     fn take(&mut self, piece: &[u8]) -> Result<(), J::Fault>
-        ensures judged { OnOk result (behind_lines J.judged J.ended self.old.progress (whole_lines self.old.begun piece.now) ≡ Ok self.new.progress) }
+        ensures judged { OnOk result (after_lines J.judged J.ended self.old.progress (whole_lines self.old.begun piece.now) ≡ Ok self.new.progress) }
         ensures begun { OnOk result (self.new.begun ≡ open_rest self.old.begun piece.now) }
         ensures refusal { self.new.refusal ≡ self.old.refusal }
         ensures err { IfErr result (λ fault. (fault ≡ J.no_memory)
-            ⊎ (behind_lines J.judged J.ended self.old.progress (whole_lines self.old.begun piece.now) ≡ Err fault)) }
+            ⊎ (after_lines J.judged J.ended self.old.progress (whole_lines self.old.begun piece.now) ≡ Err fault)) }
     {
         let mut rest = piece;
-        while let Some((run, behind)) = first_line(rest) {
+        while let Some((run, after)) = first_line(rest) {
             if let Err(fault) = self.take_line(run) {
                 return Err(fault);
             }
-            rest = behind;
+            rest = after;
         }
         self.gathered.gather(rest)?;
         Ok(())
     }
 
-    /// Judges the open line, which ends behind a run of bytes.
+    /// Judges the open line, which ends after a run of bytes.
     fn take_line(&mut self, run: &[u8]) -> Result<(), J::Fault>
         requires { All (λ b. b ≢ 10) run.now }
-        ensures judged { OnOk result (behind_line J.judged J.ended self.old.progress (without_cr (self.old.begun ++ run.now)) ≡ Ok self.new.progress) }
+        ensures judged { OnOk result (after_line J.judged J.ended self.old.progress (without_cr (self.old.begun ++ run.now)) ≡ Ok self.new.progress) }
         ensures begun { OnOk result (self.new.begun ≡ []) }
         ensures refusal { self.new.refusal ≡ self.old.refusal }
         ensures err { IfErr result (λ fault. (fault ≡ J.no_memory)
-            ⊎ (behind_line J.judged J.ended self.old.progress (without_cr (self.old.begun ++ run.now)) ≡ Err fault)) }
+            ⊎ (after_line J.judged J.ended self.old.progress (without_cr (self.old.begun ++ run.now)) ≡ Err fault)) }
     {
         if self.gathered.line().is_empty() {
             return judge_line(&mut self.judge, &mut self.next, strip_cr(run));
@@ -159,7 +159,7 @@ where
     }
 }
 
-/// The bytes before the first LF and those behind it.
+/// The bytes before the first LF and those after it.
 fn first_line(bytes: &[u8]) -> Option<(&[u8], &[u8])>
     ensures found { IfSome result (λ r. bytes.now ≡ r.0.now ++ 10 ∷ r.1.now) }
     ensures first { IfSome result (λ r. All (λ b. b ≢ 10) r.0.now) }
@@ -171,10 +171,10 @@ fn first_line(bytes: &[u8]) -> Option<(&[u8], &[u8])>
 
 /// Judges the next line of a text, and skips it where it is blank or a comment.
 fn judge_line<J: JudgesLines>(judge: &mut J, next: &mut u64, line: &[u8]) -> Result<(), J::Fault>
-    ensures judged { OnOk result (behind_line J.judged J.ended (record { next = next.old; state = judge.old }) line.now
+    ensures judged { OnOk result (after_line J.judged J.ended (record { next = next.old; state = judge.old }) line.now
         ≡ Ok (record { next = next.new; state = judge.new })) }
     ensures err { IfErr result (λ fault. (fault ≡ J.no_memory)
-        ⊎ (behind_line J.judged J.ended (record { next = next.old; state = judge.old }) line.now ≡ Err fault)) }
+        ⊎ (after_line J.judged J.ended (record { next = next.old; state = judge.old }) line.now ≡ Err fault)) }
 {
     let number = *next;
     *next = number.saturating_add(1);

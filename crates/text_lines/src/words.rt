@@ -1,8 +1,8 @@
 ghost use Rattle.std.specs.Prelude.{◌≡◌, ◌+◌, ◌-◌, ◌*◌, ◌^◌, ◌<◌, ◌≤◌, ℕ, min, true, false, Some, List, [], ◌∷◌, ◌++◌, length, take, drop, slice_index, IsTrue, IfSome, IfNone};
 ghost use Rattle.std.specs.Char.{is_ascii_digit};
-ghost use Rattle.text_lines.specs.Words.{is_blank, word_if_any, words_behind, words_of, is_skipped, number_of_word, IsFirstNumber};
+ghost use Rattle.text_lines.specs.Words.{is_blank, word_if_any, words_after, words_of, is_skipped, number_of_word, IsFirstNumber};
 
-/// The first word of a line and what is behind it; None where the line has no word.
+/// The first word of a line and what is after it; None where the line has no word.
 pub fn first_word(line: &[u8]) -> Option<(&[u8], &[u8])>
     ensures found { IfSome result (λ r. words_of line.now ≡ r.0.now ∷ words_of r.1.now) }
     ensures some { IfSome result (λ r. 0 < length r.0.now) }
@@ -15,7 +15,7 @@ pub fn first_word(line: &[u8]) -> Option<(&[u8], &[u8])>
     Some(rest.split_at(word_len(rest)))
 }
 
-/// The number that the first word of a line is, as `number` tells it, and what is behind that word; None where the line has
+/// The number that the first word of a line is, as `number` tells it, and what is after that word; None where the line has
 /// no word.
 pub fn first_number(line: &[u8]) -> Option<(Option<u64>, &[u8])>
     ensures found { IfSome result (λ r. IsFirstNumber (words_of line.now) r.0 (words_of r.1.now)) }
@@ -26,8 +26,8 @@ pub fn first_number(line: &[u8]) -> Option<(Option<u64>, &[u8])>
     if len > 0 && ends_word(rest, len) {
         return Some((Some(value), &rest[len..]));
     }
-    let (word, behind) = first_word(rest)?;
-    Some((number(word), behind))
+    let (word, after) = first_word(rest)?;
+    Some((number(word), after))
 }
 
 /// Whether a line is blank or a comment.
@@ -49,7 +49,7 @@ fn ends_word(line: &[u8], place: usize) -> bool
 /// The digits with which a line begins: the number that they are, or u64::MAX where it is greater, and how many they are.
 fn leading_digits(line: &[u8]) -> (u64, usize)
     ensures within { result.1 ≤ length line.now }
-    ensures words { words_behind (take result.1 line.now) (drop result.1 line.now) ≡ words_of line.now }
+    ensures words { words_after (take result.1 line.now) (drop result.1 line.now) ≡ words_of line.now }
     ensures number { 0 < result.1 → number_of_word (take result.1 line.now) ≡ Some result.0 }
 {
     let mut value = 0;

@@ -6,7 +6,7 @@ use Rattle.walk_laws.specs.Walk.{HasWalk}
 use Rattle.walk_laws.specs.Least.{IsLeast}
 use Rattle.walk_laws.specs.On.{IsOn}
 use Rattle.walk_laws.proofs.Search.{Found, Found-decided, LeastNumber-below, LeastNumber-exists}
-use Rattle.walk_laws.proofs.Walks.{HasWalk-none_to, HasWalk-same, HasWalk-behind, HasWalk-last, LastStep}
+use Rattle.walk_laws.proofs.Walks.{HasWalk-none_to, HasWalk-same, HasWalk-after, HasWalk-last, LastStep}
 use Rattle.walk_laws.proofs.LeastWalks.{IsLeast-unique, IsLeast-same}
 use Rattle.walk_laws.proofs.OnWalks.{OnParts, OnParts-from_on, IsOn-from_parts}
 
@@ -33,7 +33,7 @@ module _ (J : ℕ → ℕ → ℕ → Type 0) (into : ℕ → List Arc) (each : 
   walk_of_found : (u v d : ℕ) → Found (EndsBy J u d) (into v) → HasWalk J u v d
   walk_of_found u v d found =
       let a = found.element in
-      HasWalk-same J u v (d - a.w + a.w) d (omega (arith, found.holds.0)) (HasWalk-behind J u a.to v a.w (d - a.w) found.holds.1 ((each v a.to a.w).0 found.there))
+      HasWalk-same J u v (d - a.w + a.w) d (omega (arith, found.holds.0)) (HasWalk-after J u a.to v a.w (d - a.w) found.holds.1 ((each v a.to a.w).0 found.there))
 
   found_of_last : (u v d : ℕ) → LastStep J u v d → Found (EndsBy J u d) (into v)
   found_of_last u v d last = record {

@@ -9,7 +9,7 @@ use Rattle.walk_laws.specs.Walk.{Step, IsWalk, walk_length, nodes_of, HasWalk}
 use Rattle.walk_laws.specs.Least.{IsLeast}
 use Rattle.walk_laws.specs.Answer.{IsFirstShortest}
 use Rattle.walk_laws.proofs.Search.{Found, Found-decided, LeastNumber-exists}
-use Rattle.walk_laws.proofs.Walks.{HasWalk-front, HasWalk-arc, HasWalk-same, HasWalk-first, FirstStep}
+use Rattle.walk_laws.proofs.Walks.{HasWalk-prefix, HasWalk-arc, HasWalk-same, HasWalk-first, FirstStep}
 use Rattle.walk_laws.proofs.LeastWalks.{IsLeast-unique, IsLeast-none, IsLeast-same, IsLeast-rest}
 
 -- y is next after u on a walk of length d to v
@@ -50,7 +50,7 @@ module _ (J : ℕ → ℕ → ℕ → Type 0) (positive : (x y w : ℕ) → J x 
   -- each shortest way on by way of y is as long from there
   same_rest : (u v d y k e : ℕ) → IsLeast J u v d → (n : IsNext J u v d y) → J u y k → HasWalk J y v e → k + e ≡ d → e ≡ d - n.weight
   same_rest u v d y k e least n arc walk long =
-      omega (arith, n.light, least.none_shorter (n.weight + e) (HasWalk-front J u y v n.weight e n.arc walk), least.none_shorter (k + (d - n.weight)) (HasWalk-front J u y v k (d - n.weight) arc n.walk))
+      omega (arith, n.light, least.none_shorter (n.weight + e) (HasWalk-prefix J u y v n.weight e n.arc walk), least.none_shorter (k + (d - n.weight)) (HasWalk-prefix J u y v k (d - n.weight) arc n.walk))
 
   none_before_at : (v e x y : ℕ) (others : List Step) (nodes : List ℕ) → IsFirstShortest J y v e nodes → x ≡ y → IsWalk J x others v → walk_length others ≡ e → slice_cmp nat_cmp (nodes_of x others) nodes ≡ Less → ⊥
   none_before_at v e x y others nodes f same walk long before =
@@ -96,7 +96,7 @@ module _ (J : ℕ → ℕ → ℕ → Type 0) (positive : (x y w : ℕ) → J x 
         | inr first ↦ next_of_first u v d first
       ]
 
-  -- what is left behind the next node is least
+  -- what is left over the next node is least
   pub IsLeast-next : (u v d y : ℕ) → IsLeast J u v d → (n : IsNext J u v d y) → IsLeast J y v (d - n.weight)
   IsLeast-next u v d y least n =
       IsLeast-rest J u y v n.weight (d - n.weight) (HasWalk-arc J u y n.weight n.arc) n.walk (IsLeast-same J u v d (n.weight + (d - n.weight)) (omega (arith, n.light)) least)

@@ -24,14 +24,14 @@ entry p d = record { pos = p; dist = d }
 same_entry : (e : Entry) (p d : ℕ) → p ≡ e.pos → d ≡ e.dist → entry p d ≡ e
 same_entry e p d same_pos same_dist = ap (λ q. entry q d) same_pos ∙ ap (entry e.pos) same_dist
 
--- numbers that are all above one still rise with it in front
-rises_in_front : (k : ℕ) (row : List Entry) (d : ℕ) → IsStrictlyIncreasing (map (λ e. e.pos) row) → ((e : Entry) → Contains row e → k < e.pos) → IsStrictlyIncreasing (map (λ e. e.pos) (entry k d ∷ row))
-rises_in_front k row d rising above zero within =
+-- numbers that are all above one still rise with it before them
+rises_in_prefix : (k : ℕ) (row : List Entry) (d : ℕ) → IsStrictlyIncreasing (map (λ e. e.pos) row) → ((e : Entry) → Contains row e → k < e.pos) → IsStrictlyIncreasing (map (λ e. e.pos) (entry k d ∷ row))
+rises_in_prefix k row d rising above zero within =
     let inside : 0 < length row = omega (arith, length-map row (λ (e : Entry). e.pos)) in
     let next = above (get_or row 0 (entry 0 0)) (Contains-get_or row 0 (entry 0 0) inside) in
     let is = get_or-map (λ (e : Entry). e.pos) row 0 (entry 0 0) 0 inside in
     omega (arith, next, is)
-rises_in_front k row d rising above (suc i) within =
+rises_in_prefix k row d rising above (suc i) within =
     let step : suc i + 1 ≡ suc (i + 1) = omega arith in
     subst (λ n. get_or (map (λ e. e.pos) row) i 0 < get_or (k ∷ map (λ e. e.pos) row) n 0) (sym step) (rising i (omega arith))
 
@@ -48,9 +48,9 @@ module _ (J : ℕ → ℕ → ℕ → Type 0) (at : List ℕ) where
       let same : hub.0 ≡ h = same_Some hub.0 h (sym hub.1 ∙ ap (slice_get at) (sym place) ∙ is) in
       subst (λ x. IsCanonical J at x v e.dist) same hub.2
 
-  -- the hub at k stands in front of those behind it
+  -- the hub at k stands before those after it
   pub row_with : (v h k d : ℕ) (row : List Entry) → slice_get at k ≡ Some h → IsCanonical J at h v d → IsRowFrom J at v (k + 1) row → IsRowFrom J at v k (entry k d ∷ row)
-  row_with v h k d row is hub rest = record { rising = rises_in_front k row d rest.rising (λ e there. (omega (arith, ((rest.each e).0 there).0))); each = λ e. (there_from e, from_there e) }
+  row_with v h k d row is hub rest = record { rising = rises_in_prefix k row d rest.rising (λ e there. (omega (arith, ((rest.each e).0 there).0))); each = λ e. (there_from e, from_there e) }
     where
       there_from : (e : Entry) → Contains (entry k d ∷ row) e → (k ≤ e.pos) × IsHubEntry J at v e
       there_from e there = elim (Contains-cons_cases (entry k d) e row there) [

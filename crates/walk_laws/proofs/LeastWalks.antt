@@ -2,7 +2,7 @@
 use Rattle.std.proofs.Common.{◌≡◌, ◌≢◌, ℕ, ◌+◌, ◌≤◌, subst, sym, inl, inr, arith}
 use Rattle.walk_laws.specs.Walk.{HasWalk}
 use Rattle.walk_laws.specs.Least.{IsLeast, AreApart}
-use Rattle.walk_laws.proofs.Walks.{HasWalk-none, HasWalk-append, HasWalk-behind, HasWalk-last, LastStep}
+use Rattle.walk_laws.proofs.Walks.{HasWalk-none, HasWalk-append, HasWalk-after, HasWalk-last, LastStep}
 
 -- a node just before the end of a shortest walk
 pub record Predecessor (J : ℕ → ℕ → ℕ → Type 0) (u v d : ℕ) : Type 0 where
@@ -41,14 +41,14 @@ module _ (J : ℕ → ℕ → ℕ → Type 0) where
 
   -- a step past the least length does not go below it
   pub IsLeast-le_step : (u y v w a d : ℕ) → HasWalk J u y a → J y v w → IsLeast J u v d → d ≤ a + w
-  IsLeast-le_step u y v w a d walk arc least = least.none_shorter (a + w) (HasWalk-behind J u y v w a walk arc)
+  IsLeast-le_step u y v w a d walk arc least = least.none_shorter (a + w) (HasWalk-after J u y v w a walk arc)
 
   predecessor_of_last : (u v d : ℕ) → IsLeast J u v d → LastStep J u v d → Predecessor J u v d
   predecessor_of_last u v d least last = record {
     node = last.node;
     weight = last.weight;
     before = last.before;
-    least = record { walk = last.walk; none_shorter = λ e other. omega (arith, last.long, least.none_shorter (e + last.weight) (HasWalk-behind J u last.node v last.weight e other last.arc)) };
+    least = record { walk = last.walk; none_shorter = λ e other. omega (arith, last.long, least.none_shorter (e + last.weight) (HasWalk-after J u last.node v last.weight e other last.arc)) };
     arc = last.arc;
     long = last.long;
   }

@@ -12,7 +12,7 @@ use Rattle.walk_laws.specs.Canonical.{IsCanonical}
 use Rattle.walk_laws.specs.Labelling.{IsRow, IsChl, label_row}
 use Rattle.walk_laws.specs.Lightest.{IsLightest, AreLightest}
 use Rattle.walk_laws.proofs.JoinedEdges.{Joined-sym}
-use Rattle.walk_laws.proofs.Walks.{HasWalk-none, HasWalk-behind, HasWalk-induction, HasWalk-more}
+use Rattle.walk_laws.proofs.Walks.{HasWalk-none, HasWalk-after, HasWalk-induction, HasWalk-more}
 use Rattle.walk_laws.proofs.OnWalks.{OnParts-from_on, IsOn-from_parts}
 
 -- two relations of arcs, of which the second has some of the first, and of those between two nodes one that is no heavier
@@ -25,7 +25,7 @@ module _ (J K : ℕ → ℕ → ℕ → Type 0) (known : (x y w : ℕ) → K x y
         | inl same ↦ (so_far.0, omega (arith, so_far.1), subst (λ z. HasWalk K u z so_far.0) same.1 so_far.2)
         | inr other ↦
             let k = lighter y v w other.1 arc in
-            (so_far.0 + k.0, omega (arith, so_far.1, k.1), HasWalk-behind K u y v k.0 so_far.0 so_far.2 k.2)
+            (so_far.0 + k.0, omega (arith, so_far.1, k.1), HasWalk-after K u y v k.0 so_far.0 so_far.2 k.2)
       ])
 
   IsLeast-down : (u v d : ℕ) → IsLeast J u v d → IsLeast K u v d

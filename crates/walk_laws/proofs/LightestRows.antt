@@ -49,7 +49,7 @@ lowered_least row i least d lt so_far k e within =
           omega (arith, ap (λ (a : Arc). a.w) (get_or-take (i + 1) row k e below), ap (λ x. (get_or row x e).w) same, ap (λ (a : Arc). a.w) (get_or_default row i e d lt))
     ]
 
--- where a later arc leads elsewhere, no arc behind it leads to the first neighbour
+-- where a later arc leads elsewhere, no arc after it leads to the first neighbour
 pub least_of_run : (row : List Arc) (i least : ℕ) (first : Arc) → IsNonDecreasingBy (λ (a : Arc). a.to) row → slice_get row 0 ≡ Some first → (i < length row → (get_or row i no_arc).to ≢ first.to) → All (λ (a : Arc). least ≤ a.w) (take i row) → (u : ℕ) → Contains row (arc_to first.to u) → least ≤ u
 least_of_run row i least first up head ends so_far u (k, within, is) =
     let here = get_or_default row k no_arc (arc_to first.to u) within ∙ is in
@@ -60,24 +60,24 @@ least_of_run row i least first up head ends so_far u (k, within, is) =
           absurd (ends (omega arith) (omega (arith, up 0 i no_arc (omega arith) (omega arith), up i k no_arc later within, ap (λ (a : Arc). a.to) here, at_first)))
     ]
 
--- the arcs behind a place
-pub rising_behind : (row : List Arc) (k : ℕ) → IsNonDecreasingBy (λ (a : Arc). a.to) row → IsNonDecreasingBy (λ (a : Arc). a.to) (take (length row - k) (drop k row))
-rising_behind row k up = rw (take_rest row k) (λ i j d le lt. rw (get_or-drop k row i d, get_or-drop k row j d) (up (k + i) (k + j) d (omega arith) (omega (arith, length-drop k row))))
+-- the arcs after a place
+pub rising_after : (row : List Arc) (k : ℕ) → IsNonDecreasingBy (λ (a : Arc). a.to) row → IsNonDecreasingBy (λ (a : Arc). a.to) (take (length row - k) (drop k row))
+rising_after row k up = rw (take_rest row k) (λ i j d le lt. rw (get_or-drop k row i d, get_or-drop k row j d) (up (k + i) (k + j) d (omega arith) (omega (arith, length-drop k row))))
 
-Contains-behind : (row : List Arc) (k : ℕ) (a : Arc) → Contains (take (length row - k) (drop k row)) a → Contains row a
-Contains-behind row k a h =
+Contains-after : (row : List Arc) (k : ℕ) (a : Arc) → Contains (take (length row - k) (drop k row)) a → Contains row a
+Contains-after row k a h =
     let there : Contains (drop k row) a = rw (take_rest row k) at h in
     (k + there.0, omega (arith, there.1, length-drop k row), sym (get_or-drop k row there.0 a) ∙ there.2)
 
 -- what is least of the arcs from the first one to a neighbour is least of all
 pub least_from_first : (row : List Arc) (k : ℕ) (w : ℕ) → IsNonDecreasingBy (λ (a : Arc). a.to) row → k < length row → ¬ FollowsItsLike row k → IsLeastTo (take (length row - k) (drop k row)) (get_or row k no_arc).to w → IsLeastTo row (get_or row k no_arc).to w
 least_from_first row k w up lt starts l = record {
-  there = Contains-behind row k (arc_to (get_or row k no_arc).to w) l.there;
-  least = λ u h. behind u h.0 h.1 h.2;
+  there = Contains-after row k (arc_to (get_or row k no_arc).to w) l.there;
+  least = λ u h. after u h.0 h.1 h.2;
 }
   where
-    behind : (u j : ℕ) → j < length row → get_or row j (arc_to (get_or row k no_arc).to u) ≡ arc_to (get_or row k no_arc).to u → w ≤ u
-    behind u j within is =
+    after : (u j : ℕ) → j < length row → get_or row j (arc_to (get_or row k no_arc).to u) ≡ arc_to (get_or row k no_arc).to u → w ≤ u
+    after u j within is =
         let to : (get_or row j no_arc).to ≡ (get_or row k no_arc).to = ap (λ (a : Arc). a.to) (get_or_default row j no_arc (arc_to (get_or row k no_arc).to u) within ∙ is) in
         elim (cases_lt j k) [
           | inl before ↦ absurd (starts (omega arith, omega (arith, to, up j (k - 1) no_arc (omega arith) (omega arith), up (k - 1) k no_arc (omega arith) lt)))

@@ -1,4 +1,4 @@
--- What a list with one more element in front contains.
+-- What a list with one more element before it contains.
 use Rattle.std.proofs.Common.{◌≡◌, ◌⊎◌, zero, suc, List, [], ◌∷◌, Contains, refl, inl, inr, arith}
 use Rattle.std.proofs.lemmas.List.Elements.{Contains-append_right, Contains-append_cases}
 

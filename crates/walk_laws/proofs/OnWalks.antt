@@ -4,7 +4,7 @@ use Rattle.walk_laws.specs.Walk.{Step, IsWalk, walk_length, nodes_of, HasWalk}
 use Rattle.walk_laws.specs.Least.{IsLeast}
 use Rattle.walk_laws.specs.On.{IsOn}
 use Rattle.walk_laws.proofs.Members.{Contains-first, Contains-next, Contains-cons_cases}
-use Rattle.walk_laws.proofs.Walks.{HasWalk-none, HasWalk-none_to, HasWalk-same, HasWalk-front, HasWalk-append, HasWalk-arc, HasWalk-last, HasWalk-zero, HasWalk-positive, LastStep, append_steps, append_length}
+use Rattle.walk_laws.proofs.Walks.{HasWalk-none, HasWalk-none_to, HasWalk-same, HasWalk-prefix, HasWalk-append, HasWalk-arc, HasWalk-last, HasWalk-zero, HasWalk-positive, LastStep, append_steps, append_length}
 use Rattle.walk_laws.proofs.LeastWalks.{IsLeast-unique, IsLeast-same, IsLeast-none, IsLeast-prefix, IsLeast-rest}
 
 -- a shortest walk from u to v by way of x, as two least lengths
@@ -34,9 +34,9 @@ pub record Cut (J : ℕ → ℕ → ℕ → Type 0) (u x v d : ℕ) : Type 0 whe
   pub long : before + after ≡ d
 
 module _ (J : ℕ → ℕ → ℕ → Type 0) where
-  cut_behind : (u y x v w d : ℕ) → J u y w → Cut J y x v d → Cut J u x v (w + d)
-  cut_behind u y x v w d arc c =
-      record { before = w + c.before; after = c.after; first = HasWalk-front J u y x w c.before arc c.first; second = c.second; long = omega (arith, c.long) }
+  cut_after : (u y x v w d : ℕ) → J u y w → Cut J y x v d → Cut J u x v (w + d)
+  cut_after u y x v w d arc c =
+      record { before = w + c.before; after = c.after; first = HasWalk-prefix J u y x w c.before arc c.first; second = c.second; long = omega (arith, c.long) }
 
   -- a walk can be cut at each node that it passes
   pub cut_at : (steps : List Step) (u x v : ℕ) → IsWalk J u steps v → Contains (nodes_of u steps) x → Cut J u x v (walk_length steps)
@@ -54,7 +54,7 @@ module _ (J : ℕ → ℕ → ℕ → Type 0) where
           second = record { steps = s ∷ steps; walk = subst (λ y. IsWalk J y (s ∷ steps) v) here walk; long = refl };
           long = omega arith;
         }
-        | inr later ↦ cut_behind u s.to x v s.weight (walk_length steps) (subst (λ y. J y s.to s.weight) walk.0 walk.1) (cut_at steps s.to x v walk.2 later)
+        | inr later ↦ cut_after u s.to x v s.weight (walk_length steps) (subst (λ y. J y s.to s.weight) walk.0 walk.1) (cut_at steps s.to x v walk.2 later)
       ]
 
   -- two walks, one after the other, pass the node between them

@@ -19,7 +19,7 @@ slice_range-same d xs ys a b long same =
     let low : i < b - a = omega (arith, length-take (b - a) (drop a xs)) in
     get_or-take (b - a) (drop a xs) i d low ∙ get_or-drop a xs i d ∙ same (a + i) (omega arith) (omega arith) ∙ sym (get_or-take (b - a) (drop a ys) i d low ∙ get_or-drop a ys i d))
 
--- one more element behind a part
+-- one more element after a part
 slice_range-more : {X : Type 0} (xs : List X) (a i : ℕ) (y : X) → a ≤ i → i < length xs → slice_range (set xs i y) a (i + 1) ≡ slice_range xs a i ++ y ∷ []
 slice_range-more xs a i y low lt =
     let placed = set xs i y in
@@ -148,7 +148,7 @@ rows_within whole row shift range v = if nat_lt (v / 2 ^ shift) range then whole
 abbrev in_range : ℕ → ℕ → ℕ → Bool
 in_range shift range v = v / 2 ^ shift == range
 
--- by cases: before, in or behind the range
+-- by cases: before, in or after the range
 within_added : (whole row : ℕ → List Arc) (shift range v : ℕ) (a : Arc) (u : ℕ) → added_if (in_range shift range v) (rows_within whole row shift range) v a u ≡ rows_within whole (added row v a) shift range u
 within_added whole row shift range v a u =
     elim (cases_eq v u) [
@@ -185,7 +185,7 @@ pub IsPlaced-ended : (edges : List Edge) (arcs : List Arc) (next : List ℕ) (sh
 IsPlaced-ended edges arcs next shift range placed =
     IsPlaced-same edges (rows_within (arcs_at edges) (arcs_at edges) shift range) (rows_before (arcs_at edges) shift (range + 1)) arcs next (λ u _. grind (arith, nat_tests)) placed
 
--- behind the last range all rows are whole
+-- after the last range all rows are whole
 pub IsPlaced-all : (edges : List Edge) (arcs : List Arc) (next : List ℕ) (shift range : ℕ) → length next / 2 ^ shift < range → IsPlaced edges (rows_before (arcs_at edges) shift range) arcs next → IsPlaced edges (arcs_at edges) arcs next
 IsPlaced-all edges arcs next shift range past placed =
     IsPlaced-same edges (rows_before (arcs_at edges) shift range) (arcs_at edges) arcs next (λ u lt. let low = shr_mono {a = u} {b = length next} shift (omega arith) in let before : u / 2 ^ shift < range = omega (arith, low, past) in grind (arith, nat_tests)) placed

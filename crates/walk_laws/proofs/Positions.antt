@@ -57,7 +57,7 @@ node_from_any at q r e =
     let is : get_or at (position_of at q) 0 ≡ q = get_or-position at q 0 place in
     rw is at (r.node (position_of at q) 0 place)
 
--- a node that stood nowhere could be put in front, and 0 before it: more distinct numbers than there are up to n
+-- a node that stood nowhere could be put first, and 0 before it: more distinct numbers than there are up to n
 no_node_is_missing : (at : List ℕ) (v : ℕ) → IsRanking at → 1 ≤ v → v ≤ length at → list_any (eqb v) at ≡ false → ⊥
 unfolding IsDistinct
 no_node_is_missing at v r from_one up_to_n missing =

@@ -6,7 +6,7 @@ use Rattle.walk_laws.specs.Joined.{Joined}
 use Rattle.walk_laws.specs.Walk.{HasWalk}
 use Rattle.walk_laws.specs.Least.{AreApart}
 use Rattle.walk_laws.proofs.Members.{Contains-first, Contains-next, Contains-cons_cases, Contains-empty}
-use Rattle.walk_laws.proofs.Walks.{HasWalk-none, HasWalk-none_to, HasWalk-append, HasWalk-behind, HasWalk-closed, HasWalk-more}
+use Rattle.walk_laws.proofs.Walks.{HasWalk-none, HasWalk-none_to, HasWalk-append, HasWalk-after, HasWalk-closed, HasWalk-more}
 
 -- some walk leads from u to v
 abbrev pub Reaches : List Edge → ℕ → ℕ → Type 0
@@ -48,7 +48,7 @@ module _ (edges : List Edge) where
   reaches_itself x = (0, HasWalk-none (Joined edges) x)
 
   reaches_on : (u y x w : ℕ) → Reaches edges u y → Joined edges y x w → Reaches edges u x
-  reaches_on u y x w h arc = (h.0 + w, HasWalk-behind (Joined edges) u y x w h.0 h.1 arc)
+  reaches_on u y x w h arc = (h.0 + w, HasWalk-after (Joined edges) u y x w h.0 h.1 arc)
 
   -- an old edge leads on
   along_old : (a b u y x w : ℕ) → ReachesBy edges a b u y → Joined edges y x w → ReachesBy edges a b u x
@@ -101,7 +101,7 @@ module _ (edges : List Edge) where
 
 both_ways_over : (edges : List Edge) (u x y v w : ℕ) → Reaches edges u x → Joined edges x y w → Reaches edges y v → Reaches edges u v
 both_ways_over edges u x y v w first arc second =
-    (first.0 + w + second.0, HasWalk-append (Joined edges) u y v (first.0 + w) second.0 (HasWalk-behind (Joined edges) u x y w first.0 first.1 arc) second.1)
+    (first.0 + w + second.0, HasWalk-append (Joined edges) u y v (first.0 + w) second.0 (HasWalk-after (Joined edges) u x y w first.0 first.1 arc) second.1)
 
 walk_from_by : (e : Edge) (edges : List Edge) (u v : ℕ) → ReachesBy edges e.u e.v u v → Reaches (e ∷ edges) u v
 walk_from_by e edges u v h =

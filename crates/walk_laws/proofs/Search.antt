@@ -15,8 +15,8 @@ pub record LeastNumber (P : ℕ → Type 0) : Type 0 where
   pub holds : P number
   pub least : (k : ℕ) → P k → number ≤ k
 
-none_in_front : {X : Type 0} (P : X → Type 0) (x : X) (xs : List X) → (P x → ⊥) → ((y : X) → Contains xs y → P y → ⊥) → (y : X) → Contains (x ∷ xs) y → P y → ⊥
-none_in_front P x xs not_first none y there holds =
+none_in_prefix : {X : Type 0} (P : X → Type 0) (x : X) (xs : List X) → (P x → ⊥) → ((y : X) → Contains xs y → P y → ⊥) → (y : X) → Contains (x ∷ xs) y → P y → ⊥
+none_in_prefix P x xs not_first none y there holds =
     elim (Contains-cons_cases x y xs there) [
       | inl same ↦ not_first (subst P (sym same) holds)
       | inr later ↦ none y later holds
@@ -30,7 +30,7 @@ Found-decided P (x ∷ xs) decide =
       | inl holds ↦ inl (record { element = x; there = Contains-first x xs; holds = holds })
       | inr not_first ↦ elim (Found-decided P xs (λ y there. decide y (Contains-next x y xs there))) [
         | inl found ↦ inl (record { element = found.element; there = Contains-next x found.element xs found.there; holds = found.holds })
-        | inr none ↦ inr (none_in_front P x xs not_first none)
+        | inr none ↦ inr (none_in_prefix P x xs not_first none)
       ]
     ]
 

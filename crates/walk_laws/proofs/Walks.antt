@@ -2,7 +2,7 @@
 use Rattle.std.proofs.Common.{◌≡◌, ◌≢◌, ◌⊎◌, ℕ, ◌+◌, ◌≤◌, Bool, true, false, List, [], ◌∷◌, ◌++◌, refl, sym, ap, ◌∙◌, subst, inl, inr, arith}
 use Rattle.walk_laws.specs.Walk.{Step, IsWalk, walk_length, HasWalk}
 
--- the walk's last step, behind a walk to where it begins
+-- the walk's last step, after a walk to where it begins
 pub record LastStep (J : ℕ → ℕ → ℕ → Type 0) (u v d : ℕ) : Type 0 where
   pub node : ℕ
   pub weight : ℕ
@@ -11,7 +11,7 @@ pub record LastStep (J : ℕ → ℕ → ℕ → Type 0) (u v d : ℕ) : Type 0 
   pub arc : J node v weight
   pub long : before + weight ≡ d
 
--- the walk's first step, in front of a walk from where it ends
+-- the walk's first step, before a walk from where it ends
 pub record FirstStep (J : ℕ → ℕ → ℕ → Type 0) (u v d : ℕ) : Type 0 where
   pub node : ℕ
   pub weight : ℕ
@@ -44,9 +44,9 @@ module _ (J : ℕ → ℕ → ℕ → Type 0) where
   pub HasWalk-same : (u v d e : ℕ) → d ≡ e → HasWalk J u v d → HasWalk J u v e
   HasWalk-same u v d e same h = record { steps = h.steps; walk = h.walk; long = h.long ∙ same }
 
-  -- a step in front
-  pub HasWalk-front : (u y v w d : ℕ) → J u y w → HasWalk J y v d → HasWalk J u v (w + d)
-  HasWalk-front u y v w d arc h =
+  -- a step before
+  pub HasWalk-prefix : (u y v w d : ℕ) → J u y w → HasWalk J y v d → HasWalk J u v (w + d)
+  HasWalk-prefix u y v w d arc h =
       record { steps = record { from = u; to = y; weight = w } ∷ h.steps; walk = (refl, arc, h.walk); long = ap (λ n. w + n) h.long }
 
   pub append_steps : (xs ys : List Step) (u x v : ℕ) → IsWalk J u xs x → IsWalk J x ys v → IsWalk J u (xs ++ ys) v
@@ -64,11 +64,11 @@ module _ (J : ℕ → ℕ → ℕ → Type 0) where
 
   -- an arc is a walk of one step
   pub HasWalk-arc : (u v w : ℕ) → J u v w → HasWalk J u v w
-  HasWalk-arc u v w arc = HasWalk-same u v (w + 0) w (omega arith) (HasWalk-front u v v w 0 arc (HasWalk-none v))
+  HasWalk-arc u v w arc = HasWalk-same u v (w + 0) w (omega arith) (HasWalk-prefix u v v w 0 arc (HasWalk-none v))
 
-  -- a step behind
-  pub HasWalk-behind : (u y v w d : ℕ) → HasWalk J u y d → J y v w → HasWalk J u v (d + w)
-  HasWalk-behind u y v w d h arc = HasWalk-append u y v d w h (HasWalk-arc y v w arc)
+  -- a step after
+  pub HasWalk-after : (u y v w d : ℕ) → HasWalk J u y d → J y v w → HasWalk J u v (d + w)
+  HasWalk-after u y v w d h arc = HasWalk-append u y v d w h (HasWalk-arc y v w arc)
 
   first_of_steps : (steps : List Step) (u v d : ℕ) → IsWalk J u steps v → walk_length steps ≡ d → ((u ≡ v) × (d ≡ 0)) ⊎ FirstStep J u v d
   first_of_steps [] u v d walk long = inl (walk, sym long)
@@ -79,7 +79,7 @@ module _ (J : ℕ → ℕ → ℕ → Type 0) where
   pub HasWalk-first : (u v d : ℕ) → HasWalk J u v d → ((u ≡ v) × (d ≡ 0)) ⊎ FirstStep J u v d
   HasWalk-first u v d h = first_of_steps h.steps u v d h.walk h.long
 
-  -- what holds of the empty walk, and behind each step of a walk where it held before it, holds of each walk
+  -- what holds of the empty walk, and after each step of a walk where it held before it, holds of each walk
   pub HasWalk-induction : (P : ℕ → ℕ → Type 0) (u : ℕ) → P u 0 → ((y v w a : ℕ) → HasWalk J u y a → P y a → J y v w → P v (a + w)) → (v d : ℕ) → HasWalk J u v d → P v d
   HasWalk-induction P u base step v d h = along h.steps u 0 (HasWalk-none u) base v d h.walk (omega (arith, h.long))
     where
@@ -87,7 +87,7 @@ module _ (J : ℕ → ℕ → ℕ → Type 0) where
       along [] x a before here v d walk long = subst (λ e. P v e) long (subst (λ y. P y (a + 0)) walk (subst (λ e. P x e) (omega arith) here))
       along (s ∷ steps) x a before here v d walk long =
           let arc = subst (λ y. J y s.to s.weight) walk.0 walk.1 in
-          along steps s.to (a + s.weight) (HasWalk-behind u x s.to s.weight a before arc) (step x s.to s.weight a before here arc) v d walk.2 (omega arith)
+          along steps s.to (a + s.weight) (HasWalk-after u x s.to s.weight a before arc) (step x s.to s.weight a before here arc) v d walk.2 (omega arith)
 
   -- each walk is empty or has a last step
   pub HasWalk-last : (u v d : ℕ) → HasWalk J u v d → ((u ≡ v) × (d ≡ 0)) ⊎ LastStep J u v d
@@ -145,4 +145,4 @@ module _ (J : ℕ → ℕ → ℕ → Type 0) where
 -- a walk over some arcs is one over more
 pub HasWalk-more : (J K : ℕ → ℕ → ℕ → Type 0) → ((x y w : ℕ) → J x y w → K x y w) → (u v d : ℕ) → HasWalk J u v d → HasWalk K u v d
 HasWalk-more J K more u v d h =
-    HasWalk-induction J (λ x e. HasWalk K u x e) u (HasWalk-none K u) (λ y x w a _ so_far arc. HasWalk-behind K u y x w a so_far (more y x w arc)) v d h
+    HasWalk-induction J (λ x e. HasWalk K u x e) u (HasWalk-none K u) (λ y x w a _ so_far arc. HasWalk-after K u y x w a so_far (more y x w arc)) v d h

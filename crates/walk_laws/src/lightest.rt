@@ -24,7 +24,7 @@ impl Graph {
     }
 }
 
-/// Puts an edge behind the others for each neighbour of `v` with a greater number, of the least weight of the arcs to it.
+/// Puts an edge after the others for each neighbour of `v` with a greater number, of the least weight of the arcs to it.
 /// The only error is that memory ran out.
 fn push_lightest(edges: &mut Vec<Edge>, v: u32, arcs: &[Arc]) -> Result<(), AllocError>
     requires { IsNonDecreasingBy (λ a. a.to) arcs.now }

@@ -69,7 +69,7 @@ fn written(desk: &MemDesk) -> Option<&[u8]> {
 
 /// Lets the k-th call of a kind fail, and runs the command twice on that desk: whether the first run was done. Where it was
 /// not, it ends with the fault of that kind, which is counted once, after a prefix of the bytes; and there is no file where
-/// none was created. The second run gives all bytes, behind what the first has said.
+/// none was created. The second run gives all bytes, after what the first has said.
 fn fails_once<R: Abort + AllocGlobal + Threads + Wait + Sync>(
     rt: &R,
     line: &str,

@@ -17,16 +17,16 @@ pub returns-in-Err-Failed-clause-runs : goal.returns-in-Err-Failed-clause-runs
 returns-in-Err-Failed-clause-runs g c =
     let gave = c.in-Err-Failed.ensures in
     let bytes = subst (λ bs. Tells (g.D.Desk.told c.output.new.desk) (g.D.Desk.told c.give.new.desk) (GivesPrefix (option_copied c.out_file.result) bs)) c.deref.ensures.value gave.err in
-    let front = subst (λ p. Tells (g.D.Desk.told c.output.new.desk) (g.D.Desk.told c.give.new.desk) (GivesPrefix p c.in-Ok.bytes.items)) c.out_file.ensures bytes in
-    runs_failed c.args.asked.now c.in-Ok.ensures (λ none. gave.no_place (c.out_file.ensures ∙ none)) gave.input_count front
+    let prefix = subst (λ p. Tells (g.D.Desk.told c.output.new.desk) (g.D.Desk.told c.give.new.desk) (GivesPrefix p c.in-Ok.bytes.items)) c.out_file.ensures bytes in
+    runs_failed c.args.asked.now c.in-Ok.ensures (λ none. gave.no_place (c.out_file.ensures ∙ none)) gave.input_count prefix
     (λ steady. gave.steady steady (ap Err c.in-Err-Failed.field-0-is)) (rw c.in-Err-Failed.field-0-is at gave.output_count)
 
 pub returns-in-Ok-clause-runs : goal.returns-in-Ok-clause-runs
 returns-in-Ok-clause-runs g c =
     let gave = c.in-Err-NoMemory.ensures in
     let bytes = subst (λ bs. Tells (g.D.Desk.told c.output.new.desk) (g.D.Desk.told c.give.new.desk) (GivesPrefix (option_copied c.out_file.result) bs)) c.deref.ensures.value gave.err in
-    let front = subst (λ p. Tells (g.D.Desk.told c.output.new.desk) (g.D.Desk.told c.give.new.desk) (GivesPrefix p c.in-Ok.bytes.items)) c.out_file.ensures bytes in
-    runs_lost c.args.asked.now c.in-Ok.ensures (λ none. gave.no_place (c.out_file.ensures ∙ none)) gave.input_count front (rw c.in-Err-NoMemory.field-0-is at gave.output_count)
+    let prefix = subst (λ p. Tells (g.D.Desk.told c.output.new.desk) (g.D.Desk.told c.give.new.desk) (GivesPrefix p c.in-Ok.bytes.items)) c.out_file.ensures bytes in
+    runs_lost c.args.asked.now c.in-Ok.ensures (λ none. gave.no_place (c.out_file.ensures ∙ none)) gave.input_count prefix (rw c.in-Err-NoMemory.field-0-is at gave.output_count)
 
 pub returns-clause-runs : goal.returns-clause-runs
 returns-clause-runs g c =

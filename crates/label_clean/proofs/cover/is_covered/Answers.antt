@@ -4,7 +4,7 @@ use Rattle.std.proofs.lemmas.List.Elements.{All-contains}
 use Rattle.walk_laws.specs.declared.entry.Entry.{Entry}
 use Rattle.hub_index.specs.RootDistances.{IsCover}
 use Rattle.hub_index.proofs.CoveredEntries.{All-one_more, All-whole}
-use Rattle.label_clean.proofs.NearRows.{no_cover_behind}
+use Rattle.label_clean.proofs.NearRows.{no_cover_after}
 use Rattle.label_clean.proofs.cover.is_covered.Goals as goal
 
 abbrev nothing : Entry
@@ -13,7 +13,7 @@ nothing = record { pos = 0; dist = 0 }
 pub returns-then-entry-dist : goal.returns-then-entry-dist
 returns-then-entry-dist c = (
   λ t. let none : IsTrue false = t in absurd cc,
-  λ cover. absurd (no_cover_behind c.args.table.now c.args.pos c.args.dist c.args.row.now c.loop-entry.entry-index nothing c.requires.nearing c.loop-entry-test.true c.if-entry-dist.true c.loop-entry.invariant cover),
+  λ cover. absurd (no_cover_after c.args.table.now c.args.pos c.args.dist c.args.row.now c.loop-entry.entry-index nothing c.requires.nearing c.loop-entry-test.true c.if-entry-dist.true c.loop-entry.invariant cover),
 )
 
 pub loop-entry-preserved : goal.loop-entry-preserved

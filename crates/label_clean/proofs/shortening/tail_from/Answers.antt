@@ -21,4 +21,4 @@ returns-then-row-place c =
     let last : i - 1 < length row = omega (arith, earlier, c.loop-place.invariant.within) in
     let same = ap pos_of (get_or_default row (i - 1) d nothing last) in
     omega (arith, never_falls row c.requires k (i - 1) d (omega (arith, earlier)) last, same, c.if-row-place.true))
-    c.loop-place.invariant.behind)
+    c.loop-place.invariant.after)

@@ -6,7 +6,7 @@ use Rattle.label_clean.proofs.shortening.tail_from.Given as goal
 abbrev pub invariant-loop-place : goal.invariant-loop-place
 invariant-loop-place l = record {
   within : l.place ≤ length l.row;
-  behind : (k : ℕ) (d : Entry) → l.place ≤ k → k < length l.row → l.first ≤ (get_or l.row k d).pos;
+  after : (k : ℕ) (d : Entry) → l.place ≤ k → k < length l.row → l.first ≤ (get_or l.row k d).pos;
 }
 
 abbrev pub decreases-loop-place : goal.decreases-loop-place

@@ -6,6 +6,6 @@ use Rattle.label_pool.specs.Chains.{IsWritten}
 use Rattle.label_pool.proofs.Walked.{IsWalked}
 use Rattle.label_pool.proofs.gathering.cells_in.Given as goal
 
--- a front of the chain was walked, a cell for each round
+-- a prefix of the chain was walked, a cell for each round
 abbrev pub invariant-loop-count : goal.invariant-loop-count
 invariant-loop-count l = (chain : List Linked) → IsWritten l.n l.cells (slots_items l.closed.words) l.v chain → (entries : List Entry) × IsWalked chain l.at l.count entries

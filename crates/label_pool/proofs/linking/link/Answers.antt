@@ -81,9 +81,9 @@ returns-then-found-head-clause-linked g c =
     let next = c.next_stored.result in
     let told : IsLink c.store.new.seat.me c.args.v c.compare_exchange-found.new.seat.me = (c.compare_exchange-found.ensures.2 c.args.v c.head_word-in-loop.ensures).0 c.if-found-head.true in
     let view =
-    told.view ∙ ap (λ (m : Sitter g.row.F.Denot). knowing m.0 (with_link m.0.knows c.args.v told.behind)) is in
+    told.view ∙ ap (λ (m : Sitter g.row.F.Denot). knowing m.0 (with_link m.0.knows c.args.v told.older)) is in
     let slots = told.slots ∙ ap (λ (m : Sitter g.row.F.Denot). m.1) is in
-    (told.behind, next, c.next_stored.ensures.pos, subst (λ (m : Sitter g.row.F.Denot). IsTailOf (seen_of m.0.knows.marks c.args.v) told.behind) is told.goes_on, λ k. (view k, slots k))
+    (told.older, next, c.next_stored.ensures.pos, subst (λ (m : Sitter g.row.F.Denot). IsTailOf (seen_of m.0.knows.marks c.args.v) told.older) is told.goes_on, λ k. (view k, slots k))
 
 pub loop-preserved : goal.loop-preserved
 loop-preserved g c =

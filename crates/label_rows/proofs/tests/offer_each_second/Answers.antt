@@ -4,7 +4,7 @@ use Rattle.walk_laws.specs.Joined.{Joined}
 use Rattle.walk_laws.specs.Labelling.{EntryFits}
 use Rattle.walk_laws.specs.Walk.{HasWalk}
 use Rattle.walk_laws.specs.Worked.{square, first_four, entry}
-use Rattle.walk_laws.proofs.Walks.{HasWalk-arc, HasWalk-behind, HasWalk-same}
+use Rattle.walk_laws.proofs.Walks.{HasWalk-arc, HasWalk-after, HasWalk-same}
 use Rattle.label_rows.proofs.tests.offer_each_second.Goals as goal
 
 -- from node 1 to a neighbour, and so often back and there again
@@ -13,7 +13,7 @@ to_and_fro v zero there back = HasWalk-arc (Joined square) 1 v 1 there
 to_and_fro v (suc k) there back =
     let far : HasWalk (Joined square) 1 v (1 + 2 * k) = to_and_fro v k there back in
     HasWalk-same (Joined square) 1 v (1 + 2 * k + 1 + 1) (1 + 2 * suc k) (omega arith)
-    (HasWalk-behind (Joined square) 1 1 v 1 (1 + 2 * k + 1) (HasWalk-behind (Joined square) 1 v 1 1 (1 + 2 * k) far back) there)
+    (HasWalk-after (Joined square) 1 1 v 1 (1 + 2 * k + 1) (HasWalk-after (Joined square) 1 v 1 1 (1 + 2 * k) far back) there)
 
 module _ (edges : List Edge) (order : List ℕ) (of_square : edges ≡ square) (by_number : order ≡ first_four) where
   of_graph : (v d : ℕ) → EntryFits (Joined square) first_four v (entry 0 d) → EntryFits (Joined edges) order v (entry 0 d)

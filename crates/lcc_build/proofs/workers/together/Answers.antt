@@ -3,7 +3,7 @@ use Rattle.std.specs.Prelude.{IsOk, OnOk, true}
 use Rattle.label_rows.specs.Visits.{puts_of}
 use Rattle.walk_laws.specs.declared.entry.Entry.{Entry}
 use Rattle.pruned_tree.specs.GrownBy.{IsGrownBy}
-use Rattle.pruned_tree.proofs.GrownPuts.{AreApart-distinct, IsGrownBy-then, IsGrownBy-behind}
+use Rattle.pruned_tree.proofs.GrownPuts.{AreApart-distinct, IsGrownBy-then, IsGrownBy-after}
 use Rattle.lcc_build.proofs.PutsTogether.{IsOk-both, over_both, puts_of-append}
 use Rattle.lcc_build.proofs.workers.together.Goals as goal
 
@@ -20,7 +20,7 @@ returns-clause-done c =
       grown = λ v node.
           let all : IsGrownBy edges at (first ++ second) (IsOk c.and.result) v [] (puts_of one v ++ puts_of two v) =
           IsGrownBy-then edges at first second (IsOk c.args.whole.memory) (IsOk c.args.share.memory) (IsOk c.and.result) v [] (puts_of one v) (puts_of one v ++ puts_of two v)
-          (c.requires.whole_done.grown v node) (IsGrownBy-behind edges at second (IsOk c.args.share.memory) v (puts_of one v) (puts_of two v) (c.requires.share_done.grown v node))
+          (c.requires.whole_done.grown v node) (IsGrownBy-after edges at second (IsOk c.args.share.memory) v (puts_of one v) (puts_of two v) (c.requires.share_done.grown v node))
           (AreApart-distinct first second (rw (← c.join.ensures.got) c.join.ensures.once)) (λ ok. IsOk-both c.args.whole.memory c.args.share.memory (rw (← c.and.ensures) ok)) in
           rw (c.join.ensures.got, c.join-2.ensures.visits, puts_of-append one two v) all;
     }

@@ -5,7 +5,7 @@ use Rattle.plant_build.specs.declared.hand.Hand.{Hand}
 use Rattle.plant_build.specs.declared.worker.PlantWorker.{PlantWorker}
 use Rattle.plant_build.specs.Workers.{IsReady, hands_of}
 use Rattle.plant_build.specs.Rounds.{share_of, put_by, IsOneRound}
-use Rattle.plant_build.proofs.Harvests.{dealt_once, nothing_long, whole_of_front}
+use Rattle.plant_build.proofs.Harvests.{dealt_once, nothing_long, whole_of_prefix}
 use Rattle.plant_build.proofs.build.crew_of.Goals as goal
 
 pub loop-hand-preserved : goal.loop-hand-preserved
@@ -29,12 +29,12 @@ pub returns-clause-round : goal.returns-clause-round
 returns-clause-round c =
     let rest = c.loop-hand.hand-iterator.rest in
     let none = nothing_long rest.items (sym rest.ok.0 ∙ c.in-None.ensures.steps.0) in
-    let hands = whole_of_front (hands_of c.loop-hand.crew.items) rest.items none (c.loop-hand.invariant.hands ∙ c.into_iter-hand-iterator.ensures.into_iter_gives.0) in
+    let hands = whole_of_prefix (hands_of c.loop-hand.crew.items) rest.items none (c.loop-hand.invariant.hands ∙ c.into_iter-hand-iterator.ensures.into_iter_gives.0) in
     subst (λ (hs : List Hand). IsOneRound (map share_of hs)) (sym hands) c.in_ok-hands.ensures.round
 
 pub returns-clause-once : goal.returns-clause-once
 returns-clause-once c b =
     let rest = c.loop-hand.hand-iterator.rest in
     let none = nothing_long rest.items (sym rest.ok.0 ∙ c.in-None.ensures.steps.0) in
-    let hands = whole_of_front (hands_of c.loop-hand.crew.items) rest.items none (c.loop-hand.invariant.hands ∙ c.into_iter-hand-iterator.ensures.into_iter_gives.0) in
+    let hands = whole_of_prefix (hands_of c.loop-hand.crew.items) rest.items none (c.loop-hand.invariant.hands ∙ c.into_iter-hand-iterator.ensures.into_iter_gives.0) in
     subst (λ (hs : List Hand). put_by b (map share_of hs) ≤ 1) (sym hands) (dealt_once b c.args.batches _ _ (c.in_ok-hands.ensures.each b))

@@ -7,9 +7,9 @@ use Rattle.std.proofs.lemmas.List.Sums.{sum_by-set, sum_by_push}
 use Rattle.plant_build.specs.Hands.{Reached, Owned}
 use Rattle.plant_build.specs.Balance.{times}
 use Rattle.plant_build.specs.Rounds.{deques_of, got_from}
-use Rattle.plant_build.specs.Settled.{kept_of, owned_deques, AreBehind}
+use Rattle.plant_build.specs.Settled.{kept_of, owned_deques, AreAfter}
 use Rattle.plant_build.proofs.Balances.{times-append}
-use Rattle.plant_build.proofs.Settlings.{kept_deques, owned_at, behind_front, behind_last}
+use Rattle.plant_build.proofs.Settlings.{kept_deques, owned_at, after_prefix, after_last}
 use Rattle.plant_build.proofs.settling.round_back.Goals as goal
 
 pub take_back-requires : goal.take_back-requires
@@ -18,8 +18,8 @@ take_back-requires c =
     let all = owned_deques c.args.owns.now in
     let os = c.pop.new.self.items in
     let d = c.index-owns-at.result in
-    let behind = subst (λ (rs : List Reached). AreBehind all c.args.place (deques_of rs)) c.in-Some.ensures.items c.loop-other.invariant.behind in
-    let last = behind_last all c.args.place os c.in-Some.other behind in
+    let after = subst (λ (rs : List Reached). AreAfter all c.args.place (deques_of rs)) c.in-Some.ensures.items c.loop-other.invariant.after in
+    let last = after_last all c.args.place os c.in-Some.other after in
     let all_is : owned_deques owns ≡ all = kept_deques c.args.owns.now owns c.loop-other.invariant.kept in
     let size : length all ≡ length owns = ap length (sym all_is) ∙ length-map owns (λ (o : Owned). o.reached.deque) in
     let count : length c.pop.new.self.items ≡ c.len.result = omega (arith, c.len.ensures, c.pop.new.self.ok.0) in
@@ -43,7 +43,7 @@ loop-other-preserved c =
     let told = c.take_back.ensures in
     record {
       kept = map-set_same kept_of owns at new d (λ j. (told.put j, told.lent.0 j, told.deque j)) ∙ so_far.kept;
-      behind = behind_front all c.args.place os o (subst (λ (rs : List Reached). AreBehind all c.args.place (deques_of rs)) c.in-Some.ensures.items so_far.behind);
+      after = after_prefix all c.args.place os o (subst (λ (rs : List Reached). AreAfter all c.args.place (deques_of rs)) c.in-Some.ensures.items so_far.after);
       back = omega (arith, sum_by-set (λ (own : Owned). own.back) owns at new d within, told.lent.1, so_far.back, c.in-Some.ensures.len);
       got = λ x. omega (arith, sum_by-set (λ (own : Owned). times x own.reached.got) owns at new d within, ap (times x) told.got, times-append x (get_or owns at d).reached.got o.got, so_far.got x, ap (got_from x) c.in-Some.ensures.items, sum_by_push (λ (r : Reached). times x r.got) os o);
     }

@@ -5,19 +5,19 @@ use Rattle.std.proofs.lemmas.Result.{IfOk-weaker}
 use Rattle.plant_build.specs.declared.hand.Hand.{Hand}
 use Rattle.plant_build.specs.Hands.{Reached, Owned}
 use Rattle.plant_build.specs.Balance.{times}
-use Rattle.plant_build.specs.Settled.{owned_deques, put_into, got_of, EachBehind}
-use Rattle.plant_build.proofs.Settlings.{kept_puts, kept_lent, round_each_behind, round_lent, owns_lent, owns_back, owns_put, hands_taken, rounds_got, rounds_size}
+use Rattle.plant_build.specs.Settled.{owned_deques, put_into, got_of, EachAfter}
+use Rattle.plant_build.proofs.Settlings.{kept_puts, kept_lent, round_each_after, round_lent, owns_lent, owns_back, owns_put, hands_taken, rounds_got, rounds_size}
 use Rattle.plant_build.proofs.settling.settle.Goals as goal
 
 abbrev owns_in : List Hand → List Owned
 owns_in hands = map (λ h. h.own) hands
 
-pub all_back-requires-clause-behind : goal.all_back-requires-clause-behind
-all_back-requires-clause-behind c =
+pub all_back-requires-clause-after : goal.all_back-requires-clause-after
+all_back-requires-clause-after c =
     let hands = c.args.hands.items in
     let told = c.in_ok-owns.ensures in
     let owns = c.deref_mut.ensures.value ∙ told.owns in
-    subst (λ (os : List Owned). EachBehind (owned_deques os) (map (λ v. v.items) c.in_ok-owns.rounds.items)) (sym owns) (subst (EachBehind (owned_deques (owns_in hands))) (sym told.others) (round_each_behind hands c.requires))
+    subst (λ (os : List Owned). EachAfter (owned_deques os) (map (λ v. v.items) c.in_ok-owns.rounds.items)) (sym owns) (subst (EachAfter (owned_deques (owns_in hands))) (sym told.others) (round_each_after hands c.requires))
 
 pub left_in-requires : goal.left_in-requires
 left_in-requires c =

@@ -6,4 +6,4 @@ use Rattle.pool_view.proofs.chain.note_chain.Given as goal
 
 -- the entries that the walk gave were noted
 abbrev pub invariant-loop : goal.invariant-loop
-invariant-loop l = IsWalking l.pool l.fn.seat l.v l.seat l.walk l.counter (λ front. l.table ≡ noted l.fn.table (entries_of front))
+invariant-loop l = IsWalking l.pool l.fn.seat l.v l.seat l.walk l.counter (λ prefix. l.table ≡ noted l.fn.table (entries_of prefix))

@@ -3,7 +3,7 @@ use Rattle.std.specs.Char.{is_ascii_digit}
 use Rattle.std.proofs.lemmas.Grind.{common_steps}
 use Rattle.std.proofs.lemmas.Int.Digits.{digits_value_more}
 use Rattle.std.proofs.lemmas.Str.{digit_value_digit}
-use Rattle.text_lines.proofs.Digits.{number_of-digits, range_of_digit, number_behind_digits-digit}
+use Rattle.text_lines.proofs.Digits.{number_of-digits, range_of_digit, number_after_digits-digit}
 use Rattle.text_lines.proofs.words.number.Goals as goal
 
 pub loop-byte-init : goal.loop-byte-init
@@ -19,6 +19,6 @@ loop-byte-preserved c =
     let range = range_of_digit (get_or c.args.word.now c.loop-byte.byte-index 0) digit in
     let value = digit_value_digit (get_or c.args.word.now c.loop-byte.byte-index 0) range in
     record {
-      digits = rw more (number_behind_digits-digit _ word i inside digit ∙ c.loop-byte.invariant.digits);
+      digits = rw more (number_after_digits-digit _ word i inside digit ∙ c.loop-byte.invariant.digits);
       value = rw more (omega arith);
     }

@@ -1,7 +1,7 @@
 use Rattle.std.proofs.Common.{rules, ◌++◌, [], ◌∷◌, get_or, refl, inl, inr, ap, ◌∙◌, append_assoc}
 use Rattle.std.proofs.lemmas.List.Elements.{All-push}
 use Rattle.walk_laws.specs.LightestArcs.{no_arc, FollowsItsLike, IsLeastTo, IsLeastEdge}
-use Rattle.walk_laws.proofs.LightestRows.{edge_of, rising_behind, least_from_first, HaveEdges-skip, HaveEdges-put, HaveEdges-all}
+use Rattle.walk_laws.proofs.LightestRows.{edge_of, rising_after, least_from_first, HaveEdges-skip, HaveEdges-put, HaveEdges-all}
 use Rattle.walk_laws.proofs.lightest.push_lightest.Goals as goal
 use Rattle.walk_laws.proofs.lightest.push_lightest.Goals.{then-arc-v-via-then-arc-v, then-arc-v-via-else-arc-v+then-follows_its_like}
 
@@ -21,7 +21,7 @@ loop-k-preserved-then-arc-v c =
     }
 
 pub least_weight-requires-clause-rising : goal.least_weight-requires-clause-rising
-least_weight-requires-clause-rising c = rising_behind c.args.arcs.now c.loop-k.k c.requires
+least_weight-requires-clause-rising c = rising_after c.args.arcs.now c.loop-k.k c.requires
 
 pub loop-k-preserved : goal.loop-k-preserved
 loop-k-preserved c =

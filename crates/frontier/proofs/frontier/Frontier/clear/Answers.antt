@@ -1,6 +1,6 @@
 use Rattle.std.proofs.Common.{length, arith}
 use Rattle.std.proofs.lemmas.List.{length-drop}
-use Rattle.frontier.proofs.TurnLemmas.{all_unreached, replicated}
+use Rattle.frontier.proofs.HeapEntryLemmas.{all_unreached, replicated}
 use Rattle.frontier.proofs.frontier.Frontier.clear.Goals as goal
 
 pub returns : goal.returns

@@ -12,7 +12,7 @@ use Rattle.hub_index.proofs.FoundRows.{IsFound-onward, IsSeenAfter-with_put}
 use Rattle.label_rows.specs.declared.rule.Visit.{Visit}
 use Rattle.label_rows.specs.Seats.{Seated, hand_kept}
 use Rattle.label_rows.specs.Visits.{seen_of, puts_of, put_by, visit_of}
-use Rattle.label_rows.proofs.SeenRows.{seen-else, puts-here, puts-else, put-behind}
+use Rattle.label_rows.proofs.SeenRows.{seen-else, puts-here, puts-else, put-after}
 use Rattle.label_rows.proofs.hand.RowHandRowView.TheImpl.Goals as goal
 
 pub load_root-tells : goal.load_root-tells
@@ -49,7 +49,7 @@ offer-tells g c =
         visit.2,
         IsSeenAfter-with_put visit.0 c.args.entry c.result (seen_of c.new.self.now.visits c.args.v) visit.4,
       );
-      puts = ap (λ xs. puts_of xs c.args.v) visits ∙ puts-here old made c.args.v refl ∙ put-behind (puts_of old c.args.v) c.args.entry c.result;
+      puts = ap (λ xs. puts_of xs c.args.v) visits ∙ puts-here old made c.args.v refl ∙ put-after (puts_of old c.args.v) c.args.entry c.result;
       others_seen = λ u _ other. ap (λ xs. seen_of xs u) visits ∙ seen-else old made u (λ is. other (sym is));
       others_puts = λ u _ other. ap (λ xs. puts_of xs u) visits ∙ puts-else old made u (λ is. other (sym is));
     }

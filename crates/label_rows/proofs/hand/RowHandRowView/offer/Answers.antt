@@ -5,7 +5,7 @@ use Rattle.walk_laws.specs.Labelling.{EntryFits}
 use Rattle.label_rows.specs.Lawful.{Sitter}
 use Rattle.label_rows.specs.Visits.{put_by}
 use Rattle.label_rows.proofs.HandVisits.{seated, one_visit, row_found, seen_after, put-fits}
-use Rattle.label_rows.proofs.SeenRows.{put-behind}
+use Rattle.label_rows.proofs.SeenRows.{put-after}
 use Rattle.label_rows.proofs.hand.RowHandRowView.offer.Goals as goal
 
 pub give-requires-clause-may : goal.give-requires-clause-may
@@ -18,7 +18,7 @@ give-requires-clause-may g c =
       found = c.take-row.result;
       put = put_by c.args.entry c.offer-answer.result;
       holds = ap (λ view. view.knows.hold) took;
-      grown = c.offer-answer.ensures.row ∙ sym (put-behind c.take-row.result c.args.entry c.offer-answer.result);
+      grown = c.offer-answer.ensures.row ∙ sym (put-after c.take-row.result c.args.entry c.offer-answer.result);
       fits = put-fits c.take-row.new.seat.me.0.knows.edges c.take-row.new.seat.me.0.knows.order c.args.v c.args.entry c.offer-answer.result
           (subst (λ (t : List Edge × List ℕ). EntryFits (Joined t.0) t.1 c.args.v c.args.entry) (λ k. (sym edges k, sym order k)) c.requires.fits);
     }
@@ -31,13 +31,13 @@ returns g c =
     let taken = ap (seated _ _) took ∙ before in
     let found = row_found _ _ _ c.args.v row c.args.self.now (ap (λ seat. seat.rows.edges) before) (ap (λ seat. seat.rows.order) before) (ap (λ seat. seat.visits) before) c.take-row.ensures.goes_on c.take-row.ensures.fit in
     let now = one_visit _ _ _ c.take-row.new.seat.me.0 _ c.args.v row c.offer-answer.new.self (put_by c.args.entry c.offer-answer.result) c.args.self.now taken (ap (λ view. view.knows.hold) took) (c.give.ensures.same.0 ∙ c.take-row.ensures.same.0) (ap (λ (me : Sitter). me.0) c.give.ensures.gave)
-    (c.offer-answer.ensures.row ∙ sym (put-behind row c.args.entry c.offer-answer.result)) in
+    (c.offer-answer.ensures.row ∙ sym (put-after row c.args.entry c.offer-answer.result)) in
     record {
       visit = (
         row,
         found,
         c.offer-answer.ensures.answer,
         now,
-        seen_after c.args.self.now _ c.args.v row (put_by c.args.entry c.offer-answer.result) now found.goes_on ∙ put-behind row c.args.entry c.offer-answer.result,
+        seen_after c.args.self.now _ c.args.v row (put_by c.args.entry c.offer-answer.result) now found.goes_on ∙ put-after row c.args.entry c.offer-answer.result,
       );
     }

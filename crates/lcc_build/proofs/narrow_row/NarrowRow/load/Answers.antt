@@ -5,7 +5,7 @@ use Rattle.walk_laws.specs.declared.entry.Entry.{Entry}
 use Rattle.hub_index.specs.RootDistances.{with_noted}
 use Rattle.hub_index.proofs.NotedRows.{HoldsEach, HoldsEach-noted, HoldsRow-from_each}
 use Rattle.lcc_build.specs.NarrowRows.{widened}
-use Rattle.lcc_build.proofs.NarrowEntries.{all_widened, widened_next, widened_whole, narrow_within, wide_within, behind_next}
+use Rattle.lcc_build.proofs.NarrowEntries.{all_widened, widened_next, widened_whole, narrow_within, wide_within, after_next}
 use Rattle.lcc_build.proofs.narrow_row.NarrowRow.load.Goals as goal
 use Rattle.lcc_build.proofs.narrow_row.NarrowRow.load.Goals.{In-loop-entry, In-loop-entry-2}
 
@@ -21,7 +21,7 @@ narrow_inside c =
 wide_inside : (c : In-loop-entry-2) → (get_or c.deref-entry-items-2.result.now c.loop-entry-2.entry-index (record { pos = 0; dist = 0 })).pos < length c.loop-entry-2.table
 wide_inside c =
     let so_far = c.loop-entry-2.invariant in
-    let within = wide_within (length c.args.table.now) c.args.self.now so_far.front c.deref-entry-items-2.result.now so_far.whole c.requires c.loop-entry-2.entry-index (record { pos = 0; dist = 0 }) c.loop-entry-2-test.true in
+    let within = wide_within (length c.args.table.now) c.args.self.now so_far.prefix c.deref-entry-items-2.result.now so_far.whole c.requires c.loop-entry-2.entry-index (record { pos = 0; dist = 0 }) c.loop-entry-2-test.true in
     omega (arith, within, so_far.size)
 
 pub note-requires : goal.note-requires
@@ -49,7 +49,7 @@ loop-entry-2-init c =
     let all = widened_whole narrow c.loop-entry.entry-index c.loop-entry-test.false ∙ sym (append-nil (all_widened narrow)) in
     record {
       size = c.loop-entry.invariant.size;
-      front = all_widened narrow;
+      prefix = all_widened narrow;
       whole = sym (ap (λ es. all_widened narrow ++ es) c.deref-entry-items-2.ensures.value ∙ ap (λ es. all_widened es ++ c.self.inside.wide.items) c.deref-entry-items.ensures.value ∙ c.self.view_is);
       held = subst (HoldsEach c.loop-entry.table) all c.loop-entry.invariant.held;
     }
@@ -65,18 +65,18 @@ loop-entry-2-preserved c =
     let so_far = c.loop-entry-2.invariant in
     let e : Entry = get_or wide i (record { pos = 0; dist = 0 }) in
     let now = c.note-in-loop-entry-2.ensures in
-    let next = HoldsEach-noted table (so_far.front ++ take i wide) e (wide_inside (goal.at.loop-entry-2-preserved c).In-loop-entry-2) so_far.held in
-    let seen = behind_next so_far.front wide i (record { pos = 0; dist = 0 }) c.loop-entry-2-test.true in
+    let next = HoldsEach-noted table (so_far.prefix ++ take i wide) e (wide_inside (goal.at.loop-entry-2-preserved c).In-loop-entry-2) so_far.held in
+    let seen = after_next so_far.prefix wide i (record { pos = 0; dist = 0 }) c.loop-entry-2-test.true in
     record {
       size = ap length now ∙ length-set table _ _ ∙ so_far.size;
-      front = so_far.front;
+      prefix = so_far.prefix;
       whole = so_far.whole;
-      held = subst (λ t. HoldsEach t (so_far.front ++ take (i + 1) wide)) (sym now) (subst (HoldsEach (with_noted table e)) seen next);
+      held = subst (λ t. HoldsEach t (so_far.prefix ++ take (i + 1) wide)) (sym now) (subst (HoldsEach (with_noted table e)) seen next);
     }
 
 pub returns-clause-held : goal.returns-clause-held
 returns-clause-held c =
     let wide = c.deref-entry-items-2.result.now in
     let so_far = c.loop-entry-2.invariant in
-    let all = ap (λ es. so_far.front ++ es) (take_all c.loop-entry-2.entry-index wide c.loop-entry-2-test.false) ∙ sym so_far.whole in
+    let all = ap (λ es. so_far.prefix ++ es) (take_all c.loop-entry-2.entry-index wide c.loop-entry-2-test.false) ∙ sym so_far.whole in
     HoldsRow-from_each c.loop-entry-2.table c.args.self.now (subst (HoldsEach c.loop-entry-2.table) all so_far.held)

@@ -15,7 +15,7 @@ invariant-loop-entry l = record {
 abbrev pub invariant-loop-entry-2 : goal.invariant-loop-entry-2
 invariant-loop-entry-2 l = record {
   size : length l.table ≡ length l.fn.table;
-  front : List Entry;
-  whole : l.self ≡ front ++ l.entry-items;
-  held : HoldsEach l.table (front ++ take l.entry-index l.entry-items);
+  prefix : List Entry;
+  whole : l.self ≡ prefix ++ l.entry-items;
+  held : HoldsEach l.table (prefix ++ take l.entry-index l.entry-items);
 }

@@ -3,7 +3,7 @@ use Rattle.std.proofs.lemmas.List.{get_or_default}
 use Rattle.walk_laws.specs.declared.entry.Entry.{Entry}
 use Rattle.label_clean.proofs.Covering.{pos_of}
 use Rattle.label_clean.proofs.Placed.{never_falls}
-use Rattle.label_clean.proofs.placing.place_behind.Goals as goal
+use Rattle.label_clean.proofs.placing.place_after.Goals as goal
 
 abbrev nothing : Entry
 nothing = record { pos = 0; dist = 0 }
