@@ -92,7 +92,7 @@ impl NarrowRow {
         Offer::Put
     }
 
-    /// The first entry of the row that covers one at the position `pos` with the distance `dist`.
+    /// An entry of the row that covers one at the position `pos` with the distance `dist`, or None where none does.
     fn cover(&self, table: &RootTable, pos: u32, dist: u64) -> Option<Entry>
         requires { pos ≤ length table.now }
         ensures some { IfSome result (λ e. Contains self.now e × IsCover table.now pos dist e) }
@@ -138,7 +138,7 @@ impl NarrowRow {
     }
 }
 
-/// The first of the entries that covers one at the position `pos` with the distance `dist`.
+/// One of the entries that covers one at the position `pos` with the distance `dist`, or None where none does.
 fn narrow_cover(row: &[NarrowEntry], table: &RootTable, pos: u32, dist: u64) -> Option<Entry>
     requires { pos ≤ length table.now }
     ensures some { IfSome result (λ e. Contains (map (λ e. widened e) row.now) e × IsCover table.now pos dist e) }
