@@ -1,15 +1,9 @@
 -- What a frontier keeps of its nodes stays true through its steps.
-use Rattle.std.proofs.Common.{◌≡◌, ◌≢◌, ℕ, zero, suc, ◌<◌, ◌≤◌, false, inl, inr, List, [], ◌∷◌, ◌++◌, Contains, length, get_or, replicate, get_or-set_other, get_or-set_same, refl, sym, ap, subst, ◌∙◌, arith}
-use Rattle.std.specs.declared.cmp.Ordering.{Ordering}
-use Rattle.std.specs.Ordering.{nat_cmp, is_lt}
-use Rattle.std.specs.BinaryHeap.{IsHeap, IsUpperBound}
-use Rattle.std.specs.List.Sorted.{IsPermutation}
+use Rattle.std.proofs.Common.{◌≡◌, ◌≢◌, ◌⊎◌, ℕ, ◌<◌, ◌≤◌, inl, inr, List, [], ◌∷◌, ◌++◌, All, Contains, length, get_or, replicate, get_or-set_other, get_or-set_same, refl, sym, ap, subst, ◌∙◌, arith}
 use Rattle.std.proofs.Math.ListN.{set, length-set, get_or-eq_default}
 use Rattle.std.proofs.lemmas.Bool.{cases_eq, cases_lt}
-use Rattle.std.proofs.lemmas.Bool.Decides.{nat_tests}
 use Rattle.std.proofs.lemmas.List.{ext_get_or, get_or-replicate, length-replicate}
-use Rattle.std.proofs.lemmas.List.Elements.{All-cons, All-tail, All-contains, All-push, Contains-append_left, Contains-append_right, All-from_recursion}
-use Rattle.std.proofs.lemmas.List.Sorted.{All-permutation, Contains-permutation, IsPermutation-sym}
+use Rattle.std.proofs.lemmas.List.Elements.{All-contains, All-push, All-weaker, Contains-append_left, Contains-append_right}
 use Rattle.frontier.specs.declared.reach.Found.{Found}
 use Rattle.frontier.specs.declared.reach.Reach.{Reach}
 use Rattle.frontier.specs.declared.reach.Reach.TheVariants.{Unreached, Queued, Settled}
@@ -17,30 +11,16 @@ use Rattle.frontier.specs.declared.heap_entry.HeapEntry.{HeapEntry}
 use Rattle.frontier.specs.Reaches.{reach_at, settled}
 use Rattle.frontier.specs.Touched.{touched_with}
 use Rattle.frontier.specs.HeapEntryOf.{heap_entry_of}
+use Rattle.frontier.specs.HeapEntryLists.{Gains, Loses}
 use Rattle.frontier.specs.HeapEntries.{HasHeapEntries}
-
--- the order of heap entries: the nearer is the greater
-abbrev pub nearness : HeapEntry → HeapEntry → Ordering
-nearness a b = nat_cmp b.dist.0 a.dist.0
-
-no_nearer : (t s : HeapEntry) → is_lt (nearness t s) ≡ false → t.dist.0 ≤ s.dist.0
-no_nearer t s h = grind (arith, nat_tests)
 
 pub first_of : {X : Type 0} (x : X) (xs : List X) → Contains (x ∷ xs) x
 first_of x xs = (0, omega arith, refl)
 
-after_first : {X : Type 0} (y x : X) (xs : List X) → Contains xs x → Contains (y ∷ xs) x
-after_first y x xs there = Contains-append_right (y ∷ []) xs x there
-
-cons_cases : {X : Type 0} (y x : X) (xs : List X) (k : ℕ) → k < length (y ∷ xs) → get_or (y ∷ xs) k x ≡ x → (y ≢ x) → Contains xs x
-cons_cases y x xs zero lt is other = absurd (other is)
-cons_cases y x xs (suc k) lt is other = (k, omega arith, is)
-
 module _ {C : Type 0} where
   -- a frontier that has reached nothing
-  pub HasHeapEntries-start : (reaches : List (Reach C)) (heap_entries : List HeapEntry) (touched : List ℕ) → ((x : ℕ) → reach_at reaches x ≡ Unreached) → IsHeap nearness heap_entries → heap_entries ≡ [] → touched ≡ [] → HasHeapEntries reaches heap_entries touched
-  HasHeapEntries-start reaches heap_entries touched none heap no_heap_entry untouched = record {
-    heap = heap;
+  pub HasHeapEntries-start : (reaches : List (Reach C)) (heap_entries : List HeapEntry) (touched : List ℕ) → ((x : ℕ) → reach_at reaches x ≡ Unreached) → heap_entries ≡ [] → touched ≡ [] → HasHeapEntries reaches heap_entries touched
+  HasHeapEntries-start reaches heap_entries touched none no_heap_entry untouched = record {
     heap_entry = λ x g is. let both : Unreached ≡ Queued g = sym (none x) ∙ is in absurd cc;
     of_nodes = rw no_heap_entry (λ k d lt. absurd (omega arith));
     reached = λ x is. absurd (is (none x));
@@ -59,7 +39,6 @@ module _ {C : Type 0} where
   -- one more node is touched
   pub HasHeapEntries-touched : (reaches : List (Reach C)) (heap_entries : List HeapEntry) (touched now : List ℕ) (node : ℕ) → HasHeapEntries reaches heap_entries touched → node < length reaches → now ≡ touched ++ node ∷ [] → HasHeapEntries reaches heap_entries now
   HasHeapEntries-touched reaches heap_entries touched now node has inside more = record {
-    heap = has.heap;
     heap_entry = has.heap_entry;
     of_nodes = has.of_nodes;
     reached = λ x is. rw more (Contains-append_left touched (node ∷ []) x (has.reached x is));
@@ -78,19 +57,21 @@ module _ {C : Type 0} where
   touched_then reaches heap_entries touched now node (Settled f) has was more = rw more (has.reached node (λ none. let both : Unreached ≡ Settled f = sym none ∙ was in cc))
 
   -- a node that was touched is queued, and gets a heap entry
-  pub HasHeapEntries-queued : (reaches : List (Reach C)) (heap_entries now : List HeapEntry) (touched : List ℕ) (node : ℕ) (f : Found C) → HasHeapEntries reaches heap_entries touched → node < length reaches → Contains touched node → IsPermutation (heap_entry_of node f.dist ∷ heap_entries) now → IsHeap nearness now → HasHeapEntries (set reaches node (Queued f)) now touched
-  HasHeapEntries-queued reaches heap_entries now touched node f has inside touch more heap =
+  pub HasHeapEntries-queued : (reaches : List (Reach C)) (heap_entries now : List HeapEntry) (touched : List ℕ) (node : ℕ) (f : Found C) → HasHeapEntries reaches heap_entries touched → node < length reaches → Contains touched node → Gains heap_entries now (heap_entry_of node f.dist) → HasHeapEntries (set reaches node (Queued f)) now touched
+  HasHeapEntries-queued reaches heap_entries now touched node f has inside touch more =
       let size : length (set reaches node (Queued f)) ≡ length reaches = length-set reaches node (Queued f) in
       record {
-        heap = heap;
-        heap_entry = λ x g is. Contains-permutation (heap_entry_of node f.dist ∷ heap_entries) now (heap_entry_of x g.dist) more (elim (cases_eq x node) [
+        heap_entry = λ x g is. elim (cases_eq x node) [
           | inl here ↦
               let both : Queued f ≡ Queued g = sym (get_or-set_same reaches node (Queued f) Unreached inside) ∙ ap (λ y. get_or (set reaches node (Queued f)) y Unreached) (sym here) ∙ is in
               let same : f ≡ g = cc in
-              subst (λ t. Contains (heap_entry_of node f.dist ∷ heap_entries) t) (λ i. heap_entry_of (sym here i) ((ap (λ (k : Found C). k.dist) same) i)) (first_of (heap_entry_of node f.dist) heap_entries)
-          | inr other ↦ after_first (heap_entry_of node f.dist) (heap_entry_of x g.dist) heap_entries (has.heap_entry x g (sym (get_or-set_other reaches node x (Queued f) Unreached other) ∙ is))
-        ]);
-        of_nodes = rw size (All-permutation (λ t. t.node < length reaches) (heap_entry_of node f.dist ∷ heap_entries) now more (All-cons (λ t. t.node < length reaches) (heap_entry_of node f.dist) heap_entries inside has.of_nodes));
+              subst (λ t. Contains now t) (λ i. heap_entry_of (sym here i) ((ap (λ (k : Found C). k.dist) same) i)) more.there
+          | inr other ↦ All-contains (Contains now) heap_entries (heap_entry_of x g.dist) more.still (has.heap_entry x g (sym (get_or-set_other reaches node x (Queued f) Unreached other) ∙ is))
+        ];
+        of_nodes = rw size (All-weaker (λ t. (t ≡ heap_entry_of node f.dist) ⊎ Contains heap_entries t) (λ t. t.node < length reaches) (λ t one. elim one [
+          | inl this ↦ subst (λ x. x < length reaches) (ap (λ (s : HeapEntry). s.node) (sym this)) inside
+          | inr old ↦ All-contains (λ s. s.node < length reaches) heap_entries t has.of_nodes old
+        ]) now more.only);
         reached = λ x is. elim (cases_eq x node) [
           | inl here ↦ subst (λ y. Contains touched y) (sym here) touch
           | inr other ↦ has.reached x (λ none. is (get_or-set_other reaches node x (Queued f) Unreached other ∙ none))
@@ -103,7 +84,6 @@ module _ {C : Type 0} where
   HasHeapEntries-combined reaches heap_entries touched node f g has inside queued as_long =
       let size : length (set reaches node (Queued g)) ≡ length reaches = length-set reaches node (Queued g) in
       record {
-        heap = has.heap;
         heap_entry = λ x k is. elim (cases_eq x node) [
           | inl here ↦
               let both : Queued g ≡ Queued k = sym (get_or-set_same reaches node (Queued g) Unreached inside) ∙ ap (λ y. get_or (set reaches node (Queued g)) y Unreached) (sym here) ∙ is in
@@ -120,42 +100,45 @@ module _ {C : Type 0} where
       }
 
   -- a heap entry of the heap is of a node
-  pub heap_entry_inside : (reaches : List (Reach C)) (heap_entries now : List HeapEntry) (touched : List ℕ) (t : HeapEntry) → HasHeapEntries reaches heap_entries touched → IsPermutation heap_entries (t ∷ now) → t.node < length reaches
+  pub heap_entry_inside : (reaches : List (Reach C)) (heap_entries now : List HeapEntry) (touched : List ℕ) (t : HeapEntry) → HasHeapEntries reaches heap_entries touched → Loses heap_entries now t → t.node < length reaches
   heap_entry_inside reaches heap_entries now touched t has left =
-      All-contains (λ s. s.node < length reaches) heap_entries t has.of_nodes (Contains-permutation (t ∷ now) heap_entries t (IsPermutation-sym heap_entries (t ∷ now) left) (first_of t now))
+      All-contains (λ s. s.node < length reaches) heap_entries t has.of_nodes left.others.there
+
+  -- the heap entries that are left are of nodes
+  left_inside : (reaches : List (Reach C)) (heap_entries now : List HeapEntry) (touched : List ℕ) (t : HeapEntry) → HasHeapEntries reaches heap_entries touched → Loses heap_entries now t → All (λ s. s.node < length reaches) now
+  left_inside reaches heap_entries now touched t has left =
+      All-weaker (Contains heap_entries) (λ s. s.node < length reaches) (λ s there. All-contains (λ s. s.node < length reaches) heap_entries s has.of_nodes there) now left.others.still
 
   -- a heap entry that is none of a queued node at its distance is taken out
-  pub HasHeapEntries-stale : (reaches : List (Reach C)) (heap_entries now : List HeapEntry) (touched : List ℕ) (t : HeapEntry) → HasHeapEntries reaches heap_entries touched → IsPermutation heap_entries (t ∷ now) → IsHeap nearness now → ((g : Found C) → reach_at reaches t.node ≡ Queued g → g.dist ≢ t.dist.0) → HasHeapEntries reaches now touched
-  HasHeapEntries-stale reaches heap_entries now touched t has left heap stale = record {
-    heap = heap;
-    heap_entry = λ x g is. others x g is (Contains-permutation heap_entries (t ∷ now) (heap_entry_of x g.dist) left (has.heap_entry x g is));
-    of_nodes = All-tail (λ s. s.node < length reaches) t now (All-permutation (λ s. s.node < length reaches) heap_entries (t ∷ now) left has.of_nodes);
+  pub HasHeapEntries-stale : (reaches : List (Reach C)) (heap_entries now : List HeapEntry) (touched : List ℕ) (t : HeapEntry) → HasHeapEntries reaches heap_entries touched → Loses heap_entries now t → ((g : Found C) → reach_at reaches t.node ≡ Queued g → g.dist ≢ t.dist.0) → HasHeapEntries reaches now touched
+  HasHeapEntries-stale reaches heap_entries now touched t has left stale = record {
+    heap_entry = λ x g is. elim (All-contains (λ s. (s ≡ t) ⊎ Contains now s) heap_entries (heap_entry_of x g.dist) left.others.only (has.heap_entry x g is)) [
+      | inl this ↦ absurd (stale g (ap (reach_at reaches) (ap (λ (s : HeapEntry). s.node) (sym this)) ∙ is) (ap (λ (s : HeapEntry). s.dist.0) this))
+      | inr there ↦ there
+    ];
+    of_nodes = left_inside reaches heap_entries now touched t has left;
     reached = has.reached;
     nodes = has.nodes;
   }
-    where
-      others : (x : ℕ) (g : Found C) → reach_at reaches x ≡ Queued g → Contains (t ∷ now) (heap_entry_of x g.dist) → Contains now (heap_entry_of x g.dist)
-      others x g is there =
-          cons_cases t (heap_entry_of x g.dist) now there.0 there.1 there.2
-          (λ same. stale g (ap (reach_at reaches) (ap (λ (s : HeapEntry). s.node) same) ∙ is) (sym (ap (λ (s : HeapEntry). s.dist.0) same)))
 
   -- the heap entry of a node that is queued at its distance is taken out, and the node is settled
-  pub HasHeapEntries-settled : (reaches : List (Reach C)) (heap_entries now : List HeapEntry) (touched : List ℕ) (t : HeapEntry) (f : Found C) → HasHeapEntries reaches heap_entries touched → IsPermutation heap_entries (t ∷ now) → IsHeap nearness now → reach_at reaches t.node ≡ Queued f → HasHeapEntries (settled reaches t.node f) now touched
-  HasHeapEntries-settled reaches heap_entries now touched t f has left heap queued =
+  pub HasHeapEntries-settled : (reaches : List (Reach C)) (heap_entries now : List HeapEntry) (touched : List ℕ) (t : HeapEntry) (f : Found C) → HasHeapEntries reaches heap_entries touched → Loses heap_entries now t → reach_at reaches t.node ≡ Queued f → HasHeapEntries (settled reaches t.node f) now touched
+  HasHeapEntries-settled reaches heap_entries now touched t f has left queued =
       let size : length (settled reaches t.node f) ≡ length reaches = length-set reaches t.node (Settled f) in
       let inside : t.node < length reaches = heap_entry_inside reaches heap_entries now touched t has left in
       record {
-        heap = heap;
         heap_entry = λ x g is. elim (cases_eq x t.node) [
           | inl here ↦
               let both : Settled f ≡ Queued g = sym (get_or-set_same reaches t.node (Settled f) Unreached inside) ∙ ap (λ y. get_or (settled reaches t.node f) y Unreached) (sym here) ∙ is in
               absurd cc
           | inr other ↦
               let was : reach_at reaches x ≡ Queued g = sym (get_or-set_other reaches t.node x (Settled f) Unreached other) ∙ is in
-              let there = Contains-permutation heap_entries (t ∷ now) (heap_entry_of x g.dist) left (has.heap_entry x g was) in
-              cons_cases t (heap_entry_of x g.dist) now there.0 there.1 there.2 (λ same. other (sym (ap (λ (s : HeapEntry). s.node) same)))
+              elim (All-contains (λ s. (s ≡ t) ⊎ Contains now s) heap_entries (heap_entry_of x g.dist) left.others.only (has.heap_entry x g was)) [
+                | inl this ↦ absurd (other (ap (λ (s : HeapEntry). s.node) this))
+                | inr there ↦ there
+              ]
         ];
-        of_nodes = rw size (All-tail (λ s. s.node < length reaches) t now (All-permutation (λ s. s.node < length reaches) heap_entries (t ∷ now) left has.of_nodes));
+        of_nodes = rw size (left_inside reaches heap_entries now touched t has left);
         reached = λ x is. elim (cases_eq x t.node) [
           | inl here ↦ has.reached x (λ none. let both : Unreached ≡ Queued f = sym none ∙ ap (reach_at reaches) here ∙ queued in cc)
           | inr other ↦ has.reached x (λ none. is (get_or-set_other reaches t.node x (Settled f) Unreached other ∙ none))
@@ -163,10 +146,10 @@ module _ {C : Type 0} where
         nodes = rw size has.nodes;
       }
 
-  -- no queued node is nearer than the greatest heap entry
-  pub nearest_heap_entry : (reaches : List (Reach C)) (heap_entries : List HeapEntry) (touched : List ℕ) (t : HeapEntry) → HasHeapEntries reaches heap_entries touched → IsUpperBound nearness t heap_entries → (x : ℕ) (g : Found C) → reach_at reaches x ≡ Queued g → t.dist.0 ≤ g.dist
-  nearest_heap_entry reaches heap_entries touched t has greatest x g queued =
-      no_nearer t (heap_entry_of x g.dist) (All-contains (λ s. is_lt (nearness t s) ≡ false) heap_entries (heap_entry_of x g.dist) (All-from_recursion (λ s. is_lt (nearness t s) ≡ false) heap_entries greatest) (has.heap_entry x g queued))
+  -- no queued node is nearer than the heap entry that is taken out
+  pub nearest_heap_entry : (reaches : List (Reach C)) (heap_entries now : List HeapEntry) (touched : List ℕ) (t : HeapEntry) → HasHeapEntries reaches heap_entries touched → Loses heap_entries now t → (x : ℕ) (g : Found C) → reach_at reaches x ≡ Queued g → t.dist.0 ≤ g.dist
+  nearest_heap_entry reaches heap_entries now touched t has left x g queued =
+      All-contains (λ s. t.dist.0 ≤ s.dist.0) heap_entries (heap_entry_of x g.dist) left.nearest (has.heap_entry x g queued)
 
   -- where no heap entry is left no node is queued
   pub none_queued : (reaches : List (Reach C)) (heap_entries : List HeapEntry) (touched : List ℕ) → HasHeapEntries reaches heap_entries touched → length heap_entries ≡ 0 → (x : ℕ) (g : Found C) → reach_at reaches x ≢ Queued g

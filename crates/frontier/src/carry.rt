@@ -4,6 +4,9 @@ ghost use Rattle.std.specs.Prelude.{◌≡◌};
 pub trait Carry: Copy {
     ghost combined: { Self → Self → Self };
 
+    /// What a node that isn't reached carries; it counts nowhere.
+    fn blank() -> Self;
+
     /// What counts where offers came at one distance: of what an earlier one carries and what a later one does.
     fn combine(self, later: Self) -> Self
         ensures { result ≡ combined self later };

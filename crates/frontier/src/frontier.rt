@@ -5,11 +5,10 @@ ghost use Rattle.frontier.specs.declared.reach.Found.{Found};
 ghost use Rattle.frontier.specs.declared.reach.Reach.TheVariants.{Unreached, Queued};
 
 use crate::carry::Carry;
-use crate::heap_entry::HeapEntry;
+use crate::heap_entries::HeapEntries;
 use crate::places::Places;
 use crate::reach::{Found, Reach};
 use std::alloc::{AllocError, Global};
-use std::collections::BinaryHeap;
 use std::marker::Model;
 
 /// The nodes 0..n of a search, each with what it has come to with it. Contracts see the list of these.
@@ -17,7 +16,7 @@ use std::marker::Model;
 pub struct Frontier<C> {
     reaches: Places<C>,
     /// Each queued node has a heap entry at its distance; heap entries that a lower offer or a take left over may stand there, too.
-    heap_entries: BinaryHeap<HeapEntry>,
+    heap_entries: HeapEntries,
     /// The nodes that are reached.
     touched: Vec<u32>,
 }
@@ -26,13 +25,12 @@ impl<C> Model for Frontier<C> {
     ghost use Rattle.std.specs.Prelude.{List};
     ghost use Rattle.frontier.specs.declared.reach.Reach.{Reach};
     ghost use Rattle.frontier.specs.HeapEntries.{HasHeapEntries};
-    ghost use Rattle.std.specs.BinaryHeap.{heap_items};
 
     ghost Value = { List (Reach C) };
 
     ghost view = { λ f. f.reaches };
 
-    ghost invariant = { λ f. HasHeapEntries f.reaches (heap_items f.heap_entries) f.touched.items };
+    ghost invariant = { λ f. HasHeapEntries f.reaches f.heap_entries f.touched.items };
 }
 
 impl<C: Carry> Frontier<C> {
@@ -42,7 +40,7 @@ impl<C: Carry> Frontier<C> {
     {
         Ok(Frontier {
             reaches: Places::new(alloc, n as usize + 1)?,
-            heap_entries: BinaryHeap::new(alloc),
+            heap_entries: HeapEntries::new(alloc),
             touched: Vec::new(alloc),
         })
     }
@@ -89,7 +87,7 @@ impl<C: Carry> Frontier<C> {
             Reach::Queued(best) if best.dist == dist => {
                 let carried = best.carried.combine(carried);
                 let after = Reach::Queued(Found { dist, carried });
-                self.reaches.set(node, after);
+                self.reaches.queue(node, Found { dist, carried });
                 Ok(after)
             }
             _ => self.queue(node, reach, Found { dist, carried }),
@@ -107,9 +105,9 @@ impl<C: Carry> Frontier<C> {
         ensures err { OnErr result (self.new ≡ self.old) }
     {
         touch(&mut self.touched, node, reach)?;
-        self.heap_entries.push(HeapEntry::of(node, found.dist))?;
+        self.heap_entries.push(node, found.dist)?;
         let after = Reach::Queued(found);
-        self.reaches.set(node, after);
+        self.reaches.queue(node, found);
         Ok(after)
     }
 
@@ -125,7 +123,7 @@ impl<C: Carry> Frontier<C> {
             let node = heap_entry.node;
             if let Reach::Queued(found) = self.reaches.get(node) {
                 if found.dist == heap_entry.dist.0 {
-                    self.reaches.set(node, Reach::Settled(found));
+                    self.reaches.settle(node, found);
                     return Some((node, found));
                 }
             }
@@ -138,7 +136,7 @@ impl<C: Carry> Frontier<C> {
         ensures { self.new ≡ replicate (length self.old) Unreached }
     {
         for node in self.touched.as_slice() {
-            self.reaches.set(*node, Reach::Unreached);
+            self.reaches.forget(*node);
         }
         self.touched.clear();
         self.heap_entries.clear();

@@ -8,6 +8,7 @@
 
 mod carry;
 mod frontier;
+mod heap_entries;
 mod heap_entry;
 mod places;
 mod reach;

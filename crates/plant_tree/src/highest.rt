@@ -11,6 +11,10 @@ impl Carry for Highest {
 
     ghost combined = { λ a b. record { position = min a.position b.position } };
 
+    fn blank() -> Highest {
+        Highest { position: 0 }
+    }
+
     fn combine(self, later: Highest) -> Highest {
         Highest {
             position: self.position.min(later.position),

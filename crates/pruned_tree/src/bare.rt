@@ -7,6 +7,10 @@ pub struct Bare {}
 impl Carry for Bare {
     ghost combined = { λ a b. a };
 
+    fn blank() -> Bare {
+        Bare {}
+    }
+
     fn combine(self, _later: Bare) -> Bare {
         self
     }

@@ -5,4 +5,4 @@ use Rattle.frontier.proofs.frontier.Frontier.new.Goals as goal
 
 pub invariant_of-result : goal.invariant_of-result
 invariant_of-result g c =
-    HasHeapEntries-start _ _ _ (λ x. ap (λ reaches. reach_at reaches x) c.in_ok-new.ensures ∙ nothing_reached (c.args.n + 1) x) c.new-2.ensures.heap_order c.new-2.ensures.items c.new-3.ensures.items
+    HasHeapEntries-start _ _ _ (λ x. ap (λ reaches. reach_at reaches x) c.in_ok-new.ensures ∙ nothing_reached (c.args.n + 1) x) c.new-2.ensures c.new-3.ensures.items
