@@ -22,7 +22,7 @@ returns-in-None-clause-refused c =
     let v = c.read_u32.result in
     let named : None ≡ cond (is_new_node names v) (Some (with_node names v)) None = rw c.in-None.is at c.in_ok-named.ensures in
     let cur = at_node names c.loop-rest.at in
-    let faults = fed-no_node names c.loop-rest.at v c.split_at.result.0.now c.split_at.ensures.prefix_len c.read_u32.ensures (no_node (is_new_node names v) (with_node names v) named) in
+    let faults = fed-no_node names c.loop-rest.at v c.split_at.result.0.now c.split_at.ensures.front_len c.read_u32.ensures (no_node (is_new_node names v) (with_node names v) named) in
     rw c.len-place.ensures (Refuses-then (at_node c.args.names c.args.at) cur c.args.bytes.now c.loop-rest.rest.now _ c.loop-rest.invariant.takes (Refuses-part cur c.loop-rest.rest.now c.split_at.result.0.now c.split_at.result.1.now _ c.split_at.ensures.by_index.0 (inr faults)))
 
 pub loop-rest-preserved : goal.loop-rest-preserved
@@ -31,5 +31,5 @@ loop-rest-preserved c =
     let v = c.read_u32.result in
     let named : Some c.in-Some.names ≡ cond (is_new_node names v) (Some (with_node names v)) None = rw c.in-Some.is at c.in_ok-named.ensures in
     let new = some_node (is_new_node names v) c.in-Some.names (with_node names v) named in
-    let led = fed-node names c.loop-rest.at v c.split_at.result.0.now c.split_at.ensures.prefix_len c.read_u32.ensures new.0 (omega (arith, c.if-len-n.true, c.len.ensures, c.n.ensures)) in
+    let led = fed-node names c.loop-rest.at v c.split_at.result.0.now c.split_at.ensures.front_len c.read_u32.ensures new.0 (omega (arith, c.if-len-n.true, c.len.ensures, c.n.ensures)) in
     rw new.1 (Runs-more (at_node c.args.names c.args.at) (at_node names c.loop-rest.at) (at_node (with_node names v) _) c.args.bytes.now c.loop-rest.rest.now c.split_at.result.0.now c.split_at.result.1.now c.loop-rest.invariant (λ i. omega (arith, c.type_inv.bytes i)) c.split_at.ensures.by_index.0 led)

@@ -16,10 +16,10 @@ returns-in_err-progress-2-clause-refused c =
     let p = err_from_is_err_and c.from_residual-in_err-progress-2.result c.from_residual-in_err-progress-2.ensures.1 in
     let i = c.self.inside in
     let left = c.split_at-2.result.1.now in
-    let parts = c.split_at-2.ensures.by_index.0 ∙ ap (λ f. f ++ c.split_at-2.result.1.now) (single c.split_at-2.result.0.now c.split_at-2.ensures.prefix_len) in
+    let parts = c.split_at-2.ensures.by_index.0 ∙ ap (λ f. f ++ c.split_at-2.result.1.now) (single c.split_at-2.result.0.now c.split_at-2.ensures.front_len) in
     rw (p.1, p.2, ← c.self.view_is) (Refuses-part (record { next = i.next; held = i.held.items; at = i.at }) c.args.rest.now (get_or c.split_at-2.result.0.now 0 0 ∷ []) left _ parts c.in_err-progress-2.ensures)
 
 pub returns-clause-taken : goal.returns-clause-taken
 returns-clause-taken c =
-    let parts = c.split_at-2.ensures.by_index.0 ∙ ap (λ f. f ++ c.split_at-2.result.1.now) (single c.split_at-2.result.0.now c.split_at-2.ensures.prefix_len) in
+    let parts = c.split_at-2.ensures.by_index.0 ∙ ap (λ f. f ++ c.split_at-2.result.1.now) (single c.split_at-2.result.0.now c.split_at-2.ensures.front_len) in
     rw (← c.self.view_is) (record { taken = get_or c.split_at-2.result.0.now 0 0 ∷ []; parts = parts; leads = c.in_ok-progress-2.ensures })
