@@ -12,7 +12,7 @@ use Rattle.walk_laws.specs.Joined.{Joined}
 use Rattle.walk_laws.specs.Ranking.{position_of}
 use Rattle.walk_laws.proofs.JoinedEdges.{Joined-positive, weights_of_edges}
 use Rattle.plant_tree.specs.Planted.{AreOfNodes}
-use Rattle.plant_tree.proofs.TreeSteps.{relaxed_all}
+use Rattle.plant_tree.specs.Relaxed.{relaxed_all}
 use Rattle.plant_tree.proofs.TreeTypes.{Found, Reach}
 use Rattle.frontier.specs.declared.reach.Reach.TheVariants.{Unreached, Queued, Settled}
 use Rattle.plant_tree.proofs.TreeEnds.{tree_is_exact}

@@ -14,7 +14,8 @@ use Rattle.plant_tree.specs.Planted.{NamesEachOnce}
 use Rattle.plant_tree.specs.Wanted.{labels_with}
 use Rattle.plant_tree.proofs.TreeTypes.{Found, Reach}
 use Rattle.plant_tree.proofs.TreeFacts.{reach_of}
-use Rattle.plant_tree.proofs.TreeSteps.{offered, offer_of, relaxed, relaxed_all}
+use Rattle.plant_tree.specs.Relaxed.{offer_of, relaxed, relaxed_all}
+use Rattle.plant_tree.proofs.TreeSteps.{offered}
 use Rattle.plant_tree.proofs.TreeSize.{queued_inside, length-relaxed, none_found, nothing_found}
 use Rattle.plant_tree.proofs.TreeSettle.{not_both, not_none_settled}
 use Rattle.plant_tree.proofs.PlantedExactly.{AreLabels}

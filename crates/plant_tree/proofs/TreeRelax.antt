@@ -3,7 +3,8 @@ use Rattle.std.proofs.Common.{◌≡◌, ◌≢◌, ◌⊎◌, inl, inr, ℕ, �
 use Rattle.std.proofs.lemmas.Bool.{cases_eq, cases_lt}
 use Rattle.walk_laws.specs.declared.graph.Arc.{Arc}
 use Rattle.walk_laws.specs.Ranking.{position_of}
-use Rattle.plant_tree.proofs.TreeSteps.{better, better_cases, shorter, as_long, longer, offered, offer_of, relaxed}
+use Rattle.plant_tree.specs.Relaxed.{offer_of, relaxed}
+use Rattle.plant_tree.proofs.TreeSteps.{better, better_cases, shorter, as_long, longer, offered}
 use Rattle.plant_tree.proofs.TreeTypes.{Found, Reach}
 use Rattle.frontier.specs.declared.reach.Reach.TheVariants.{Unreached, Queued, Settled}
 use Rattle.plant_tree.proofs.TreeFacts.{reach_of, From, IsQueued, IsTree, reach_cases, at_none, at_queued, at_settled}

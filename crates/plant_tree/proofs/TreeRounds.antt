@@ -5,7 +5,7 @@ use Rattle.std.proofs.Math.ListN.{set, length-set}
 use Rattle.std.proofs.lemmas.Bool.{cases_eq}
 use Rattle.walk_laws.specs.declared.graph.Arc.{Arc}
 use Rattle.walk_laws.proofs.Members.{Contains-first, Contains-next, Contains-cons_cases, Contains-empty}
-use Rattle.plant_tree.proofs.TreeSteps.{relaxed, relaxed_all}
+use Rattle.plant_tree.specs.Relaxed.{relaxed, relaxed_all}
 use Rattle.plant_tree.proofs.TreeTypes.{Found, Reach}
 use Rattle.frontier.specs.declared.reach.Reach.TheVariants.{Queued, Settled}
 use Rattle.plant_tree.proofs.TreeFacts.{reach_of, From, IsQueued, IsTree, next_is_least, next_is_highest}

@@ -12,7 +12,8 @@ use Rattle.walk_laws.specs.declared.graph.Edge.{Edge}
 use Rattle.walk_laws.specs.Graph.{IsGraph, greatest_weight}
 use Rattle.walk_laws.specs.Joined.{Joined}
 use Rattle.walk_laws.proofs.JoinedEdges.{IsEdge-joined, Joined-weight}
-use Rattle.plant_tree.proofs.TreeSteps.{better, offered, offer_of, relaxed, relaxed_all}
+use Rattle.plant_tree.specs.Relaxed.{offer_of, relaxed, relaxed_all}
+use Rattle.plant_tree.proofs.TreeSteps.{better, offered}
 use Rattle.plant_tree.proofs.TreeTypes.{Found, Reach}
 use Rattle.frontier.specs.declared.reach.Reach.TheVariants.{Unreached, Queued, Settled}
 

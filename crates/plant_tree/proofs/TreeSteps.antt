@@ -1,19 +1,14 @@
 -- The steps of a shortest-path tree that carries the highest-ranked node on the shortest walks, as terms of lists.
 use Rattle.std.proofs.Common.{◌≡◌, ◌≢◌, inl, inr, ◌<◌, ◌≤◌, true, false, length, get_or, drop, refl, sym, ap, ◌∙◌, add-one, drop-cons, arith}
-use Rattle.std.specs.Prelude.{ℕ, ◌+◌, ◌==◌, List, [], ◌∷◌, nat_lt, min}
+use Rattle.std.specs.Prelude.{ℕ, ◌+◌, ◌==◌, List, [], nat_lt, min}
 use Rattle.std.proofs.Math.ListN.{set, drop_of_length-le}
 use Rattle.std.proofs.lemmas.Bool.{cases_eq, cases_lt, ltb-true, lt-ltb, eqb-true, eq-eqb, leb-false}
 use Rattle.std.proofs.lemmas.List.{set-get_or}
 use Rattle.walk_laws.specs.declared.graph.Arc.{Arc}
-use Rattle.walk_laws.specs.Ranking.{position_of}
 use Rattle.frontier.specs.Reaches as frontier
-use Rattle.plant_tree.specs.declared.highest.Highest.{Highest}
+use Rattle.plant_tree.specs.Relaxed.{higher, offer_of, relaxed, relaxed_all}
 use Rattle.plant_tree.proofs.TreeTypes.{Found, Reach}
 use Rattle.frontier.specs.declared.reach.Reach.TheVariants.{Unreached, Queued, Settled}
-
--- of two positions the smaller, which ranks higher
-abbrev pub higher : Highest → Highest → Highest
-higher a b = record { position = min a.position b.position }
 
 -- the shorter of two walks, and of two that are as long the higher of their highest-ranked nodes
 abbrev pub better : Found → Found → Found
@@ -22,18 +17,6 @@ better found offer = frontier.better higher found offer
 -- a node that is offered a walk
 abbrev pub offered : Reach → Found → Reach
 offered reach offer = frontier.offered higher reach offer
-
--- the walk along an arc from a node of which this was found
-abbrev pub offer_of : List ℕ → Found → Arc → Found
-offer_of at found a = record { dist = found.dist + a.w; carried = record { position = min found.carried.position (position_of at a.to) } }
-
--- all nodes after one arc, and after the arcs of a row
-abbrev pub relaxed : List ℕ → Found → Arc → List Reach → List Reach
-relaxed at found a nodes = frontier.with_offer higher nodes a.to (offer_of at found a)
-
-abbrev pub relaxed_all : List ℕ → Found → List Arc → List Reach → List Reach
-relaxed_all at found [] nodes = nodes
-relaxed_all at found (a ∷ row) nodes = relaxed_all at found row (relaxed at found a nodes)
 
 -- which of two walks is the better one
 pub data BetterCases (q o : Found) : Type 0 where

@@ -10,7 +10,8 @@ use Rattle.frontier.specs.declared.reach.Reach.TheVariants.{Unreached, Queued, S
 use Rattle.plant_tree.specs.Wanted.{wants, wanted}
 use Rattle.plant_tree.proofs.TreeTypes.{Found, Reach}
 use Rattle.plant_tree.proofs.TreeFacts.{reach_of}
-use Rattle.plant_tree.proofs.TreeSteps.{offered, offer_of, relaxed}
+use Rattle.plant_tree.specs.Relaxed.{offer_of, relaxed}
+use Rattle.plant_tree.proofs.TreeSteps.{offered}
 use Rattle.plant_tree.proofs.TreeSize.{queued_inside, none_found, nothing_found}
 
 wants-le : (p : ℕ) (r : Reach) → wants p r ≤ 1

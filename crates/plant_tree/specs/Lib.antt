@@ -1,2 +1,3 @@
 pub mod Planted
+pub mod Relaxed
 pub mod Wanted

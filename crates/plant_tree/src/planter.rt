@@ -1,9 +1,11 @@
-ghost use Rattle.std.specs.Prelude.{◌≡◌, ◌↔◌, ℕ, ◌+◌, ◌<◌, Some, length, slice_get, Contains, IfOk, OnOk};
+ghost use Rattle.std.specs.Prelude.{◌≡◌, ◌↔◌, ℕ, ◌+◌, ◌^◌, ◌<◌, ◌≤◌, Some, All, length, map, slice_get, Contains, IfOk, OnOk};
+ghost use Rattle.walk_laws.specs.ArcRows.{arcs_in};
 ghost use Rattle.walk_laws.specs.Canonical.{IsCanonical};
 ghost use Rattle.walk_laws.specs.Graph.{IsGraph};
 ghost use Rattle.walk_laws.specs.Joined.{Joined};
 ghost use Rattle.plant_tree.specs.Planted.{AreOfNodes, NamesEachOnce};
-ghost use Rattle.plant_tree.specs.Wanted.{wants, labels_with};
+ghost use Rattle.plant_tree.specs.Relaxed.{relaxed_all};
+ghost use Rattle.plant_tree.specs.Wanted.{wants, wanted, labels_with};
 
 use crate::highest::Highest;
 use crate::tree::Planted;
@@ -11,7 +13,7 @@ use frontier::{Found, Frontier, Reach};
 use rank_table::Ranking;
 use std::alloc::{AllocError, Global};
 use std::marker::Model;
-use walk_laws::Graph;
+use walk_laws::{AnyArc, ArcRow, Graph};
 
 /// Plants the trees of a graph's roots one after another, in memory that is taken once. Contracts see the number of nodes.
 #[derive(Debug, Drop)]
@@ -101,21 +103,70 @@ fn grow(
         settled += 1;
         wanted -= wants(Reach::Queued(found), p);
         label(&mut planted, v, found, p)?;
-        for arc in graph.arcs(v) {
-            let dist = found.dist + arc.w;
-            let before = frontier.reach(arc.to);
-            if !before.heeds(dist) {
-                continue;
-            }
-            let carried = Highest {
-                position: found.carried.position.min(ranking.pos(arc.to)),
-            };
-            let after = frontier.offer_from(arc.to, before, dist, carried)?;
-            wanted -= wants(before, p);
-            wanted += wants(after, p);
-        }
+        wanted = relax_row(frontier, graph.arc_row(v), ranking, p, found, wanted)?;
     }
     Ok((planted, settled))
+}
+
+/// Offers the walks along the arcs of a node with what was found of it to the nodes at their ends. Of so many queued nodes
+/// that carry the root at the position `p` it answers how many there are then. The only error is that memory ran out.
+fn relax_row(
+    frontier: &mut Frontier<Highest>,
+    row: ArcRow<'_>,
+    ranking: &Ranking,
+    p: u32,
+    found: Found<Highest>,
+    count: u32,
+) -> Result<u32, AllocError>
+    requires nodes { length frontier.old ≡ length ranking.now + 1 }
+    requires few { length ranking.now ≤ 2 ^ 30 }
+    requires ends { All (λ a. (1 ≤ a.to) × (a.to ≤ length ranking.now)) (arcs_in row) }
+    requires fits { All (λ a. found.dist + a.w < 2 ^ 64) (arcs_in row) }
+    requires count { count ≡ wanted p frontier.old }
+    ensures same { length frontier.new ≡ length frontier.old }
+    ensures relaxed { OnOk result (frontier.new ≡ relaxed_all ranking.now found (arcs_in row.entry) frontier.old) }
+    ensures count { IfOk result (λ count. count ≡ wanted p frontier.new) }
+{
+    match row {
+        ArcRow::Narrow(arcs) => relax(frontier, arcs, ranking, p, found, count),
+        ArcRow::Wide(arcs) => relax(frontier, arcs, ranking, p, found, count),
+    }
+}
+
+/// The same along arcs in whatever room.
+fn relax<A: AnyArc>(
+    frontier: &mut Frontier<Highest>,
+    arcs: &[A],
+    ranking: &Ranking,
+    p: u32,
+    found: Found<Highest>,
+    count: u32,
+) -> Result<u32, AllocError>
+    requires nodes { length frontier.old ≡ length ranking.now + 1 }
+    requires few { length ranking.now ≤ 2 ^ 30 }
+    requires ends { All (λ a. (1 ≤ a.to) × (a.to ≤ length ranking.now)) (map (λ a. A.arc a) arcs.now) }
+    requires fits { All (λ a. found.dist + a.w < 2 ^ 64) (map (λ a. A.arc a) arcs.now) }
+    requires count { count ≡ wanted p frontier.old }
+    ensures same { length frontier.new ≡ length frontier.old }
+    ensures relaxed { OnOk result (frontier.new ≡ relaxed_all ranking.now found (map (λ a. A.arc a) arcs.now) frontier.old) }
+    ensures count { IfOk result (λ count. count ≡ wanted p frontier.new) }
+{
+    let mut wanted = count;
+    for arc in arcs {
+        let arc = arc.widened();
+        let dist = found.dist + arc.w;
+        let before = frontier.reach(arc.to);
+        if !before.heeds(dist) {
+            continue;
+        }
+        let carried = Highest {
+            position: found.carried.position.min(ranking.pos(arc.to)),
+        };
+        let after = frontier.offer_from(arc.to, before, dist, carried)?;
+        wanted -= wants(before, p);
+        wanted += wants(after, p);
+    }
+    Ok(wanted)
 }
 
 /// 1 for a queued node that carries the root at the position `p`.

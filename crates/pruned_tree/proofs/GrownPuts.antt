@@ -1,5 +1,5 @@
 -- What trees put at a node: of no root, of one, of some and then of others.
-use Rattle.std.proofs.Common.{◌≡◌, inl, inr, true, false, ℕ, zero, suc, ◌<◌, ◌≤◌, eqb, eq-eqb, List, [], ◌∷◌, ◌++◌, All, Contains, length, map, refl, sym, ap, subst, ◌∙◌, append_assoc, arith}
+use Rattle.std.proofs.Common.{◌≡◌, inl, inr, true, false, ℕ, zero, suc, ◌≤◌, eqb, eq-eqb, List, [], ◌∷◌, ◌++◌, All, Contains, length, map, sym, ap, subst, ◌∙◌, append_assoc, arith}
 use Rattle.std.specs.Prelude.{Some, slice_get, Result, Ok, Err, IsOk, IsErr, IfOk}
 use Rattle.std.specs.List.{IsDistinct}
 use Rattle.std.specs.declared.alloc.AllocError.{AllocError}

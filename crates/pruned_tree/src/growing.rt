@@ -1,4 +1,5 @@
-ghost use Rattle.std.specs.Prelude.{◌≡◌, ℕ, ◌+◌, ◌^◌, ◌<◌, ◌≤◌, All, Some, length, slice_get, OnOk};
+ghost use Rattle.std.specs.Prelude.{◌≡◌, ℕ, ◌+◌, ◌^◌, ◌<◌, ◌≤◌, All, Some, length, map, slice_get, OnOk};
+ghost use Rattle.walk_laws.specs.ArcRows.{arcs_in};
 ghost use Rattle.walk_laws.specs.Graph.{IsGraph};
 ghost use Rattle.walk_laws.specs.Joined.{Joined};
 ghost use Rattle.walk_laws.specs.Ranking.{IsRanking};
@@ -12,7 +13,7 @@ use frontier::Frontier;
 use hub_index::{Entry, Offer, RootTable, RowView};
 use rank_table::Ranking;
 use std::alloc::{AllocError, Global};
-use walk_laws::{Arc, Graph};
+use walk_laws::{AnyArc, ArcRow, Graph};
 
 /// Grows the pruned tree of the root at the position `p`, which counts from 0, and answers how many entries it put.
 ///
@@ -88,27 +89,48 @@ fn grow_from<R: RowView>(
             Offer::NoMemory => return Err(AllocError),
         }
         count += 1;
-        relax(frontier, graph.arcs(v), ranking, p, found.dist)?;
+        relax_row(frontier, graph.arc_row(v), ranking, p, found.dist)?;
     }
     Ok(count)
 }
 
 /// Offers the walks along the arcs of a node that is `dist` from the root at the position `p` to the nodes at their ends
-/// that don't rank above the root.
-fn relax(
+/// that don't rank above the root. The only error is that memory ran out.
+fn relax_row(
     frontier: &mut Frontier<Bare>,
-    arcs: &[Arc],
+    row: ArcRow<'_>,
     ranking: &Ranking,
     p: u32,
     dist: u64,
 ) -> Result<(), AllocError>
-    requires ends { All (λ a. (1 ≤ a.to) × (a.to ≤ length ranking.now)) arcs.now }
-    requires fits { All (λ a. dist + a.w < 2 ^ 64) arcs.now }
+    requires ends { All (λ a. (1 ≤ a.to) × (a.to ≤ length ranking.now)) (arcs_in row) }
+    requires fits { All (λ a. dist + a.w < 2 ^ 64) (arcs_in row) }
     requires nodes { length frontier.old ≡ length ranking.now + 1 }
     ensures same { length frontier.new ≡ length frontier.old }
-    ensures relaxed { OnOk result (IsRelaxed ranking.now p dist (length arcs.now) arcs.now frontier.old frontier.new) }
+    ensures relaxed { OnOk result (IsRelaxed ranking.now p dist (length (arcs_in row.entry)) (arcs_in row.entry) frontier.old frontier.new) }
+{
+    match row {
+        ArcRow::Narrow(arcs) => relax(frontier, arcs, ranking, p, dist),
+        ArcRow::Wide(arcs) => relax(frontier, arcs, ranking, p, dist),
+    }
+}
+
+/// The same along arcs in whatever room.
+fn relax<A: AnyArc>(
+    frontier: &mut Frontier<Bare>,
+    arcs: &[A],
+    ranking: &Ranking,
+    p: u32,
+    dist: u64,
+) -> Result<(), AllocError>
+    requires ends { All (λ a. (1 ≤ a.to) × (a.to ≤ length ranking.now)) (map (λ a. A.arc a) arcs.now) }
+    requires fits { All (λ a. dist + a.w < 2 ^ 64) (map (λ a. A.arc a) arcs.now) }
+    requires nodes { length frontier.old ≡ length ranking.now + 1 }
+    ensures same { length frontier.new ≡ length frontier.old }
+    ensures relaxed { OnOk result (IsRelaxed ranking.now p dist (length (map (λ a. A.arc a) arcs.now)) (map (λ a. A.arc a) arcs.now) frontier.old frontier.new) }
 {
     for arc in arcs {
+        let arc = arc.widened();
         let reached = dist + arc.w;
         let before = frontier.reach(arc.to);
         if !before.heeds(reached) {

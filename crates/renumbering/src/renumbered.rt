@@ -16,7 +16,7 @@ pub fn renumbered_graph(alloc: Global, graph: &Graph, tour: &Ranking) -> Result<
     let places = tour.n();
     prove!(n == places);
     let edges = edges_of(alloc, graph, tour)?;
-    Graph::new(alloc, n, edges)
+    Graph::new(alloc, n, edges)?.with_narrow_arcs(alloc)
 }
 
 /// The edges between the new numbers. The only error is that memory ran out.

@@ -6,6 +6,7 @@ pub mod StoredRows
 pub mod PlacedArcs
 pub mod SortedRows
 pub mod Storing
+pub mod NarrowRows
 pub mod Positions
 pub mod Walks
 pub mod Members

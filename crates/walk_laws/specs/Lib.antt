@@ -1,4 +1,5 @@
 pub mod Graph
+pub mod ArcRows
 pub mod Joined
 pub mod Ranking
 pub mod Rows

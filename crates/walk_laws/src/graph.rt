@@ -1,6 +1,7 @@
 ghost use Rattle.std.specs.Prelude.{◌≡◌, ℕ, ◌≤◌, ◌==◌, filter, map, Contains, ◌↔◌, IfOk};
 ghost use Rattle.std.specs.List.Sorted.{IsNonDecreasing};
 
+use crate::arc_row::{ArcRow, NarrowArc, narrowed};
 use crate::rows::{place_arcs, sort_rows, starts_of};
 use std::alloc::{AllocError, Global};
 use std::marker::Model;
@@ -30,11 +31,14 @@ pub struct Graph {
     /// Where the arcs of each node begin, up to the last node that has an arc; the arcs of `v` are those from
     /// `starts[v - 1]` up to `starts[v]`. So a declared number of nodes takes no memory.
     starts: Vec<usize>,
+    /// The arcs again, in half the room, or none at all.
+    narrow: Vec<NarrowArc>,
 }
 
 impl Model for Graph {
     ghost use Rattle.std.specs.Prelude.{ℕ, ◌-◌, ◌<◌, ◌≤◌, [], All, length, slice_index, slice_range};
     ghost use Rattle.std.specs.List.Sorted.{IsNonDecreasing};
+    ghost use Rattle.walk_laws.specs.ArcRows.{IsNarrowed};
     ghost use Rattle.walk_laws.specs.Graph.{WeightedGraph, IsGraph, IsRowOf, arcs_at};
 
     ghost Value = { WeightedGraph };
@@ -42,17 +46,19 @@ impl Model for Graph {
     ghost view = { λ g. record { n = g.n; edges = g.edges.items } };
 
     // a graph; the starts rise within the arcs, between that of a node and the next lies the node's row, and the rows of
-    // later nodes are empty
+    // later nodes are empty; the arcs in half the room are the same ones, or there are none
     ghost invariant = { λ g.
         let starts = g.starts.items in
-        IsGraph g.n g.edges.items
+        (IsGraph g.n g.edges.items
         × IsNonDecreasing starts
         × All (λ at. at ≤ length g.arcs.items) starts
         × ((v : ℕ) → 1 ≤ v → v < length starts → IsRowOf (arcs_at g.edges.items v) (slice_range g.arcs.items (slice_index starts (v - 1)) (slice_index starts v)))
-        × ((v : ℕ) → length starts ≤ v → IsRowOf (arcs_at g.edges.items v) []) };
+        × ((v : ℕ) → length starts ≤ v → IsRowOf (arcs_at g.edges.items v) []))
+        × IsNarrowed g.narrow.items g.arcs.items };
 }
 
 impl Graph {
+    ghost use Rattle.walk_laws.specs.ArcRows.{arcs_in};
     ghost use Rattle.walk_laws.specs.Graph.{IsGraph, arcs_at};
     ghost use Rattle.walk_laws.specs.Joined.{Joined};
 
@@ -72,6 +78,29 @@ impl Graph {
             edges,
             arcs,
             starts,
+            narrow: Vec::new(alloc),
+        })
+    }
+
+    /// The same graph, which has its arcs in half the room, too, where all weights are below 2^32: [`arc_row`](Graph::arc_row)
+    /// lends them so. It takes 8 bytes for each arc. The only error is that memory ran out.
+    pub fn with_narrow_arcs(self, alloc: Global) -> Result<Graph, AllocError>
+        ensures { IfOk result (λ g. g ≡ self) }
+    {
+        let Graph {
+            n,
+            edges,
+            arcs,
+            starts,
+            narrow: _,
+        } = self;
+        let narrow = narrowed(alloc, &arcs)?;
+        Ok(Graph {
+            n,
+            edges,
+            arcs,
+            starts,
+            narrow,
         })
     }
 
@@ -99,6 +128,26 @@ impl Graph {
         &self.arcs[self.starts[v - 1]..self.starts[v]]
     }
 
+    /// The arcs at the node `v`, those of [`arcs`](Graph::arcs), for a search: in half the room where the graph has them so,
+    /// too. It takes O(1).
+    #[inline(always)]
+    pub fn arc_row(&self, v: u32) -> ArcRow<'_>
+        requires node { 1 ≤ v }
+        requires within { v ≤ self.now.n }
+        ensures { (t w : ℕ) → Contains (arcs_in result) (record { to = t; w = w }) ↔ Joined self.now.edges v t w }
+    {
+        let node = v as usize;
+        if node >= self.starts.len() {
+            return ArcRow::Wide(&[]);
+        }
+        let start = self.starts[node - 1];
+        let end = self.starts[node];
+        if self.narrow.is_empty() {
+            return ArcRow::Wide(&self.arcs[start..end]);
+        }
+        ArcRow::Narrow(&self.narrow[start..end])
+    }
+
     /// The edges, in the order in which they were given.
     pub fn edges(&self) -> &[Edge]
         ensures value { result.now ≡ self.now.edges }
@@ -111,6 +160,7 @@ impl Graph {
 #[cfg(test)]
 mod tests {
     use super::*;
+    use crate::arc_row::AnyArc;
     use std::test::Fail;
 
     #[test]
@@ -140,6 +190,27 @@ mod tests {
             .as_slice()
         );
         assert_eq!(rt; graph.arcs(3), [Arc { to: 2, w: 1 }].as_slice());
+        Ok(())
+    }
+
+    /// Of the weights that fit in half the room the greatest is 4294967295.
+    #[test]
+    fn a_great_weight_takes_full_room(rt: HostRuntime) -> Result<(), Fail> {
+        for (w, fits) in [(4_294_967_295, true), (4_294_967_296, false)] {
+            let edges = vec![in rt.alloc(); Edge { u: 1, v: 2, w }]?;
+            let graph = Graph::new(rt.alloc(), 2, edges)?.with_narrow_arcs(rt.alloc())?;
+            match graph.arc_row(2) {
+                ArcRow::Narrow(arcs) => {
+                    assert!(rt; fits);
+                    assert_eq!(rt; arcs.len(), 1);
+                    assert_eq!(rt; arcs[0].widened(), Arc { to: 1, w });
+                }
+                ArcRow::Wide(arcs) => {
+                    assert!(rt; !fits);
+                    assert_eq!(rt; arcs, [Arc { to: 1, w }].as_slice());
+                }
+            }
+        }
         Ok(())
     }
 

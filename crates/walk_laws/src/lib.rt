@@ -1,12 +1,13 @@
 //! Weighted undirected graphs, walks, hubs and label rows: what they are, and the laws that hold of them.
 //!
-//! `graph` has the type `Graph`, which keeps its edge list and each node's arcs in compressed rows, and `rows` places
-//! the rows; `lightest` keeps the edges that matter; `entry` has the entries of label rows. `laws` has a function for each law of walks and hubs, and `worked` has
+//! `graph` has the type `Graph`, which keeps its edge list and each node's arcs in compressed rows, `rows` places
+//! the rows, and `arc_row` has the arcs in half the room; `lightest` keeps the edges that matter; `entry` has the entries of label rows. `laws` has a function for each law of walks and hubs, and `worked` has
 //! two small graphs, worked by hand. It stands on std alone. Its callers' clauses use `specs/Graph` (`WeightedGraph`,
 //! `IsGraph`, `IsEdge`, `greatest_weight`, `arcs_at`), `specs/Lightest`, `specs/Joined`, `specs/Ranking`, and of walks and hubs `specs/Walk`,
 //! `Least`, `On`, `Top`, `Canonical`, `Cover`, `Labelling`, `Answer` and `Meet`. docs/definitions.md has each in a sentence.
 #![tactic(auto)]
 
+mod arc_row;
 mod entry;
 mod graph;
 pub mod laws;
@@ -14,6 +15,7 @@ mod lightest;
 mod rows;
 pub mod worked;
 
+pub use arc_row::{AnyArc, ArcRow, NarrowArc};
 pub use entry::Entry;
 pub use graph::{Arc, Edge, Graph};
 

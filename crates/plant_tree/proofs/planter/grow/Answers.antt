@@ -1,25 +1,26 @@
-use Rattle.std.proofs.Common.{◌≡◌, ◌≢◌, ℕ, ◌+◌, ◌-◌, ◌<◌, ◌≤◌, List, drop, min, replicate, length, get_or, refl, sym, ap, subst, ◌∙◌, arith}
+use Rattle.std.proofs.Common.{◌≡◌, ◌≢◌, ℕ, ◌+◌, ◌<◌, ◌≤◌, List, replicate, length, get_or, sym, ap, subst, ◌∙◌, arith}
 use Rattle.std.proofs.Math.ListN.{set, length-set}
 use Rattle.std.specs.Prelude.{◌↔◌, Some, Contains, slice_get}
 use Rattle.walk_laws.specs.declared.graph.Arc.{Arc}
+use Rattle.walk_laws.specs.ArcRows.{arcs_in}
 use Rattle.walk_laws.specs.Canonical.{IsCanonical}
 use Rattle.walk_laws.specs.Graph.{greatest_weight}
 use Rattle.walk_laws.specs.Joined.{Joined}
 use Rattle.walk_laws.specs.Ranking.{position_of}
 use Rattle.frontier.specs.declared.reach.Reach.TheVariants.{Unreached, Queued, Settled}
 use Rattle.plant_tree.specs.Planted.{NamesEachOnce}
-use Rattle.plant_tree.specs.Wanted.{wants, wanted}
+use Rattle.plant_tree.specs.Wanted.{wanted}
 use Rattle.plant_tree.proofs.PlantedExactly.{AreLabels, planted_exactly, labels_of_nodes, round_of_tree}
 use Rattle.plant_tree.proofs.TreeEnds.{Starts, starts, first_tree}
 use Rattle.plant_tree.proofs.TreeFacts.{IsTree, reach_of}
 use Rattle.plant_tree.proofs.TreeLabels.{labels-start, labels_kept, labels_more, once_more}
-use Rattle.plant_tree.proofs.TreeSize.{unsettled, unsettled-le, length-relaxed, IsSized-start, IsSized-round, unsettled-settled, IsArc, arcs_of_row, room_of_next, node_of_queued, fits_64, none_found, nothing_found}
-use Rattle.plant_tree.proofs.TreeSteps.{higher, offered, relaxed, relaxed_all, relaxed_unheeded, relaxed_all-next, relaxed_all-end}
-use Rattle.frontier.specs.Reaches as frontier
+use Rattle.plant_tree.proofs.TreeSize.{unsettled, unsettled-le, IsSized-start, IsSized-round, unsettled-settled, IsArc, arcs_of_row, room_of_next, node_of_queued, fits_64, none_found, nothing_found}
+use Rattle.plant_tree.specs.Relaxed.{relaxed_all}
+use Rattle.plant_tree.proofs.TreeSteps.{offered}
 use Rattle.plant_tree.proofs.TreeTypes.{Found, Reach}
-use Rattle.plant_tree.proofs.TreeWanted.{wants_one, wanted-le, wanted-relaxed, wanted-settled, wanted-start, none_wanted}
+use Rattle.plant_tree.proofs.TreeWanted.{wanted-settled, wanted-start, none_wanted}
 use Rattle.plant_tree.proofs.planter.grow.Goals as goal
-use Rattle.plant_tree.proofs.planter.grow.Goals.{After-new-planted, At-loop-wanted, In-loop-arc, In_ok-after, After-wants-wanted-in-loop-arc-2, After-loop-arc}
+use Rattle.plant_tree.proofs.planter.grow.Goals.{After-new-planted, At-loop-wanted, After-arc_row, In_ok-wanted}
 
 -- the frontier as it is at first: the root alone is queued
 record AtFirst (n root p : ℕ) (nodes : List Reach) : Type 0 where
@@ -85,116 +86,58 @@ returns-clause-each c = λ h v d root.
 pub overflow_add-settled : goal.overflow_add-settled
 overflow_add-settled c = omega (arith, c.loop-wanted.invariant.settled, c.requires.graph.small, unsettled-settled c.loop-wanted.frontier c.in-Some.v c.in-Some.found c.in-Some.ensures.queued)
 
--- the arc that the round has come to, and its end
-arc_of : (c : In-loop-arc) → IsArc c.args.graph.now.n (greatest_weight c.args.graph.now.edges) (get_or c.arcs-arc-items.result.now c.loop-arc.arc-index (record { to = 0; w = 0 }))
-arc_of c = arcs_of_row c.args.graph.now.n c.args.graph.now.edges c.in-Some.v c.arcs-arc-items.result.now c.requires.graph c.arcs-arc-items.ensures.joined c.loop-arc.arc-index (record { to = 0; w = 0 }) c.loop-arc-test.true
+-- the arcs of the node that the round settles
+arc_of : (c : After-arc_row) → (k : ℕ) (d : Arc) → k < length (arcs_in c.arc_row.result) → IsArc c.args.graph.now.n (greatest_weight c.args.graph.now.edges) (get_or (arcs_in c.arc_row.result) k d)
+arc_of c = arcs_of_row c.args.graph.now.n c.args.graph.now.edges c.in-Some.v (arcs_in c.arc_row.result) c.requires.graph c.arc_row.ensures
 
-arc_inside : (c : In-loop-arc) → (get_or c.arcs-arc-items.result.now c.loop-arc.arc-index (record { to = 0; w = 0 })).to < length c.loop-arc.frontier
-arc_inside c = omega (arith, (arc_of c).up_to_n, c.loop-arc.invariant.size)
+pub relax_row-requires-clause-nodes : goal.relax_row-requires-clause-nodes
+relax_row-requires-clause-nodes c = omega (arith, ap length c.in-Some.ensures.settles, length-set c.loop-wanted.frontier c.in-Some.v (Settled c.in-Some.found), c.loop-wanted.invariant.sized.size, c.requires.ranked)
 
-pub pos-requires-clause-node : goal.pos-requires-clause-node
-pos-requires-clause-node c = (arc_of (goal.at.pos-requires-clause-node c).In-loop-arc).from_one
+pub relax_row-requires-clause-few : goal.relax_row-requires-clause-few
+relax_row-requires-clause-few c = omega (arith, c.requires.ranked, c.requires.graph.small)
 
-pub pos-requires-clause-within : goal.pos-requires-clause-within
-pos-requires-clause-within c = omega (arith, (arc_of (goal.at.pos-requires-clause-within c).In-loop-arc).up_to_n, c.requires.ranked)
+pub relax_row-requires-clause-ends : goal.relax_row-requires-clause-ends
+relax_row-requires-clause-ends c = λ k d lt.
+    let arc = arc_of (goal.at.relax_row-requires-clause-ends c).After-arc_row k d lt in
+    (arc.from_one, omega (arith, arc.up_to_n, c.requires.ranked))
 
-pub reach-before-requires : goal.reach-before-requires
-reach-before-requires c = arc_inside (goal.at.reach-before-requires c).In-loop-arc
-
-pub overflow_add-dist : goal.overflow_add-dist
-overflow_add-dist c =
+pub relax_row-requires-clause-fits : goal.relax_row-requires-clause-fits
+relax_row-requires-clause-fits c = λ k d lt.
     let queued = c.in-Some.ensures.queued in
     let node = node_of_queued _ _ _ _ c.in-Some.v c.in-Some.found c.loop-wanted.invariant.sized queued in
     let room = room_of_next _ _ _ _ c.in-Some.v c.in-Some.found c.loop-wanted.invariant.sized queued in
     let fits = fits_64 c.args.graph.now.n c.args.graph.now.edges c.in-Some.found.dist _ c.requires.graph (omega (arith, node)) room in
-    omega (arith, fits, (arc_of (goal.at.overflow_add-dist c).In-loop-arc).light)
+    omega (arith, fits, (arc_of (goal.at.relax_row-requires-clause-fits c).After-arc_row k d lt).light)
 
-pub loop-arc-preserved-then-not-heeds : goal.loop-arc-preserved-then-not-heeds
-loop-arc-preserved-then-not-heeds c =
-    let a : Arc = get_or c.arcs-arc-items.result.now c.loop-arc.arc-index (record { to = 0; w = 0 }) in
-    let same : relaxed c.args.ranking.now c.in-Some.found a c.loop-arc.frontier ≡ c.loop-arc.frontier = relaxed_unheeded c.args.ranking.now c.in-Some.found a c.loop-arc.frontier (ap (λ r. frontier.heeds r (c.in-Some.found.dist + a.w)) (sym c.reach-before.ensures) ∙ sym c.heeds.ensures ∙ c.if-not-heeds.true) in
-    record {
-      size = c.loop-arc.invariant.size;
-      rest = ap (relaxed_all c.args.ranking.now c.in-Some.found (drop (c.loop-arc.arc-index + 1) c.arcs-arc-items.result.now)) (sym same)
-          ∙ sym (relaxed_all-next c.args.ranking.now c.in-Some.found c.arcs-arc-items.result.now c.loop-arc.arc-index (record { to = 0; w = 0 }) c.loop-arc.frontier c.loop-arc-test.true) ∙ c.loop-arc.invariant.rest;
-      count = c.loop-arc.invariant.count;
-    }
-
-pub offer_from-requires-clause-node : goal.offer_from-requires-clause-node
-offer_from-requires-clause-node c = arc_inside (goal.at.offer_from-requires-clause-node c).In-loop-arc
-
--- the frontier after the offer along the arc
-relaxed_now : (c : In_ok-after) → c.offer_from.new.self ≡ relaxed c.args.ranking.now c.in-Some.found (get_or c.arcs-arc-items.result.now c.loop-arc.arc-index (record { to = 0; w = 0 })) c.loop-arc.frontier
-relaxed_now c =
-    let a : Arc = get_or c.arcs-arc-items.result.now c.loop-arc.arc-index (record { to = 0; w = 0 }) in
-    let high : c.min.result ≡ min c.in-Some.found.carried.position (position_of c.args.ranking.now a.to) = c.min.ensures ∙ ap (min c.in-Some.found.carried.position) c.pos.ensures.value in
-    c.in_ok-after.ensures.ok ∙ ap (λ m. frontier.with_offer higher c.loop-arc.frontier a.to (record { dist = c.in-Some.found.dist + a.w; carried = record { position = m } })) high
-
-length_now : (c : In_ok-after) → length c.offer_from.new.self ≡ length c.loop-arc.frontier
-length_now c = ap length (relaxed_now c) ∙ length-relaxed c.args.ranking.now c.in-Some.found (get_or c.arcs-arc-items.result.now c.loop-arc.arc-index (record { to = 0; w = 0 })) c.loop-arc.frontier
-
--- the count is right again after the arc
-count_now : (c : After-wants-wanted-in-loop-arc-2) → let a : Arc = get_or c.arcs-arc-items.result.now c.loop-arc.arc-index (record { to = 0; w = 0 }) in
-    a.to < length c.loop-arc.frontier → c.offer_from.new.self ≡ relaxed c.args.ranking.now c.in-Some.found a c.loop-arc.frontier →
-    c.loop-arc.wanted - c.wants-wanted-in-loop-arc.result + c.wants-wanted-in-loop-arc-2.result ≡ wanted c.args.p c.offer_from.new.self
-count_now c inside now =
-    let a : Arc = get_or c.arcs-arc-items.result.now c.loop-arc.arc-index (record { to = 0; w = 0 }) in
-    let change = wanted-relaxed c.args.p c.args.ranking.now c.in-Some.found a c.loop-arc.frontier inside in
-    let before : c.wants-wanted-in-loop-arc.result ≡ wants c.args.p (reach_of c.loop-arc.frontier a.to) = c.wants-wanted-in-loop-arc.ensures ∙ ap (wants c.args.p) c.reach-before.ensures in
-    let after : c.wants-wanted-in-loop-arc-2.result ≡ wants c.args.p (reach_of (relaxed c.args.ranking.now c.in-Some.found a c.loop-arc.frontier) a.to) =
-    c.wants-wanted-in-loop-arc-2.ensures ∙ ap (wants c.args.p) (c.in_ok-after.ensures.reach ∙ ap (λ ns. reach_of ns a.to) now) in
-    omega (arith, change, before, after, c.loop-arc.invariant.count, ap (wanted c.args.p) now, wants_one c.args.p c.loop-arc.frontier a.to inside)
-
-pub overflow_add-wanted : goal.overflow_add-wanted
-overflow_add-wanted c =
-    let few = wanted-le c.args.p c.offer_from.new.self in
-    let count = count_now c (arc_inside (goal.at.overflow_add-wanted c).In-loop-arc) (relaxed_now (goal.at.overflow_add-wanted c).In_ok-after) in
-    omega (arith, few, count, length_now (goal.at.overflow_add-wanted c).In_ok-after, c.loop-arc.invariant.size, c.requires.graph.small)
-
-pub loop-arc-preserved : goal.loop-arc-preserved
-loop-arc-preserved c =
-    let now = relaxed_now (goal.at.loop-arc-preserved c).In_ok-after in
-    record {
-      size = length_now (goal.at.loop-arc-preserved c).In_ok-after ∙ c.loop-arc.invariant.size;
-      rest = ap (relaxed_all c.args.ranking.now c.in-Some.found (drop (c.loop-arc.arc-index + 1) c.arcs-arc-items.result.now)) now
-          ∙ sym (relaxed_all-next c.args.ranking.now c.in-Some.found c.arcs-arc-items.result.now c.loop-arc.arc-index (record { to = 0; w = 0 }) c.loop-arc.frontier c.loop-arc-test.true) ∙ c.loop-arc.invariant.rest;
-      count = count_now c (arc_inside (goal.at.loop-arc-preserved c).In-loop-arc) now;
-    }
+pub relax_row-requires-clause-count : goal.relax_row-requires-clause-count
+relax_row-requires-clause-count c = omega (arith, c.wants-wanted.ensures, wanted-settled c.args.p c.loop-wanted.frontier c.in-Some.v c.in-Some.found c.in-Some.ensures.queued, c.loop-wanted.invariant.count, ap (wanted c.args.p) c.in-Some.ensures.settles)
 
 -- the frontier after the round
-round_now : (c : After-loop-arc) → c.loop-arc.frontier ≡ relaxed_all c.args.ranking.now c.in-Some.found c.arcs-arc-items.result.now (set c.loop-wanted.frontier c.in-Some.v (Settled c.in-Some.found))
+round_now : (c : In_ok-wanted) → c.relax_row.new.frontier ≡ relaxed_all c.args.ranking.now c.in-Some.found (arcs_in c.arc_row.result) (set c.loop-wanted.frontier c.in-Some.v (Settled c.in-Some.found))
 round_now c =
-    relaxed_all-end c.args.ranking.now c.in-Some.found c.arcs-arc-items.result.now c.loop-arc.arc-index c.loop-arc.frontier _ c.loop-arc-test.false c.loop-arc.invariant.rest
-    ∙ ap (relaxed_all c.args.ranking.now c.in-Some.found c.arcs-arc-items.result.now) c.in-Some.ensures.settles
+    c.in_ok-wanted.ensures.relaxed ∙ ap (relaxed_all c.args.ranking.now c.in-Some.found (arcs_in c.arc_row.result)) c.in-Some.ensures.settles
 
 pub loop-wanted-smaller : goal.loop-wanted-smaller
 loop-wanted-smaller c =
-    let round = IsSized-round _ c.args.graph.now.edges c.args.ranking.now _ c.in-Some.v c.in-Some.found _ c.requires.graph c.loop-wanted.invariant.sized c.in-Some.ensures.queued c.arcs-arc-items.ensures.joined in
+    let round = IsSized-round _ c.args.graph.now.edges c.args.ranking.now _ c.in-Some.v c.in-Some.found _ c.requires.graph c.loop-wanted.invariant.sized c.in-Some.ensures.queued c.arc_row.ensures in
     omega (arith, ap unsettled (round_now c), round.1)
 
 pub loop-wanted-preserved : goal.loop-wanted-preserved
 loop-wanted-preserved c =
     let queued = c.in-Some.ensures.queued in
     let n = c.args.graph.now.n in
-    let row = c.arcs-arc-items.result.now in
+    let row = (arcs_in c.arc_row.result) in
     let settled_nodes = set c.loop-wanted.frontier c.in-Some.v (Settled c.in-Some.found) in
-    let round = IsSized-round _ c.args.graph.now.edges c.args.ranking.now _ c.in-Some.v c.in-Some.found _ c.requires.graph c.loop-wanted.invariant.sized queued c.arcs-arc-items.ensures.joined in
-    let arcs = arcs_of_row c.args.graph.now.n c.args.graph.now.edges c.in-Some.v c.arcs-arc-items.result.now c.requires.graph c.arcs-arc-items.ensures.joined in
+    let round = IsSized-round _ c.args.graph.now.edges c.args.ranking.now _ c.in-Some.v c.in-Some.found _ c.requires.graph c.loop-wanted.invariant.sized queued c.arc_row.ensures in
+    let arcs = arcs_of_row c.args.graph.now.n c.args.graph.now.edges c.in-Some.v (arcs_in c.arc_row.result) c.requires.graph c.arc_row.ensures in
     record {
       sized = rw (round_now c) round.0;
-      tree = λ h is. rw (round_now c) (round_of_tree c.args.graph.now.n c.args.graph.now.edges c.args.ranking.now h c.in-Some.v c.in-Some.found c.arcs-arc-items.result.now c.loop-wanted.frontier
-          c.requires.graph c.loop-wanted.invariant.sized.size (c.loop-wanted.invariant.tree h is) queued c.in-Some.ensures.nearest c.arcs-arc-items.ensures.joined);
-      count = c.loop-arc.invariant.count;
+      tree = λ h is. rw (round_now c) (round_of_tree c.args.graph.now.n c.args.graph.now.edges c.args.ranking.now h c.in-Some.v c.in-Some.found (arcs_in c.arc_row.result) c.loop-wanted.frontier
+          c.requires.graph c.loop-wanted.invariant.sized.size (c.loop-wanted.invariant.tree h is) queued c.in-Some.ensures.nearest c.arc_row.ensures);
+      count = c.in_ok-wanted.ensures.count;
       settled = omega (arith, ap unsettled (round_now c), round.1, c.loop-wanted.invariant.settled);
-      labels = subst (AreLabels c.args.p c.loop-arc.frontier) (sym c.in_ok-label.ensures) (rw (round_now c) (labels_kept c.args.p c.args.ranking.now c.in-Some.found c.arcs-arc-items.result.now (set c.loop-wanted.frontier c.in-Some.v (Settled c.in-Some.found)) _
+      labels = subst (AreLabels c.args.p c.relax_row.new.frontier) (sym c.in_ok-label.ensures) (rw (round_now c) (labels_kept c.args.p c.args.ranking.now c.in-Some.found (arcs_in c.arc_row.result) (set c.loop-wanted.frontier c.in-Some.v (Settled c.in-Some.found)) _
           (λ k d lt. omega (arith, (arcs k d lt).up_to_n, length-set c.loop-wanted.frontier c.in-Some.v (Settled c.in-Some.found), c.loop-wanted.invariant.sized.size))
           (labels_more c.args.p c.loop-wanted.frontier c.loop-wanted.planted.items c.in-Some.v c.in-Some.found c.loop-wanted.invariant.labels queued)));
       once = subst NamesEachOnce (sym c.in_ok-label.ensures) (once_more c.args.p c.loop-wanted.frontier c.loop-wanted.planted.items c.in-Some.v c.in-Some.found c.loop-wanted.invariant.labels queued c.loop-wanted.invariant.once);
     }
-
-pub loop-arc-init : goal.loop-arc-init
-loop-arc-init c = record {
-  size = ap length c.in-Some.ensures.settles ∙ length-set c.loop-wanted.frontier c.in-Some.v (Settled c.in-Some.found) ∙ c.loop-wanted.invariant.sized.size;
-  rest = refl;
-  count = omega (arith, c.wants-wanted.ensures, wanted-settled c.args.p c.loop-wanted.frontier c.in-Some.v c.in-Some.found c.in-Some.ensures.queued, c.loop-wanted.invariant.count, ap (wanted c.args.p) c.in-Some.ensures.settles);
-}

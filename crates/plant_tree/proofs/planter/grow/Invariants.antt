@@ -1,4 +1,4 @@
-use Rattle.std.proofs.Common.{◌≡◌, ℕ, ◌+◌, ◌*◌, ◌≤◌, length, drop, Some}
+use Rattle.std.proofs.Common.{◌≡◌, ℕ, ◌+◌, ◌*◌, ◌≤◌, Some}
 use Rattle.std.specs.Prelude.{slice_get}
 use Rattle.walk_laws.specs.Graph.{greatest_weight}
 use Rattle.walk_laws.specs.Joined.{Joined}
@@ -6,7 +6,6 @@ use Rattle.plant_tree.specs.Planted.{NamesEachOnce}
 use Rattle.plant_tree.specs.Wanted.{wanted}
 use Rattle.plant_tree.proofs.TreeFacts.{IsTree}
 use Rattle.plant_tree.proofs.TreeSize.{IsSized, unsettled}
-use Rattle.plant_tree.proofs.TreeSteps.{relaxed_all}
 use Rattle.plant_tree.proofs.PlantedExactly.{AreLabels}
 use Rattle.plant_tree.proofs.planter.grow.Given as goal
 
@@ -25,11 +24,3 @@ invariant-loop-wanted l = record {
 -- each round settles a node
 abbrev pub decreases-loop-wanted : goal.decreases-loop-wanted
 decreases-loop-wanted l = unsettled l.frontier
-
--- what the other arcs do from here is what all of them do from the start
-abbrev pub invariant-loop-arc : goal.invariant-loop-arc
-invariant-loop-arc l = record {
-  size : length l.frontier ≡ l.graph.n + 1;
-  rest : relaxed_all l.ranking l.found (drop l.arc-index l.arc-items) l.frontier ≡ relaxed_all l.ranking l.found l.arc-items l.initial.frontier;
-  count : l.wanted ≡ wanted l.p l.frontier;
-}

@@ -4,6 +4,7 @@ use Rattle.std.proofs.Math.ListN.{length-set}
 use Rattle.std.proofs.lemmas.List.{length-replicate}
 use Rattle.std.proofs.lemmas.Result.{IfOk-from_err}
 use Rattle.walk_laws.specs.declared.entry.Entry.{Entry}
+use Rattle.walk_laws.specs.ArcRows.{arcs_in}
 use Rattle.walk_laws.specs.Graph.{greatest_weight}
 use Rattle.walk_laws.specs.Joined.{Joined}
 use Rattle.walk_laws.specs.Labelling.{EntryFits}
@@ -94,29 +95,29 @@ offer-requires-in-Some-clause-fits g c =
     (g.met.R.RowView.fact_fits c.loop-v.view c.in-Some.v (record { pos = c.args.p; dist = c.in-Some.found.dist })).1
     (fits_by _ _ _ _ c.in-Some.v (record { pos = c.args.p; dist = c.in-Some.found.dist }) (sym c.loop-v.invariant.edges) (sym c.loop-v.invariant.order) t.fits)
 
-pub arcs-requires-clause-node : goal.arcs-requires-clause-node
-arcs-requires-clause-node g c = (taken g (goal.at.arcs-requires-clause-node g c).In-Some).from_one
+pub arc_row-requires-clause-node : goal.arc_row-requires-clause-node
+arc_row-requires-clause-node g c = (taken g (goal.at.arc_row-requires-clause-node g c).In-Some).from_one
 
-pub arcs-requires-clause-within : goal.arcs-requires-clause-within
-arcs-requires-clause-within g c = (taken g (goal.at.arcs-requires-clause-within g c).In-Some).up_to_n
+pub arc_row-requires-clause-within : goal.arc_row-requires-clause-within
+arc_row-requires-clause-within g c = (taken g (goal.at.arc_row-requires-clause-within g c).In-Some).up_to_n
 
-pub relax-requires-clause-ends : goal.relax-requires-clause-ends
-relax-requires-clause-ends g c = λ k d lt.
-    let arc = arcs_of_row c.args.graph.now.n c.args.graph.now.edges c.in-Some.v c.arcs.result.now c.requires.graph c.arcs.ensures.joined k d lt in
+pub relax_row-requires-clause-ends : goal.relax_row-requires-clause-ends
+relax_row-requires-clause-ends g c = λ k d lt.
+    let arc = arcs_of_row c.args.graph.now.n c.args.graph.now.edges c.in-Some.v (arcs_in c.arc_row.result) c.requires.graph c.arc_row.ensures k d lt in
     (arc.from_one, omega (arith, arc.up_to_n, c.requires.ranked))
 
-pub relax-requires-clause-fits : goal.relax-requires-clause-fits
-relax-requires-clause-fits g c = λ k d lt.
-    let arc = arcs_of_row c.args.graph.now.n c.args.graph.now.edges c.in-Some.v c.arcs.result.now c.requires.graph c.arcs.ensures.joined k d lt in
-    omega (arith, arc.light, (taken g (goal.at.relax-requires-clause-fits g c).In-Some).room)
+pub relax_row-requires-clause-fits : goal.relax_row-requires-clause-fits
+relax_row-requires-clause-fits g c = λ k d lt.
+    let arc = arcs_of_row c.args.graph.now.n c.args.graph.now.edges c.in-Some.v (arcs_in c.arc_row.result) c.requires.graph c.arc_row.ensures k d lt in
+    omega (arith, arc.light, (taken g (goal.at.relax_row-requires-clause-fits g c).In-Some).room)
 
 pub loop-v-smaller-in-Covered : goal.loop-v-smaller-in-Covered
 loop-v-smaller-in-Covered g c = omega (arith, ap unsettled c.in-Some.ensures.settles, unsettled-settled c.loop-v.frontier c.in-Some.v c.in-Some.found c.in-Some.ensures.queued)
 
 pub loop-v-smaller : goal.loop-v-smaller
 loop-v-smaller g c =
-    let relaxed = c.in_ok-relax.ensures.relaxed in
-    omega (arith, ap unsettled c.in-Some.ensures.settles, unsettled-settled c.loop-v.frontier c.in-Some.v c.in-Some.found c.in-Some.ensures.queued, unsettled-same c.relax.new.frontier c.take.new.self relaxed.size relaxed.settled)
+    let relaxed = c.in_ok-relax_row.ensures.relaxed in
+    omega (arith, ap unsettled c.in-Some.ensures.settles, unsettled-settled c.loop-v.frontier c.in-Some.v c.in-Some.found c.in-Some.ensures.queued, unsettled-same c.relax_row.new.frontier c.take.new.self relaxed.size relaxed.settled)
 
 -- a row that the view finds is one of this graph and ranking
 found_here : (g : given.Over) (c : In-Some g) (row : List Entry) → IsFound (g.R.RowView.fact c.loop-v.view c.in-Some.v) (g.R.RowView.seen c.loop-v.view c.in-Some.v) row → IsFound (EntryFits (Joined c.args.graph.now.edges) c.args.ranking.now c.in-Some.v) (g.R.RowView.seen c.loop-v.view c.in-Some.v) row
@@ -188,42 +189,42 @@ loop-v-preserved g c =
     let found = found_here g up offered.found.0 offered.found.1 in
     let now = c.in-Some.ensures.settles in
     let t = taken g up in
-    let relaxed : IsRelaxed c.args.ranking.now c.args.p c.in-Some.found.dist (length c.arcs.result.now) c.arcs.result.now (settled c.loop-v.frontier c.in-Some.v c.in-Some.found) c.relax.new.frontier =
-    subst (λ ns. IsRelaxed c.args.ranking.now c.args.p c.in-Some.found.dist (length c.arcs.result.now) c.arcs.result.now ns c.relax.new.frontier) now c.in_ok-relax.ensures.relaxed in
+    let relaxed : IsRelaxed c.args.ranking.now c.args.p c.in-Some.found.dist (length (arcs_in c.arc_row.result)) (arcs_in c.arc_row.result) (settled c.loop-v.frontier c.in-Some.v c.in-Some.found) c.relax_row.new.frontier =
+    subst (λ ns. IsRelaxed c.args.ranking.now c.args.p c.in-Some.found.dist (length (arcs_in c.arc_row.result)) (arcs_in c.arc_row.result) ns c.relax_row.new.frontier) now c.in_ok-relax_row.ensures.relaxed in
     record {
       edges = offered.edges ∙ inv.edges;
       order = offered.order ∙ inv.order;
       kept = offered.kept ∙ inv.kept;
       size = relaxed.size ∙ length-set c.loop-v.frontier c.in-Some.v _ ∙ inv.size;
-      bounded = IsBounded-relaxed _ _ c.args.ranking.now c.args.p c.in-Some.found.dist (length c.arcs.result.now) c.arcs.result.now (settled c.loop-v.frontier c.in-Some.v c.in-Some.found) c.relax.new.frontier
-          (λ k d lt. (arcs_of_row c.args.graph.now.n c.args.graph.now.edges c.in-Some.v c.arcs.result.now c.requires.graph c.arcs.ensures.joined k d lt).light)
+      bounded = IsBounded-relaxed _ _ c.args.ranking.now c.args.p c.in-Some.found.dist (length (arcs_in c.arc_row.result)) (arcs_in c.arc_row.result) (settled c.loop-v.frontier c.in-Some.v c.in-Some.found) c.relax_row.new.frontier
+          (λ k d lt. (arcs_of_row c.args.graph.now.n c.args.graph.now.edges c.in-Some.v (arcs_in c.arc_row.result) c.requires.graph c.arc_row.ensures k d lt).light)
           (room_of_next _ _ c.loop-v.frontier c.in-Some.v c.in-Some.found c.in-Some.ensures.queued inv.bounded) relaxed
           (IsBounded-settled _ _ c.loop-v.frontier c.in-Some.v c.in-Some.found c.in-Some.ensures.queued inv.bounded);
       growth = λ h root.
           IsGrowth-round c.args.graph.now.n c.args.graph.now.edges c.args.ranking.now h c.args.p c.requires.graph c.requires.ranked c.requires.ranking root (g.R.RowView.puts c.args.view.now) (g.R.RowView.seen c.args.view.now)
           c.loop-v.frontier (g.R.RowView.puts c.loop-v.view) (g.R.RowView.seen c.loop-v.view) c.args.table.now (c.requires.root h root) (inv.growth h root) (inv.complete h root) inv.seen c.in-Some.v c.in-Some.found c.in-Some.ensures.queued c.in-Some.ensures.nearest
-          offered.found.0 found (g.R.RowView.puts c.offer-in-Some.new.self) offered.puts offered.others_puts c.arcs.result.now c.arcs.ensures.joined c.relax.new.frontier relaxed;
+          offered.found.0 found (g.R.RowView.puts c.offer-in-Some.new.self) offered.puts offered.others_puts (arcs_in c.arc_row.result) c.arc_row.ensures c.relax_row.new.frontier relaxed;
       complete = λ h root.
           IsComplete-round c.args.graph.now.n c.args.graph.now.edges c.args.ranking.now h c.args.p c.requires.graph c.requires.ranked c.requires.ranking root (g.R.RowView.puts c.args.view.now) (g.R.RowView.seen c.args.view.now)
           c.loop-v.frontier (g.R.RowView.puts c.loop-v.view) (g.R.RowView.seen c.loop-v.view) c.args.table.now (c.requires.root h root) (inv.growth h root) (inv.complete h root) inv.seen c.in-Some.v c.in-Some.found c.in-Some.ensures.queued c.in-Some.ensures.nearest
-          offered.found.0 found (g.R.RowView.puts c.offer-in-Some.new.self) offered.puts offered.others_puts c.arcs.result.now c.arcs.ensures.joined c.relax.new.frontier relaxed offered.found.2;
+          offered.found.0 found (g.R.RowView.puts c.offer-in-Some.new.self) offered.puts offered.others_puts (arcs_in c.arc_row.result) c.arc_row.ensures c.relax_row.new.frontier relaxed offered.found.2;
       seen = StillStand-found (g.R.RowView.seen c.args.view.now) (g.R.RowView.seen c.loop-v.view) (g.R.RowView.seen c.offer-in-Some.new.self) c.in-Some.v offered.found.0 inv.seen found.still
           (IsSeenAfter-still offered.found.0 (record { pos = c.args.p; dist = c.in-Some.found.dist }) Put (g.R.RowView.seen c.offer-in-Some.new.self c.in-Some.v) offered.found.3) offered.others_seen;
       apart = λ h root. apart_put g up offered.found.0 (g.R.RowView.puts c.offer-in-Some.new.self) found offered.found.2 offered.puts offered.others_puts h root;
       counted = omega (arith, inv.counted, entries-put c.args.ranking.now (g.R.RowView.puts c.loop-v.view) (g.R.RowView.puts c.offer-in-Some.new.self) c.in-Some.v (record { pos = c.args.p; dist = c.in-Some.found.dist }) c.requires.ranking t.from_one (omega (arith, t.up_to_n, c.requires.ranked)) offered.puts offered.others_puts);
-      few = omega (arith, unsettled-same c.relax.new.frontier (settled c.loop-v.frontier c.in-Some.v c.in-Some.found) relaxed.size relaxed.settled, unsettled-settled c.loop-v.frontier c.in-Some.v c.in-Some.found c.in-Some.ensures.queued, inv.few);
+      few = omega (arith, unsettled-same c.relax_row.new.frontier (settled c.loop-v.frontier c.in-Some.v c.in-Some.found) relaxed.size relaxed.settled, unsettled-settled c.loop-v.frontier c.in-Some.v c.in-Some.found c.in-Some.ensures.queued, inv.few);
     }
 
-pub returns-in_err-relax-clause-grown : goal.returns-in_err-relax-clause-grown
-returns-in_err-relax-clause-grown g c =
-    let up = (goal.at.returns-in_err-relax-clause-grown g c).In-Some in
+pub returns-in_err-relax_row-clause-grown : goal.returns-in_err-relax_row-clause-grown
+returns-in_err-relax_row-clause-grown g c =
+    let up = (goal.at.returns-in_err-relax_row-clause-grown g c).In-Some in
     let offered = c.in-Put.ensures in
     record {
       pruned = IsPruned-from_growth (Joined c.args.graph.now.edges) c.args.ranking.now c.at.result c.args.p (g.R.RowView.puts c.args.view.now) (settled c.loop-v.frontier c.in-Some.v c.in-Some.found) (g.R.RowView.puts c.offer-in-Some.new.self)
           (growth_put g up offered.found.0 (g.R.RowView.puts c.offer-in-Some.new.self) (found_here g up offered.found.0 offered.found.1) offered.puts offered.others_puts c.at.result c.at.ensures.value) c.at.ensures.value;
-      count = IfOk-from_err c.from_residual-in_err-relax.result _ c.from_residual-in_err-relax.ensures.0;
-      complete = IfOk-from_err c.from_residual-in_err-relax.result _ c.from_residual-in_err-relax.ensures.0;
-      exact = IfOk-from_err c.from_residual-in_err-relax.result _ c.from_residual-in_err-relax.ensures.0;
+      count = IfOk-from_err c.from_residual-in_err-relax_row.result _ c.from_residual-in_err-relax_row.ensures.0;
+      complete = IfOk-from_err c.from_residual-in_err-relax_row.result _ c.from_residual-in_err-relax_row.ensures.0;
+      exact = IfOk-from_err c.from_residual-in_err-relax_row.result _ c.from_residual-in_err-relax_row.ensures.0;
       apart = λ h v d q s root from_one gained sum above.
           apart_put g up offered.found.0 (g.R.RowView.puts c.offer-in-Some.new.self) (found_here g up offered.found.0 offered.found.1) offered.found.2 offered.puts offered.others_puts h root v d from_one gained q s sum above;
     }

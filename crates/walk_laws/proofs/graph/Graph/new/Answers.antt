@@ -1,5 +1,5 @@
 use Rattle.std.specs.Prelude.{◌≡◌, ℕ, ◌≤◌, ◌<◌, length}
-use Rattle.std.proofs.Common.{arith, ◌∙◌}
+use Rattle.std.proofs.Common.{arith, ◌∙◌, inl}
 use Rattle.walk_laws.specs.Graph.{IsRowOf, arcs_at}
 use Rattle.walk_laws.specs.Rows.{AreWithin, IsPlaced}
 use Rattle.walk_laws.proofs.Storing.{IsStored-sorted, ends_rise, ends_within, written}
@@ -30,4 +30,5 @@ invariant_of-result c =
     let within : AreWithin edges (length ends) = rw (long, ← c.deref.ensures.value) c.in_ok-starts.ensures.nodes in
     let ends_are : c.deref-3.result.now ≡ ends = c.deref-3.ensures.value ∙ written c.in_ok-starts.starts.items ends c.in_ok-starts.starts.len long in
     let rows : (v : ℕ) → 1 ≤ v → v < length ends → IsRowOf (row_at ends arcs v) (row_at ends sorted v) = rw (ends_are, c.deref_mut-2.ensures.value) at c.in_ok-sort_rows.ensures.rows in
-    rw (written c.in_ok-starts.starts.items ends c.in_ok-starts.starts.len long, written arcs sorted c.in_ok-arcs.arcs.len many) (IsStored-sorted c.args.n edges arcs sorted ends c.requires within placed (omega (arith, many, c.in_ok-arcs.arcs.ok.0)) rows)
+    rw (written c.in_ok-starts.starts.items ends c.in_ok-starts.starts.len long, written arcs sorted c.in_ok-arcs.arcs.len many)
+    (IsStored-sorted c.args.n edges arcs sorted ends c.requires within placed (omega (arith, many, c.in_ok-arcs.arcs.ok.0)) rows, inl c.new.ensures.items)
