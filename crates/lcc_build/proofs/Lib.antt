@@ -1,6 +1,6 @@
 pub mod DoneShares
 pub mod InOrder
 pub mod NarrowEntries
-pub mod NarrowRows
+pub mod PartedRows
 pub mod PutsTogether
 pub mod SharedRows

@@ -41,13 +41,13 @@ none_then None P Q f p = f p
 none_then (Some x) P Q f p = tt
 
 -- each position of the row is one of the table, so that of an entry that a loop has come to is, too
-pub narrow_within : (n : ℕ) (row : List Entry) (narrow : List NarrowEntry) (wide : List Entry) → all_widened narrow ++ wide ≡ row → All (λ e. e.pos < n) row → (i : ℕ) (d : NarrowEntry) → i < length narrow → (widened (get_or narrow i d)).pos < n
-narrow_within n row narrow wide is all i d lt =
-    All-contains (λ e. e.pos < n) (all_widened narrow ++ wide) (widened (get_or narrow i d)) (subst (λ r. All (λ e. e.pos < n) r) (sym is) all) (Contains-append_left (all_widened narrow) wide (widened (get_or narrow i d)) (Contains-widened narrow i d lt))
+pub narrow_within : (n : ℕ) (narrow : List NarrowEntry) (wide : List Entry) → All (λ e. e.pos < n) (all_widened narrow ++ wide) → (i : ℕ) (d : NarrowEntry) → i < length narrow → (widened (get_or narrow i d)).pos < n
+narrow_within n narrow wide all i d lt =
+    All-contains (λ e. e.pos < n) (all_widened narrow ++ wide) (widened (get_or narrow i d)) all (Contains-append_left (all_widened narrow) wide (widened (get_or narrow i d)) (Contains-widened narrow i d lt))
 
-pub wide_within : (n : ℕ) (row prefix wide : List Entry) → row ≡ prefix ++ wide → All (λ e. e.pos < n) row → (i : ℕ) (d : Entry) → i < length wide → (get_or wide i d).pos < n
-wide_within n row prefix wide is all i d lt =
-    All-contains (λ e. e.pos < n) (prefix ++ wide) (get_or wide i d) (subst (λ r. All (λ e. e.pos < n) r) is all) (Contains-append_right prefix wide (get_or wide i d) (Contains-get_or wide i d lt))
+pub wide_within : (n : ℕ) (prefix wide : List Entry) → All (λ e. e.pos < n) (prefix ++ wide) → (i : ℕ) (d : Entry) → i < length wide → (get_or wide i d).pos < n
+wide_within n prefix wide all i d lt =
+    All-contains (λ e. e.pos < n) (prefix ++ wide) (get_or wide i d) all (Contains-append_right prefix wide (get_or wide i d) (Contains-get_or wide i d lt))
 
 -- after a list, one more of a row
 pub after_next : (prefix row : List Entry) (i : ℕ) (d : Entry) → i < length row → (prefix ++ take i row) ++ get_or row i d ∷ [] ≡ prefix ++ take (i + 1) row

@@ -1,12 +1,12 @@
 //! The rows of a graph's nodes for one thread, in which most entries take half the room.
-ghost use Rattle.std.specs.Prelude.{◌≡◌, ◌≢◌, ℕ, ◌≤◌, [], length, map, replicate, IfOk};
+ghost use Rattle.std.specs.Prelude.{◌≡◌, ◌≢◌, ℕ, ◌≤◌, [], length, replicate, IfOk};
 ghost use Rattle.walk_laws.specs.Joined.{Joined};
 ghost use Rattle.walk_laws.specs.Labelling.{EntryFits, label_row};
 ghost use Rattle.hub_index.specs.PlainRows.{IsGathered};
 ghost use Rattle.hub_index.specs.RootDistances.{HoldsRow};
 ghost use Rattle.hub_index.specs.Views.{IsNode, IsFoundOnward, IsAnswerOf, with_put};
 
-use crate::narrow_row::NarrowRow;
+use crate::split_rows::SplitRows;
 use hub_index::{Offer, RootTable, RowList, RowView};
 use rank_table::Ranking;
 use std::alloc::{AllocError, Global};
@@ -19,20 +19,19 @@ use walk_laws::{Entry, Graph};
 /// and the rows.
 #[derive(Drop)]
 pub struct NarrowRows {
-    rows: Vec<NarrowRow>,
+    rows: SplitRows,
     graph: Snapshot<Graph>,
     ranking: Snapshot<Ranking>,
 }
 
 impl Model for NarrowRows {
-    ghost use Rattle.std.specs.Prelude.{ℕ, ◌^◌, ◌<◌, length};
     ghost use Rattle.hub_index.specs.PlainRows.{GatheredRows, IsGathered};
 
     ghost Value = { GatheredRows };
 
-    ghost view = { λ r. record { edges = r.graph.value.edges; order = r.ranking.value; rows = r.rows.items } };
+    ghost view = { λ r. record { edges = r.graph.value.edges; order = r.ranking.value; rows = r.rows } };
 
-    ghost invariant = { λ r. (length r.rows.items < 2 ^ 32) × IsGathered r.graph.value.edges r.ranking.value r.rows.items };
+    ghost invariant = { λ r. IsGathered r.graph.value.edges r.ranking.value r.rows };
 }
 
 impl NarrowRows {
@@ -44,7 +43,7 @@ impl NarrowRows {
         ensures rows { IfOk result (λ view. view.rows ≡ replicate graph.now.n []) }
     {
         Ok(NarrowRows {
-            rows: empty_rows(alloc, graph.n())?,
+            rows: SplitRows::new(alloc, graph.n())?,
             graph: Snapshot::of(graph),
             ranking: Snapshot::of(ranking),
         })
@@ -61,31 +60,8 @@ impl NarrowRows {
             graph: _,
             ranking: _,
         } = self;
-        let rows = rows_of_entries(alloc, rows)?;
-        Ok(RowList::from_rows(rows))
+        rows.into_rows(alloc)
     }
-}
-
-/// So many empty rows. The only error is that memory ran out.
-fn empty_rows(alloc: Global, n: u32) -> Result<Vec<NarrowRow>, AllocError>
-    ensures { IfOk result (λ rows. rows.items ≡ replicate n []) }
-{
-    let mut rows = Vec::with_capacity(alloc, n as usize)?;
-    for _ in 0..n {
-        rows.push(NarrowRow::new(alloc))?;
-    }
-    Ok(rows)
-}
-
-/// The entries of each row. The only error is that memory ran out.
-fn rows_of_entries(alloc: Global, rows: Vec<NarrowRow>) -> Result<Vec<Vec<Entry>>, AllocError>
-    ensures { IfOk result (λ lists. map (λ row. row.items) lists.items ≡ rows.items) }
-{
-    let mut lists = Vec::with_capacity(alloc, rows.len())?;
-    for row in rows {
-        lists.push(row.into_entries(alloc)?)?;
-    }
-    Ok(lists)
 }
 
 /// The rows themselves are what was last seen of them, and all that was put: the row that a call finds is the list seen
@@ -118,7 +94,7 @@ impl RowView for NarrowRows {
         ensures held { HoldsRow table.new (label_row self.new.rows h) }
         ensures size { length table.new ≡ length table.old }
     {
-        self.rows[h as usize - 1].load(table);
+        self.rows.load(h, table);
     }
 
     fn offer(&mut self, v: u32, entry: Entry, table: &RootTable) -> Offer
@@ -132,6 +108,6 @@ impl RowView for NarrowRows {
         ensures row { label_row self.new.rows v ≡ with_put (label_row self.old.rows v) entry result }
         ensures others { (x : ℕ) → 1 ≤ x → x ≢ v → label_row self.new.rows x ≡ label_row self.old.rows x }
     {
-        self.rows[v as usize - 1].offer(entry, table)
+        self.rows.offer(v, entry, table)
     }
 }

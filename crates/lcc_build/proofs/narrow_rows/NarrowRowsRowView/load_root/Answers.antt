@@ -1,31 +1,27 @@
-use Rattle.std.proofs.Common.{◌≡◌, ◌<◌, ◌≤◌, All, length, sym, ap, subst, ◌∙◌, arith}
+use Rattle.std.proofs.Common.{◌≡◌, ◌<◌, All, length, sym, ap, subst}
 use Rattle.walk_laws.specs.Labelling.{label_row}
 use Rattle.hub_index.specs.PlainRows.{IsGathered}
 use Rattle.hub_index.specs.RootDistances.{HoldsRow}
 use Rattle.hub_index.proofs.RowsGathered.{found-gathered, positions-found}
-use Rattle.lcc_build.proofs.NarrowRows.{row_read}
 use Rattle.lcc_build.proofs.narrow_rows.NarrowRowsRowView.load_root.Goals as goal
-use Rattle.lcc_build.proofs.narrow_rows.NarrowRowsRowView.load_root.Goals.{After-index}
+use Rattle.lcc_build.proofs.narrow_rows.NarrowRowsRowView.load_root.Goals.{After-self}
 
-gathered_of : (c : After-index) → IsGathered c.args.self.now.edges c.args.self.now.order c.args.self.now.rows
-gathered_of c = subst (λ g. IsGathered g.edges g.order g.rows) c.self.view_is c.self.invariant.1
+gathered_of : (c : After-self) → IsGathered c.args.self.now.edges c.args.self.now.order c.args.self.now.rows
+gathered_of c = subst (λ g. IsGathered g.edges g.order g.rows) c.self.view_is c.self.invariant
 
-row_of : (c : After-index) → c.index.result.now ≡ label_row c.args.self.now.rows c.args.h
-row_of c =
-    let within : c.args.h ≤ length c.self.inside.rows.items = omega (arith, c.requires.node.up_to_n, ap (λ g. length g.order) c.self.view_is, c.self.invariant.1.size) in
-    row_read c.self.inside.rows.items c.args.h c.index.result.now c.requires.node.from_one within c.index.ensures
-    ∙ ap (λ g. label_row g.rows c.args.h) c.self.view_is
+row_of : (c : After-self) → label_row c.self.inside.rows c.args.h ≡ label_row c.args.self.now.rows c.args.h
+row_of c = ap (λ g. label_row g.rows c.args.h) c.self.view_is
 
-pub load-requires : goal.load-requires
-load-requires c =
-    let at_row = (goal.at.load-requires c).After-index in
+pub load-requires-clause-positions : goal.load-requires-clause-positions
+load-requires-clause-positions c =
+    let at_row = (goal.at.load-requires-clause-positions c).After-self in
     let fit = (gathered_of at_row).fit c.args.h c.requires.node.from_one c.requires.node.up_to_n in
     let found = positions-found c.args.self.now.edges c.args.self.now.order c.args.h (label_row c.args.self.now.rows c.args.h) fit in
     subst (λ row. All (λ e. e.pos < length c.args.table.now) row) (sym (row_of at_row))
     (subst (λ n. All (λ e. e.pos < n) (label_row c.args.self.now.rows c.args.h)) (sym c.requires.size) found)
 
 pub returns-clause-found : goal.returns-clause-found
-returns-clause-found c = found-gathered c.args.self.now.edges c.args.self.now.order c.args.self.now.rows c.args.h (gathered_of (goal.at.returns-clause-found c).After-index) c.requires.node
+returns-clause-found c = found-gathered c.args.self.now.edges c.args.self.now.order c.args.self.now.rows c.args.h (gathered_of (goal.at.returns-clause-found c).After-self) c.requires.node
 
 pub returns-clause-held : goal.returns-clause-held
-returns-clause-held c = subst (HoldsRow c.load.new.table) (row_of (goal.at.returns-clause-held c).After-index) c.load.ensures.held
+returns-clause-held c = subst (HoldsRow c.load.new.table) (row_of (goal.at.returns-clause-held c).After-self) c.load.ensures.held

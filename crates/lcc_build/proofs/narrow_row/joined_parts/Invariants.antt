@@ -1,11 +1,11 @@
 use Rattle.std.proofs.Common.{◌≡◌, ◌++◌, take}
 use Rattle.lcc_build.proofs.NarrowEntries.{all_widened}
-use Rattle.lcc_build.proofs.narrow_row.NarrowRow.into_entries.Given as goal
+use Rattle.lcc_build.proofs.narrow_row.joined_parts.Given as goal
 
 -- the entries of 8 bytes so far
 abbrev pub invariant-loop-entry : goal.invariant-loop-entry
-invariant-loop-entry l = l.entries.items ≡ all_widened (take l.entry-index l.entry-items)
+invariant-loop-entry l = l.entries.items ≡ all_widened (take l.entry-index l.narrow)
 
 -- all of them, and the others so far
 abbrev pub invariant-loop-entry-2 : goal.invariant-loop-entry-2
-invariant-loop-entry-2 l = l.entries.items ≡ all_widened l.narrow.items ++ take l.entry-index l.entry-items
+invariant-loop-entry-2 l = l.entries.items ≡ all_widened l.narrow ++ take l.entry-index l.wide

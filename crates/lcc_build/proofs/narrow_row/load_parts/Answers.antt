@@ -4,32 +4,28 @@ use Rattle.std.proofs.lemmas.List.{append-nil, take_all}
 use Rattle.walk_laws.specs.declared.entry.Entry.{Entry}
 use Rattle.hub_index.specs.RootDistances.{with_noted}
 use Rattle.hub_index.proofs.NotedRows.{HoldsEach, HoldsEach-noted, HoldsRow-from_each}
-use Rattle.lcc_build.specs.NarrowRows.{widened}
+use Rattle.lcc_build.specs.NarrowRows.{widened, row_of_parts}
 use Rattle.lcc_build.proofs.NarrowEntries.{all_widened, widened_next, widened_whole, narrow_within, wide_within, after_next}
-use Rattle.lcc_build.proofs.narrow_row.NarrowRow.load.Goals as goal
-use Rattle.lcc_build.proofs.narrow_row.NarrowRow.load.Goals.{In-loop-entry, In-loop-entry-2}
+use Rattle.lcc_build.proofs.narrow_row.load_parts.Goals as goal
+use Rattle.lcc_build.proofs.narrow_row.load_parts.Goals.{In-loop-entry, In-loop-entry-2}
 
 -- the position of the entry that a loop has come to
-narrow_inside : (c : In-loop-entry) → (widened (get_or c.deref-entry-items.result.now c.loop-entry.entry-index (record { pos = 0; dist = 0 }))).pos < length c.loop-entry.table
+narrow_inside : (c : In-loop-entry) → (widened (get_or c.args.narrow.now c.loop-entry.entry-index (record { pos = 0; dist = 0 }))).pos < length c.loop-entry.table
 narrow_inside c =
-    let narrow = c.deref-entry-items.result.now in
-    let wide = c.self.inside.wide.items in
-    let whole : all_widened narrow ++ wide ≡ c.args.self.now = ap (λ es. all_widened es ++ wide) c.deref-entry-items.ensures.value ∙ c.self.view_is in
-    let within = narrow_within (length c.args.table.now) c.args.self.now narrow wide whole c.requires c.loop-entry.entry-index (record { pos = 0; dist = 0 }) c.loop-entry-test.true in
+    let within = narrow_within (length c.args.table.now) c.args.narrow.now c.args.wide.now c.requires c.loop-entry.entry-index (record { pos = 0; dist = 0 }) c.loop-entry-test.true in
     omega (arith, within, c.loop-entry.invariant.size)
 
-wide_inside : (c : In-loop-entry-2) → (get_or c.deref-entry-items-2.result.now c.loop-entry-2.entry-index (record { pos = 0; dist = 0 })).pos < length c.loop-entry-2.table
+wide_inside : (c : In-loop-entry-2) → (get_or c.args.wide.now c.loop-entry-2.entry-index (record { pos = 0; dist = 0 })).pos < length c.loop-entry-2.table
 wide_inside c =
-    let so_far = c.loop-entry-2.invariant in
-    let within = wide_within (length c.args.table.now) c.args.self.now so_far.prefix c.deref-entry-items-2.result.now so_far.whole c.requires c.loop-entry-2.entry-index (record { pos = 0; dist = 0 }) c.loop-entry-2-test.true in
-    omega (arith, within, so_far.size)
+    let within = wide_within (length c.args.table.now) (all_widened c.args.narrow.now) c.args.wide.now c.requires c.loop-entry-2.entry-index (record { pos = 0; dist = 0 }) c.loop-entry-2-test.true in
+    omega (arith, within, c.loop-entry-2.invariant.size)
 
 pub note-requires : goal.note-requires
 note-requires c = subst (λ (e : Entry). e.pos < length c.loop-entry.table) (sym c.widened.ensures) (narrow_inside (goal.at.note-requires c).In-loop-entry)
 
 pub loop-entry-preserved : goal.loop-entry-preserved
 loop-entry-preserved c =
-    let narrow = c.deref-entry-items.result.now in
+    let narrow = c.args.narrow.now in
     let i = c.loop-entry.entry-index in
     let table = c.loop-entry.table in
     let e = c.widened.result in
@@ -45,12 +41,10 @@ loop-entry-preserved c =
 
 pub loop-entry-2-init : goal.loop-entry-2-init
 loop-entry-2-init c =
-    let narrow = c.deref-entry-items.result.now in
+    let narrow = c.args.narrow.now in
     let all = widened_whole narrow c.loop-entry.entry-index c.loop-entry-test.false ∙ sym (append-nil (all_widened narrow)) in
     record {
       size = c.loop-entry.invariant.size;
-      prefix = all_widened narrow;
-      whole = sym (ap (λ es. all_widened narrow ++ es) c.deref-entry-items-2.ensures.value ∙ ap (λ es. all_widened es ++ c.self.inside.wide.items) c.deref-entry-items.ensures.value ∙ c.self.view_is);
       held = subst (HoldsEach c.loop-entry.table) all c.loop-entry.invariant.held;
     }
 
@@ -59,24 +53,20 @@ note-requires-in-loop-entry-2 c = wide_inside (goal.at.note-requires-in-loop-ent
 
 pub loop-entry-2-preserved : goal.loop-entry-2-preserved
 loop-entry-2-preserved c =
-    let wide = c.deref-entry-items-2.result.now in
+    let before = all_widened c.args.narrow.now in
+    let wide = c.args.wide.now in
     let i = c.loop-entry-2.entry-index in
     let table = c.loop-entry-2.table in
-    let so_far = c.loop-entry-2.invariant in
     let e : Entry = get_or wide i (record { pos = 0; dist = 0 }) in
     let now = c.note-in-loop-entry-2.ensures in
-    let next = HoldsEach-noted table (so_far.prefix ++ take i wide) e (wide_inside (goal.at.loop-entry-2-preserved c).In-loop-entry-2) so_far.held in
-    let seen = after_next so_far.prefix wide i (record { pos = 0; dist = 0 }) c.loop-entry-2-test.true in
+    let next = HoldsEach-noted table (before ++ take i wide) e (wide_inside (goal.at.loop-entry-2-preserved c).In-loop-entry-2) c.loop-entry-2.invariant.held in
+    let seen = after_next before wide i (record { pos = 0; dist = 0 }) c.loop-entry-2-test.true in
     record {
-      size = ap length now ∙ length-set table _ _ ∙ so_far.size;
-      prefix = so_far.prefix;
-      whole = so_far.whole;
-      held = subst (λ t. HoldsEach t (so_far.prefix ++ take (i + 1) wide)) (sym now) (subst (HoldsEach (with_noted table e)) seen next);
+      size = ap length now ∙ length-set table _ _ ∙ c.loop-entry-2.invariant.size;
+      held = subst (λ t. HoldsEach t (before ++ take (i + 1) wide)) (sym now) (subst (HoldsEach (with_noted table e)) seen next);
     }
 
 pub returns-clause-held : goal.returns-clause-held
 returns-clause-held c =
-    let wide = c.deref-entry-items-2.result.now in
-    let so_far = c.loop-entry-2.invariant in
-    let all = ap (λ es. so_far.prefix ++ es) (take_all c.loop-entry-2.entry-index wide c.loop-entry-2-test.false) ∙ sym so_far.whole in
-    HoldsRow-from_each c.loop-entry-2.table c.args.self.now (subst (HoldsEach c.loop-entry-2.table) all so_far.held)
+    let all = ap (λ es. all_widened c.args.narrow.now ++ es) (take_all c.loop-entry-2.entry-index c.args.wide.now c.loop-entry-2-test.false) in
+    HoldsRow-from_each c.loop-entry-2.table (row_of_parts c.args.narrow.now c.args.wide.now) (subst (HoldsEach c.loop-entry-2.table) all c.loop-entry-2.invariant.held)
