@@ -1,5 +1,5 @@
 -- Entries of ranges, placed in the rows of their nodes.
-use Rattle.std.proofs.Common.{◌≡◌, ◌≢◌, ℕ, ◌+◌, ◌-◌, ◌<◌, ◌≤◌, List, [], ◌∷◌, ◌++◌, map, filter, length, take, get_or, set, refl, sym, ap, subst, ◌∙◌, inl, inr, append_assoc, arith, Global}
+use Rattle.std.proofs.Common.{◌≡◌, ◌≢◌, ℕ, ◌+◌, ◌-◌, ◌<◌, ◌≤◌, List, [], ◌∷◌, ◌++◌, map, filter, length, take, get_or, set, refl, sym, ap, subst, ◌∙◌, inl, inr, arith, Global}
 use Rattle.std.specs.Prelude.{Vec, ◌==◌}
 use Rattle.std.specs.List.Sorted.{IsNonDecreasingBy, IsPermutation}
 use Rattle.std.proofs.lemmas.Bool.{cases_lt, cases_eq, eq-eqb, ne_eqb}
@@ -10,7 +10,7 @@ use Rattle.walk_laws.specs.declared.entry.Entry.{Entry}
 use Rattle.walk_laws.specs.Labelling.{label_row}
 use Rattle.hub_index.specs.declared.entry_sink.NodeEntry.{NodeEntry}
 use Rattle.hub_index.specs.HubIndex.{with_entry}
-use Rattle.hub_index.specs.Sunk.{Sunk, range_at, entries_of_node, entry_if, entry_of, range_of, all_in_range, IsGatheredRow}
+use Rattle.hub_index.specs.Sunk.{entries_of_node, entry_if, entry_of, range_of, lists_of, IsGatheredRow}
 use Rattle.hub_index.proofs.RowItems.{items_of}
 use Rattle.hub_index.proofs.RowsGathered.{row_gains, row_stays}
 
@@ -51,17 +51,6 @@ row_after rows before node v e past within from_one up_to = elim (cases_eq v (no
 pub row_as_before : (rows : List (List Entry)) (before node v : ℕ) (e : Entry) → (node ≡ before + v → ⊥) → label_row rows v ≡ label_row rows v ++ entry_if node (before + v) e
 row_as_before rows before node v e other = sym (ap (λ es. label_row rows v ++ es) (entry_if-other node (before + v) e other) ∙ append-nil (label_row rows v))
 
-pub all_in_range-append : (xs ys : List Sunk) (r v : ℕ) → all_in_range (xs ++ ys) r v ≡ all_in_range xs r v ++ all_in_range ys r v
-all_in_range-append [] ys r v = refl
-all_in_range-append (x ∷ xs) ys r v = ap (λ es. entries_of_node (range_at x r) v ++ es) (all_in_range-append xs ys r v) ∙ sym (append_assoc (entries_of_node (range_at x r) v) (all_in_range xs r v) (all_in_range ys r v))
-
--- one more sink
-pub all_in_range-more : (sinks : List Sunk) (i r v : ℕ) (d : Sunk) → i < length sinks → all_in_range (take (i + 1) sinks) r v ≡ all_in_range (take i sinks) r v ++ entries_of_node (range_at (get_or sinks i d) r) v
-all_in_range-more sinks i r v d lt =
-    ap (λ ss. all_in_range ss r v) (take_more sinks i d lt)
-    ∙ all_in_range-append (take i sinks) (get_or sinks i d ∷ []) r v
-    ∙ ap (λ es. all_in_range (take i sinks) r v ++ es) (append-nil (entries_of_node (range_at (get_or sinks i d) r) v))
-
 -- one more row is sorted
 pub row_now : (rows : List (Vec Entry Global)) (k : ℕ) (new : Vec Entry Global) → k < length rows → label_row (items_of (set rows k new)) (k + 1) ≡ new.items
 row_now rows k new lt =
@@ -95,26 +84,22 @@ sorted_next old rows k before new lt is moved rising sorted others v from_one up
     le_of_other : (v k : ℕ) → v ≤ k + 1 → v ≢ k + 1 → v ≤ k
     le_of_other v k le other = elim (cases_lt v (k + 1)) [ inl lt ↦ omega arith | inr ge ↦ absurd (other (omega arith)) ]
 
--- the entries of each range
-abbrev pub ranges_of : List (Vec NodeEntry Global) → List (List NodeEntry)
-ranges_of ranges = map (λ (range : Vec NodeEntry Global). range.items) ranges
-
 -- one more entry, which lies in the range of its node
-pub sunk_after : (n : ℕ) (ranges : List (Vec NodeEntry Global)) (k node v : ℕ) (e : Entry) (old new : Vec NodeEntry Global) → k ≡ range_of n node → k < length ranges → old ≡ get_or ranges k old → new.items ≡ old.items ++ record { node = node; pos = e.pos; dist = e.dist } ∷ [] → entries_of_node (get_or (ranges_of (set ranges k new)) (range_of n v) []) v ≡ entries_of_node (get_or (ranges_of ranges) (range_of n v) []) v ++ entry_if node v e
+pub sunk_after : (n : ℕ) (ranges : List (Vec NodeEntry Global)) (k node v : ℕ) (e : Entry) (old new : Vec NodeEntry Global) → k ≡ range_of n node → k < length ranges → old ≡ get_or ranges k old → new.items ≡ old.items ++ record { node = node; pos = e.pos; dist = e.dist } ∷ [] → entries_of_node (get_or (lists_of (set ranges k new)) (range_of n v) []) v ≡ entries_of_node (get_or (lists_of ranges) (range_of n v) []) v ++ entry_if node v e
 sunk_after n ranges k node v e old new in_range lt is grown =
-    let moved : ranges_of (set ranges k new) ≡ set (ranges_of ranges) k new.items = map-set (λ (r : Vec NodeEntry Global). r.items) ranges k new in
+    let moved : lists_of (set ranges k new) ≡ set (lists_of ranges) k new.items = map-set (λ (r : Vec NodeEntry Global). r.items) ranges k new in
     elim (cases_eq (range_of n v) k) [
       | inl here ↦
-          let now : get_or (ranges_of (set ranges k new)) (range_of n v) [] ≡ old.items ++ record { node = node; pos = e.pos; dist = e.dist } ∷ [] =
-          ap (λ i. get_or (ranges_of (set ranges k new)) i []) here ∙ ap (λ rs. get_or rs k []) moved ∙ get_or-set_same (ranges_of ranges) k new.items [] (omega (arith, length-map ranges (λ (r : Vec NodeEntry Global). r.items))) ∙ grown in
-          let was : get_or (ranges_of ranges) (range_of n v) [] ≡ old.items =
-          ap (λ i. get_or (ranges_of ranges) i []) here ∙ get_or-map (λ (r : Vec NodeEntry Global). r.items) ranges k old [] lt ∙ ap (λ (r : Vec NodeEntry Global). r.items) (sym is) in
+          let now : get_or (lists_of (set ranges k new)) (range_of n v) [] ≡ old.items ++ record { node = node; pos = e.pos; dist = e.dist } ∷ [] =
+          ap (λ i. get_or (lists_of (set ranges k new)) i []) here ∙ ap (λ rs. get_or rs k []) moved ∙ get_or-set_same (lists_of ranges) k new.items [] (omega (arith, length-map ranges (λ (r : Vec NodeEntry Global). r.items))) ∙ grown in
+          let was : get_or (lists_of ranges) (range_of n v) [] ≡ old.items =
+          ap (λ i. get_or (lists_of ranges) i []) here ∙ get_or-map (λ (r : Vec NodeEntry Global). r.items) ranges k old [] lt ∙ ap (λ (r : Vec NodeEntry Global). r.items) (sym is) in
           ap (λ es. entries_of_node es v) now
           ∙ entries_of_node-append old.items (record { node = node; pos = e.pos; dist = e.dist } ∷ []) v
           ∙ ap (λ es. entries_of_node old.items v ++ es) (entries_of_node-one (record { node = node; pos = e.pos; dist = e.dist }) v)
           ∙ ap (λ es. entries_of_node es v ++ entry_if node v e) (sym was)
       | inr other ↦
           ap (λ rs. entries_of_node (get_or rs (range_of n v) []) v) moved
-          ∙ ap (λ es. entries_of_node es v) (get_or-set_other (ranges_of ranges) k (range_of n v) new.items [] other)
-          ∙ sym (ap (λ es. entries_of_node (get_or (ranges_of ranges) (range_of n v) []) v ++ es) (entry_if-other node v e (λ same. other (ap (range_of n) (sym same) ∙ sym in_range))) ∙ append-nil (entries_of_node (get_or (ranges_of ranges) (range_of n v) []) v))
+          ∙ ap (λ es. entries_of_node es v) (get_or-set_other (lists_of ranges) k (range_of n v) new.items [] other)
+          ∙ sym (ap (λ es. entries_of_node (get_or (lists_of ranges) (range_of n v) []) v ++ es) (entry_if-other node v e (λ same. other (ap (range_of n) (sym same) ∙ sym in_range))) ∙ append-nil (entries_of_node (get_or (lists_of ranges) (range_of n v) []) v))
     ]

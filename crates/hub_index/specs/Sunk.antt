@@ -1,7 +1,7 @@
 -- Entries as workers put them, in any order, and the rows that are gathered of them.
 use Rattle.std.specs.Prelude.{◌≡◌, ◌↔◌, ◌≢◌, ℕ, ◌+◌, ◌-◌, ◌*◌, ◌/◌, ◌≤◌, ◌==◌, List, [], ◌∷◌, ◌++◌, AllPairs, Contains, filter, map, length, slice_index_or, if◌then◌else◌}
-use Rattle.std.specs.Prelude.{Result, Ok, Err}
-use Rattle.std.specs.declared.alloc.AllocError.{AllocError}
+use Rattle.std.specs.Prelude.{Option, Some, None, Vec}
+use Rattle.std.specs.declared.alloc.Global.{Global}
 use Rattle.std.specs.List.Sorted.{IsNonDecreasingBy, IsPermutation}
 use Rattle.walk_laws.specs.declared.graph.Edge.{Edge}
 use Rattle.walk_laws.specs.declared.entry.Entry.{Entry}
@@ -47,31 +47,39 @@ abbrev pub all_sunk : List Sunk → ℕ → List Entry
 all_sunk [] v = []
 all_sunk (sink ∷ sinks) v = sunk_at sink v ++ all_sunk sinks v
 
--- and at a node, as it stands in their range
-abbrev pub all_in_range : List Sunk → ℕ → ℕ → List Entry
-all_in_range [] r v = []
-all_in_range (sink ∷ sinks) r v = entries_of_node (range_at sink r) v ++ all_in_range sinks r v
+-- the entries of each vector
+abbrev pub lists_of : List (Vec NodeEntry Global) → List (List NodeEntry)
+lists_of vectors = map (λ vector. vector.items) vectors
+
+-- what each of several workers put at the nodes of a range
+abbrev pub ranges_at : List Sunk → ℕ → List (List NodeEntry)
+ranges_at sinks r = map (λ sink. range_at sink r) sinks
+
+-- the entries of one node among those of each list
+abbrev pub all_of_node : List (List NodeEntry) → ℕ → List Entry
+all_of_node [] v = []
+all_of_node (entries ∷ lists) v = entries_of_node entries v ++ all_of_node lists v
 
 -- how many rows the parts have that were made
-abbrev pub rows_in : List (Result (List (List Entry)) AllocError) → ℕ
+abbrev pub rows_in : List (Option (List (List Entry))) → ℕ
 rows_in [] = 0
-rows_in (Ok part ∷ parts) = length part + rows_in parts
-rows_in (Err _ ∷ parts) = rows_in parts
+rows_in (Some part ∷ parts) = length part + rows_in parts
+rows_in (None ∷ parts) = rows_in parts
 
 -- all parts were made, and the rows are theirs, one part after another
-abbrev pub AreJoined : List (Result (List (List Entry)) AllocError) → List (List Entry) → Type 0
+abbrev pub AreJoined : List (Option (List (List Entry))) → List (List Entry) → Type 0
 AreJoined [] rows = rows ≡ []
-AreJoined (Ok part ∷ parts) rows = (rest : List (List Entry)) × (rows ≡ part ++ rest) × AreJoined parts rest
-AreJoined (Err _ ∷ parts) rows = ⊥
+AreJoined (Some part ∷ parts) rows = (rest : List (List Entry)) × (rows ≡ part ++ rest) × AreJoined parts rest
+AreJoined (None ∷ parts) rows = ⊥
 
 -- the row has these entries, each as often, by rising position
 pub record IsGatheredRow (entries row : List Entry) : Type 0 where
   pub rising : IsNonDecreasingBy (λ e. e.pos) row
   pub same : IsPermutation entries row
 
--- the rows are those of the nodes in a range
-abbrev pub IsRangeOf : List Sunk → ℕ → ℕ → List (List Entry) → Type 0
-IsRangeOf sinks n r rows = (v : ℕ) → 1 ≤ v → v ≤ length rows → IsGatheredRow (all_in_range sinks r (r * range_width n + v)) (label_row rows v)
+-- the rows are those of the nodes in a range, of entries in several lists
+abbrev pub IsRangeOf : List (List NodeEntry) → ℕ → ℕ → List (List Entry) → Type 0
+IsRangeOf lists n r rows = (v : ℕ) → 1 ≤ v → v ≤ length rows → IsGatheredRow (all_of_node lists (r * range_width n + v)) (label_row rows v)
 
 -- the entries of each node, in any order, are those of its hubs at the positions of a set, none twice
 pub record HoldsPart (edges : List Edge) (at : List ℕ) (InPart : ℕ → Type 0) (entries : ℕ → List Entry) : Type 0 where

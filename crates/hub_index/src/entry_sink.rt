@@ -1,5 +1,5 @@
-ghost use Rattle.std.specs.Prelude.{◌≡◌, ℕ, ◌≤◌, [], ◌++◌, slice_index_or, IfOk, OnOk};
-ghost use Rattle.hub_index.specs.Sunk.{sunk_at, entry_if, entry_of, range_width as width_of};
+ghost use Rattle.std.specs.Prelude.{◌≡◌, ℕ, ◌+◌, ◌/◌, ◌≤◌, [], ◌++◌, length, IfOk, OnOk};
+ghost use Rattle.hub_index.specs.Sunk.{sunk_at, entry_if, entry_of, lists_of, range_width as width_of};
 
 use std::alloc::{AllocError, Global};
 use std::marker::Model;
@@ -88,13 +88,11 @@ impl EntrySink {
         Ok(())
     }
 
-    /// The entries of the nodes in a range, which counts from 0.
-    pub fn range(&self, range: usize) -> &[NodeEntry]
-        ensures { result.now ≡ slice_index_or self.now.ranges range [] }
+    /// The entries of the nodes in each range, in the order of the ranges. It takes no memory.
+    pub fn into_ranges(self) -> Vec<Vec<NodeEntry>>
+        ensures size { length result.items ≡ self.n / width_of self.n + 1 }
+        ensures ranges { lists_of result.items ≡ self.ranges }
     {
-        if range >= self.ranges.len() {
-            return &[];
-        }
-        &self.ranges[range]
+        self.ranges
     }
 }

@@ -1,5 +1,5 @@
 -- Entries that hold parts of the labelling: one tree, one batch more, and all batches.
-use Rattle.std.specs.Prelude.{◌↔◌, Ok, Err, IfOk, Some, slice_get, AllPairs}
+use Rattle.std.specs.Prelude.{◌↔◌, Result, Ok, Err, IfOk, Some, slice_get, AllPairs}
 use Rattle.std.proofs.Common.{◌≡◌, ◌≢◌, ◌⊎◌, ℕ, ◌+◌, ◌-◌, ◌*◌, ◌/◌, ◌%◌, ◌<◌, ◌≤◌, Bool, true, false, true≢false, List, [], ◌∷◌, ◌++◌, Contains, length, map, get_or, set, replicate, refl, sym, ap, subst, ◌∙◌, inl, inr, append_assoc, arith, zero, suc}
 use Rattle.std.proofs.Math.ListN.{length-set}
 use Rattle.std.proofs.Math.Nat.{mod-eq_of_lt, mod-lt}
@@ -15,7 +15,6 @@ use Rattle.walk_laws.specs.Joined.{Joined}
 use Rattle.walk_laws.specs.Canonical.{IsCanonical}
 use Rattle.walk_laws.specs.Labelling.{IsHubEntry, IsChl, label_row}
 use Rattle.hub_index.specs.Sunk.{Sunk, sunk_at, all_sunk, HoldsPart, IsGatheredRow}
-use Rattle.hub_index.proofs.Parts.{Part}
 use Rattle.hub_index.proofs.PartsOfLabellings.{IsPartChl-gathered}
 use Rattle.plant_tree.specs.Planted.{NamesEachOnce}
 use Rattle.plant_build.specs.TreeEntries.{entries_of}
@@ -328,6 +327,6 @@ module _ (edges : List Edge) (at : List ℕ) where
   batch_all batches b p first new past gains = GainsPart-same edges at (IsBatchBelow batches b p) (λ q. q % batches ≡ b) first new gains (λ q _ h. h.0) (λ q inside h. (h, omega arith))
 
 -- what holds of rows where they were made
-pub both_ok : (r : Part) (P Q R : List (List Entry) → Type 0) → ((rows : List (List Entry)) → P rows → Q rows → R rows) → IfOk r P → IfOk r Q → IfOk r R
+pub both_ok : {E : Type 0} (r : Result (List (List Entry)) E) (P Q R : List (List Entry) → Type 0) → ((rows : List (List Entry)) → P rows → Q rows → R rows) → IfOk r P → IfOk r Q → IfOk r R
 both_ok (Ok rows) P Q R both p q = both rows p q
 both_ok (Err e) P Q R both p q = p

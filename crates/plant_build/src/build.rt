@@ -69,7 +69,7 @@ fn planted_rows<R: Threads + Wait + Sync, G: Gate + Sync>(
     work(rt, alloc, graph, ranking, batches, gate, &mut crew, workers);
     let (come, mut sinks) = collect(alloc, batches, crew)?;
     sinks.push(plant_missing(alloc, graph, ranking, batches, gate, &come)?)?;
-    gather(rt, alloc, n, &sinks)
+    gather(rt, alloc, n, sinks)
 }
 
 /// The batches that each worker is dealt, where there are roots enough. With many the workers end at nearly the same time.

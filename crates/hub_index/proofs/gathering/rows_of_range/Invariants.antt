@@ -1,14 +1,14 @@
-use Rattle.std.proofs.Common.{◌≡◌, ℕ, ◌+◌, ◌≤◌, length, take}
+use Rattle.std.proofs.Common.{◌≡◌, ℕ, ◌+◌, ◌≤◌, ◌++◌, length}
 use Rattle.walk_laws.specs.Labelling.{label_row}
-use Rattle.hub_index.specs.Sunk.{all_in_range}
+use Rattle.hub_index.specs.Sunk.{lists_of, all_of_node}
 use Rattle.hub_index.proofs.gathering.rows_of_range.Given as goal
 
-abbrev pub invariant-loop-sink : goal.invariant-loop-sink
-invariant-loop-sink l = length l.room.items ≡ l.count
+abbrev pub invariant-loop-of_sink : goal.invariant-loop-of_sink
+invariant-loop-of_sink l = length l.room.items ≡ l.count
 
--- the entries of the sinks so far
-abbrev pub invariant-loop-sink-2 : goal.invariant-loop-sink-2
-invariant-loop-sink-2 l = record {
+-- with the entries of the sinks to come each row has those of all sinks
+abbrev pub invariant-loop-of_sink-2 : goal.invariant-loop-of_sink-2
+invariant-loop-of_sink-2 l = record {
   size : length l.rows ≡ l.count;
-  rows : (v : ℕ) → 1 ≤ v → v ≤ l.count → label_row l.rows v ≡ all_in_range (take l.sink-index l.sinks) l.range (l.before + v);
+  rows : (v : ℕ) → 1 ≤ v → v ≤ l.count → label_row l.rows v ++ all_of_node (lists_of l.of_sink-iterator.rest.items) (l.before + v) ≡ all_of_node (lists_of l.fn.entries.items) (l.before + v);
 }

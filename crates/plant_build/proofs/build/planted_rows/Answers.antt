@@ -39,7 +39,7 @@ come_of g c =
 pub gather-requires-after_bounds : goal.gather-requires-after_bounds
 gather-requires-after_bounds g c κs within =
     let come = come_of g (goal.at.gather-requires-after_bounds g c).In_ok-come in
-    rw (c.deref-2.ensures.value, c.in_ok-push.ensures.items)
+    rw c.in_ok-push.ensures.items
     (All-push (λ s. s.n ≡ c.n-n.result) c.in_ok-come.sinks.items c.in_ok-plant_missing.field-0 (λ k d lt. come.sizes k d lt ∙ sym c.n-n.ensures.value) (c.in_ok-plant_missing.ensures.sink ∙ sym c.n-n.ensures.value))
 
 pub returns : goal.returns
@@ -50,9 +50,9 @@ returns g c =
     let own = c.in_ok-plant_missing.field-0 in
     let come = come_of g (goal.at.returns g c).In_ok-come in
     let missing : HoldsPart edges at (IsMissing c.in_ok-come.come.items) (sunk_at own) = subst (λ marks. HoldsPart edges at (IsMissing marks) (sunk_at own)) c.deref.ensures.value c.in_ok-plant_missing.ensures.missing in
-    let sinks_are : c.deref-2.result.now ≡ c.in_ok-come.sinks.items ++ own ∷ [] = c.deref-2.ensures.value ∙ c.in_ok-push.ensures.items in
+    let sinks_are : c.push.new.self.items ≡ c.in_ok-come.sinks.items ++ own ∷ [] = c.in_ok-push.ensures.items in
     record {
-      labelling = both_ok c.gather.result (λ rows. length rows ≡ c.n-n.result) (λ rows. (v : ℕ) → 1 ≤ v → v ≤ c.n-n.result → IsGatheredRow (all_sunk c.deref-2.result.now v) (label_row rows v)) (IsChl (Joined edges) at)
+      labelling = both_ok c.gather.result (λ rows. length rows ≡ c.n-n.result) (λ rows. (v : ℕ) → 1 ≤ v → v ≤ c.n-n.result → IsGatheredRow (all_sunk c.push.new.self.items v) (label_row rows v)) (IsChl (Joined edges) at)
           (λ rows size each. IsChl-whole edges at n c.in_ok-come.come.items c.in_ok-come.sinks.items own rows (sym c.requires.nodes) come c.in_ok-plant_missing.ensures.sink missing (size ∙ c.n-n.ensures.value)
           (λ v low high. subst (λ sinks. IsGatheredRow (all_sunk sinks v) (label_row rows v)) sinks_are (each v low (omega (arith, high, c.n-n.ensures.value))))) c.gather.ensures.size c.gather.ensures.rows;
     }
