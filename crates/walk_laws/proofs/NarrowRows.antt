@@ -4,11 +4,11 @@ use Rattle.std.specs.Prelude.{slice_range}
 use Rattle.std.proofs.lemmas.List.{drop-map, get_or-map, length-map, take-map}
 use Rattle.walk_laws.specs.declared.graph.Arc.{Arc}
 use Rattle.walk_laws.specs.declared.arc_row.NarrowArc.{NarrowArc}
-use Rattle.walk_laws.specs.ArcRows.{widened, IsNarrowed}
+use Rattle.walk_laws.specs.ArcRows.{widened, AreNarrowed}
 
--- where there are some, they are the arcs
-pub all_narrowed : (narrow : List NarrowArc) (arcs : List Arc) → IsNarrowed narrow arcs → 0 < length narrow → map (λ a. widened a) narrow ≡ arcs
-all_narrowed narrow arcs narrowed some = elim narrowed [ inl none ↦ absurd (omega (arith, ap length none, some)) | inr same ↦ same ]
+-- where there are starts, they are the starts of the arcs
+pub all_narrowed : (narrow : List NarrowArc) (narrow_starts : List ℕ) (arcs : List Arc) (starts : List ℕ) → AreNarrowed narrow narrow_starts arcs starts → 0 < length narrow_starts → (map (λ a. widened a) narrow ≡ arcs) × (narrow_starts ≡ starts)
+all_narrowed narrow narrow_starts arcs starts narrowed some = elim narrowed [ inl none ↦ absurd (omega (arith, ap length none, some)) | inr same ↦ same ]
 
 pub part_narrowed : (narrow : List NarrowArc) (arcs : List Arc) (start end : ℕ) → map (λ a. widened a) narrow ≡ arcs → map (λ a. widened a) (slice_range narrow start end) ≡ slice_range arcs start end
 part_narrowed narrow arcs start end same =

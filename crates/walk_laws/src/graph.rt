@@ -1,7 +1,7 @@
 ghost use Rattle.std.specs.Prelude.{◌≡◌, ℕ, ◌≤◌, ◌==◌, filter, map, Contains, ◌↔◌, IfOk};
 ghost use Rattle.std.specs.List.Sorted.{IsNonDecreasing};
 
-use crate::arc_row::{ArcRow, NarrowArc, narrowed};
+use crate::arc_row::{ArcRow, NarrowArcs};
 use crate::rows::{place_arcs, sort_rows, starts_of};
 use std::alloc::{AllocError, Global};
 use std::marker::Model;
@@ -32,13 +32,13 @@ pub struct Graph {
     /// `starts[v - 1]` up to `starts[v]`. So a declared number of nodes takes no memory.
     starts: Vec<usize>,
     /// The arcs again, in half the room, or none at all.
-    narrow: Vec<NarrowArc>,
+    narrow: NarrowArcs,
 }
 
 impl Model for Graph {
     ghost use Rattle.std.specs.Prelude.{ℕ, ◌-◌, ◌<◌, ◌≤◌, [], All, length, slice_index, slice_range};
     ghost use Rattle.std.specs.List.Sorted.{IsNonDecreasing};
-    ghost use Rattle.walk_laws.specs.ArcRows.{IsNarrowed};
+    ghost use Rattle.walk_laws.specs.ArcRows.{AreNarrowed};
     ghost use Rattle.walk_laws.specs.Graph.{WeightedGraph, IsGraph, IsRowOf, arcs_at};
 
     ghost Value = { WeightedGraph };
@@ -54,7 +54,7 @@ impl Model for Graph {
         × All (λ at. at ≤ length g.arcs.items) starts
         × ((v : ℕ) → 1 ≤ v → v < length starts → IsRowOf (arcs_at g.edges.items v) (slice_range g.arcs.items (slice_index starts (v - 1)) (slice_index starts v)))
         × ((v : ℕ) → length starts ≤ v → IsRowOf (arcs_at g.edges.items v) []))
-        × IsNarrowed g.narrow.items g.arcs.items };
+        × AreNarrowed g.narrow.arcs.items g.narrow.starts.items g.arcs.items starts };
 }
 
 impl Graph {
@@ -78,12 +78,12 @@ impl Graph {
             edges,
             arcs,
             starts,
-            narrow: Vec::new(alloc),
+            narrow: NarrowArcs::none(alloc),
         })
     }
 
     /// The same graph, which has its arcs in half the room, too, where all weights are below 2^32: [`arc_row`](Graph::arc_row)
-    /// lends them so. It takes 8 bytes for each arc. The only error is that memory ran out.
+    /// lends them so. It takes 8 bytes for each arc, and 4 for each node. The only error is that memory ran out.
     pub fn with_narrow_arcs(self, alloc: Global) -> Result<Graph, AllocError>
         ensures { IfOk result (λ g. g ≡ self) }
     {
@@ -94,7 +94,7 @@ impl Graph {
             starts,
             narrow: _,
         } = self;
-        let narrow = narrowed(alloc, &arcs)?;
+        let narrow = NarrowArcs::of(alloc, &arcs, &starts)?;
         Ok(Graph {
             n,
             edges,
@@ -137,15 +137,15 @@ impl Graph {
         ensures { (t w : ℕ) → Contains (arcs_in result) (record { to = t; w = w }) ↔ Joined self.now.edges v t w }
     {
         let node = v as usize;
+        if node < self.narrow.starts.len() {
+            let start = self.narrow.starts[node - 1] as usize;
+            let end = self.narrow.starts[node] as usize;
+            return ArcRow::Narrow(&self.narrow.arcs[start..end]);
+        }
         if node >= self.starts.len() {
             return ArcRow::Wide(&[]);
         }
-        let start = self.starts[node - 1];
-        let end = self.starts[node];
-        if self.narrow.is_empty() {
-            return ArcRow::Wide(&self.arcs[start..end]);
-        }
-        ArcRow::Narrow(&self.narrow[start..end])
+        ArcRow::Wide(&self.arcs[self.starts[node - 1]..self.starts[node]])
     }
 
     /// The edges, in the order in which they were given.

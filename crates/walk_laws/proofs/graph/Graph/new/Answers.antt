@@ -31,4 +31,4 @@ invariant_of-result c =
     let ends_are : c.deref-3.result.now ≡ ends = c.deref-3.ensures.value ∙ written c.in_ok-starts.starts.items ends c.in_ok-starts.starts.len long in
     let rows : (v : ℕ) → 1 ≤ v → v < length ends → IsRowOf (row_at ends arcs v) (row_at ends sorted v) = rw (ends_are, c.deref_mut-2.ensures.value) at c.in_ok-sort_rows.ensures.rows in
     rw (written c.in_ok-starts.starts.items ends c.in_ok-starts.starts.len long, written arcs sorted c.in_ok-arcs.arcs.len many)
-    (IsStored-sorted c.args.n edges arcs sorted ends c.requires within placed (omega (arith, many, c.in_ok-arcs.arcs.ok.0)) rows, inl c.new.ensures.items)
+    (IsStored-sorted c.args.n edges arcs sorted ends c.requires within placed (omega (arith, many, c.in_ok-arcs.arcs.ok.0)) rows, inl c.none.ensures)

@@ -1,6 +1,6 @@
 use Rattle.std.proofs.Common.{◌≡◌, map, take}
 use Rattle.walk_laws.specs.ArcRows.{widened}
-use Rattle.walk_laws.proofs.arc_row.narrowed.Given as goal
+use Rattle.walk_laws.proofs.arc_row.narrow_arcs.Given as goal
 
 -- the arcs so far
 abbrev pub invariant-loop-arc : goal.invariant-loop-arc
