@@ -9,8 +9,9 @@ use Rattle.walk_laws.specs.declared.entry.Entry.{Entry}
 use Rattle.walk_laws.specs.Labelling.{label_row}
 use Rattle.hub_index.specs.Sunk.{Sunk, range_width, range_of, all_sunk, ranges_at, all_of_node, IsRangeOf, rows_in, AreJoined, IsGatheredRow}
 
-abbrev pub Part : Type 0
-Part = Option (List (List Entry))
+-- the rows of a part, where they were made
+abbrev PartRows : Type 0
+PartRows = Option (List (List Entry))
 
 -- what the sinks have at a node stands in its range
 pub all_sunk-of_node : (sinks : List Sunk) (n v : ℕ) → All (λ s. s.n ≡ n) sinks → all_sunk sinks v ≡ all_of_node (ranges_at sinks (range_of n v)) v
@@ -22,16 +23,16 @@ all_sunk-of_node (s ∷ sinks) n v all =
 
 module _ (sinks : List Sunk) (n : ℕ) where
   -- the part of a range was made of it
-  abbrev pub Made : ℕ → Part → Type 0
+  abbrev pub Made : ℕ → PartRows → Type 0
   Made k part = IfSome part (λ rows. length rows ≡ min (range_width n) (n - k * range_width n)) × IfSome part (IsRangeOf (ranges_at sinks k) n k)
 
-  abbrev AllMade : ℕ → List Part → Type 0
-  AllMade k parts = (i : ℕ) (d : Part) → i < length parts → Made (k + i) (get_or parts i d)
+  abbrev AllMade : ℕ → List PartRows → Type 0
+  AllMade k parts = (i : ℕ) (d : PartRows) → i < length parts → Made (k + i) (get_or parts i d)
 
-  made_first : (k : ℕ) (p : Part) (ps : List Part) → AllMade k (p ∷ ps) → Made k p
+  made_first : (k : ℕ) (p : PartRows) (ps : List PartRows) → AllMade k (p ∷ ps) → Made k p
   made_first k p ps all = let same : k + 0 ≡ k = omega arith in subst (λ i. Made i p) same (all 0 p (omega arith))
 
-  made_rest : (k : ℕ) (p : Part) (ps : List Part) → AllMade k (p ∷ ps) → AllMade (k + 1) ps
+  made_rest : (k : ℕ) (p : PartRows) (ps : List PartRows) → AllMade k (p ∷ ps) → AllMade (k + 1) ps
   made_rest k p ps all i d lt = let same : k + suc i ≡ k + 1 + i = omega arith in subst (λ j. Made j (get_or ps i d)) same (all (suc i) d (omega arith))
 
   next_offset : (k a : ℕ) → a ≡ k * range_width n → a + range_width n ≡ (k + 1) * range_width n
@@ -40,7 +41,7 @@ module _ (sinks : List Sunk) (n : ℕ) where
       one_more : (k w : ℕ) → (k + 1) * w ≡ k * w + w
       one_more k w = grind arith
 
-  few_from : (parts : List Part) (k a : ℕ) → a ≡ k * range_width n → AllMade k parts → rows_in parts + min n a ≤ n
+  few_from : (parts : List PartRows) (k a : ℕ) → a ≡ k * range_width n → AllMade k parts → rows_in parts + min n a ≤ n
   few_from [] k a is all = omega arith
   few_from (Some p ∷ parts) k a is all =
       let first = made_first k (Some p) parts all in
@@ -51,7 +52,7 @@ module _ (sinks : List Sunk) (n : ℕ) where
       let rest = few_from parts (k + 1) (a + range_width n) (next_offset k a is) (made_rest k None parts all) in
       omega (arith, rest)
 
-  pub parts_few : (parts : List Part) → AllMade 0 parts → rows_in parts ≤ n
+  pub parts_few : (parts : List PartRows) → AllMade 0 parts → rows_in parts ≤ n
   parts_few parts all = omega (arith, few_from parts 0 0 (omega arith) all)
 
   -- the rows after a nodes
@@ -62,7 +63,7 @@ module _ (sinks : List Sunk) (n : ℕ) where
   counted : (c w : ℕ) → suc c * w ≡ w + c * w
   counted c w = grind arith
 
-  after : (parts : List Part) (k a : ℕ) (rows : List (List Entry)) → a ≡ k * range_width n → AllMade k parts → AreJoined parts rows → AreAfter a (length parts) rows
+  after : (parts : List PartRows) (k a : ℕ) (rows : List (List Entry)) → a ≡ k * range_width n → AllMade k parts → AreJoined parts rows → AreAfter a (length parts) rows
   after [] k a rows is all none = record {
     size = omega (arith, ap length none);
     right = λ v from_one up_to. absurd (omega (arith, ap length none));
@@ -92,7 +93,7 @@ module _ (sinks : List Sunk) (n : ℕ) where
       }
 
   -- all parts together have the rows of all nodes
-  pub rows_of_parts : (parts : List Part) (rows : List (List Entry)) → All (λ s. s.n ≡ n) sinks → length parts ≡ n / range_width n + 1 → AllMade 0 parts → AreJoined parts rows → (length rows ≡ n) × ((v : ℕ) → 1 ≤ v → v ≤ n → IsGatheredRow (all_sunk sinks v) (label_row rows v))
+  pub rows_of_parts : (parts : List PartRows) (rows : List (List Entry)) → All (λ s. s.n ≡ n) sinks → length parts ≡ n / range_width n + 1 → AllMade 0 parts → AreJoined parts rows → (length rows ≡ n) × ((v : ℕ) → 1 ≤ v → v ≤ n → IsGatheredRow (all_sunk sinks v) (label_row rows v))
   rows_of_parts parts rows sizes count all joined =
       let them = after parts 0 0 rows (omega arith) all joined in
       let product : length parts * range_width n ≡ n / range_width n * range_width n + range_width n = ap (λ c. c * range_width n) count ∙ one_more (n / range_width n) (range_width n) in
