@@ -9,3 +9,5 @@ pub mod TouchedPositions
 pub mod GatheredRows
 pub mod Parts
 pub mod PartsOfLabellings
+pub mod NarrowEntries
+pub mod PartedRows

@@ -5,4 +5,5 @@ pub mod Laws
 pub mod RootDistances
 pub mod Touched
 pub mod Views
+pub mod NarrowRows
 pub mod PlainRows

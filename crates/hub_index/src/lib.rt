@@ -1,8 +1,8 @@
 //! Label rows as they are gathered, and the index: a ranking with a well formed row of hubs for each node.
 //!
 //! A [`RowList`] has a row of entries for each of the nodes 1..n, to which entries are pushed; a [`RowView`] is what one
-//! worker sees of such rows while it grows trees, [`PlainRows`] being that of one thread, and a [`Row`] is one row, to which
-//! entries are offered; an [`Index`] is a ranking with its rows, and keeps that they are well formed. `laws` has the law that canonical hub labellings are well formed.
+//! worker sees of such rows while it grows trees, [`PlainRows`] being that of one thread, where most entries take half the
+//! room, and a [`Row`] is one row, to which entries are offered; an [`Index`] is a ranking with its rows, and keeps that they are well formed. `laws` has the law that canonical hub labellings are well formed.
 //! It stands on walk_laws (`Entry`, `label_row`) and rank_table (`Ranking`). Its callers' clauses use `specs/HubIndex`
 //! (`HubIndex`, `with_entry`), `specs/WellFormed` (`IsWellFormed`, `IsWellFormedRow`, `own_entry`), `specs/RootDistances`
 //! (`root_distance`, `IsCover`, `HoldsRow`) and `specs/Views` (`IsFound`, `IsFoundOnward`, `IsAnswerOf`, `with_put`).
@@ -12,13 +12,16 @@ mod entry_sink;
 mod gathering;
 mod index;
 pub mod laws;
+mod narrow_row;
 mod plain_rows;
 mod root_table;
 mod row;
 mod row_list;
 mod row_view;
+mod split_rows;
 #[cfg(test)]
 mod tests;
+mod wide_rows;
 
 pub use entry_sink::{EntrySink, NodeEntry};
 pub use gathering::gather;

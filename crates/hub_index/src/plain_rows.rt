@@ -8,17 +8,18 @@ ghost use Rattle.hub_index.specs.Views.{IsNode, IsFoundOnward, IsAnswerOf, with_
 use crate::root_table::RootTable;
 use crate::row_list::RowList;
 use crate::row_view::{Offer, RowView};
+use crate::split_rows::SplitRows;
 use rank_table::Ranking;
 use std::alloc::{AllocError, Global};
 use std::marker::Model;
 use std::snapshot::Snapshot;
 use walk_laws::{Entry, Graph};
 
-/// The rows of a graph's nodes under a ranking, for one thread. The graph and the ranking are kept for contracts alone,
+/// The rows of a graph's nodes under a ranking, for one thread, in which most entries take half the room. The graph and the ranking are kept for contracts alone,
 /// without bytes. Contracts see the edges, the order of the nodes and the rows.
 #[derive(Drop)]
 pub struct PlainRows {
-    rows: RowList,
+    rows: SplitRows,
     graph: Snapshot<Graph>,
     ranking: Snapshot<Ranking>,
 }
@@ -42,15 +43,16 @@ impl PlainRows {
         ensures rows { IfOk result (λ view. view.rows ≡ replicate graph.now.n []) }
     {
         Ok(PlainRows {
-            rows: RowList::new(alloc, graph.n())?,
+            rows: SplitRows::new(alloc, graph.n())?,
             graph: Snapshot::of(graph),
             ranking: Snapshot::of(ranking),
         })
     }
 
-    /// The rows, with the entries that were put in them. It takes no memory.
-    pub fn into_rows(self) -> RowList
-        ensures rows { result ≡ self.rows }
+    /// The rows, with the entries that were put in them, each in just the room that it takes. Each row goes as soon as its
+    /// entries stand there. The only error is that memory ran out.
+    pub fn into_rows(self, alloc: Global) -> Result<RowList, AllocError>
+        ensures rows { IfOk result (λ rows. rows ≡ self.rows) }
         ensures gathered { IsGathered self.edges self.order self.rows }
     {
         let PlainRows {
@@ -58,7 +60,7 @@ impl PlainRows {
             graph: _,
             ranking: _,
         } = self;
-        rows
+        rows.into_rows(alloc)
     }
 }
 
@@ -92,7 +94,7 @@ impl RowView for PlainRows {
         ensures held { HoldsRow table.new (label_row self.new.rows h) }
         ensures size { length table.new ≡ length table.old }
     {
-        table.load(self.rows.row(h));
+        self.rows.load(h, table);
     }
 
     fn offer(&mut self, v: u32, entry: Entry, table: &RootTable) -> Offer

@@ -44,7 +44,7 @@ impl Row {
 }
 
 /// The offer of an entry to a row whose entries are these.
-pub(crate) fn offer_to(entries: &mut Vec<Entry>, entry: Entry, table: &RootTable) -> Offer
+fn offer_to(entries: &mut Vec<Entry>, entry: Entry, table: &RootTable) -> Offer
     requires { entry.pos ≤ length table.now }
     ensures answer { IsAnswerOf table.now entries.old.items entry result }
     ensures row { entries.new.items ≡ with_put entries.old.items entry result }

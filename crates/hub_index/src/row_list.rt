@@ -5,7 +5,6 @@ ghost use Rattle.hub_index.specs.Sunk.{IsGatheredRow};
 ghost use Rattle.hub_index.specs.Views.{IsAnswerOf, with_put};
 
 use crate::root_table::RootTable;
-use crate::row::offer_to;
 use crate::row_view::Offer;
 use std::alloc::{AllocError, Global};
 use std::marker::Model;
@@ -113,18 +112,6 @@ impl RowList {
     {
         self.rows[v as usize - 1].push(entry)?;
         Ok(())
-    }
-
-    /// Puts the entry last in the row of the node `v`, a number from 1, unless an entry of the row covers it by way of the
-    /// root's hubs in the table. No memory is taken where an entry covers, and all other rows stay.
-    pub fn offer(&mut self, v: u32, entry: Entry, table: &RootTable) -> Offer
-        requires node { 1 ≤ v }
-        requires within { v ≤ length self.old }
-        requires size { entry.pos ≤ length table.now }
-        ensures answer { IsAnswerOf table.now (label_row self.old v) entry result }
-        ensures rows { self.new ≡ slice_set self.old (v - 1) (with_put (label_row self.old v) entry result) }
-    {
-        offer_to(&mut self.rows[v as usize - 1], entry, table)
     }
 }
 

@@ -45,7 +45,7 @@ fn a_hub_covers_as_long_a_way(rt: HostRuntime) -> Result<(), Fail> {
         view.offer(3, Entry { pos: 1, dist: 1 }, &table),
         Offer::Put
     );
-    let rows = view.into_rows();
+    let rows = view.into_rows(rt.alloc())?;
     assert_eq!(rt; rows.row(4), [Entry { pos: 0, dist: 1 }].as_slice());
     assert_eq!(rt;
         rows.row(3),

@@ -1,9 +1,7 @@
 -- A new share with which trees were grown.
-use Rattle.std.proofs.Common.{◌≡◌, ℕ, true, List, [], ◌++◌, length, sym, ap, subst, ◌∙◌}
+use Rattle.std.proofs.Common.{◌≡◌, ℕ, true, List, [], ◌++◌, sym, ap, subst, ◌∙◌}
 use Rattle.std.specs.Prelude.{IsOk, OnOk}
 use Rattle.walk_laws.specs.declared.graph.Edge.{Edge}
-use Rattle.walk_laws.specs.declared.entry.Entry.{Entry}
-use Rattle.hub_index.specs.Views.{IsNode}
 use Rattle.label_rows.specs.Visits.{puts_of}
 use Rattle.lcc_build.specs.declared.share.Share.{Share}
 use Rattle.pruned_tree.specs.GrownBy.{IsGrownBy, HasGrown}

@@ -1,5 +1,5 @@
 -- What workers put together, and whether memory sufficed for all of them.
-use Rattle.std.proofs.Common.{◌≡◌, true, false, ℕ, List, [], ◌∷◌, ◌++◌, All, Contains, refl, sym, ap, subst, ◌∙◌}
+use Rattle.std.proofs.Common.{◌≡◌, true, ℕ, List, [], ◌∷◌, ◌++◌, All, Contains, refl, sym, ap, subst, ◌∙◌}
 use Rattle.std.specs.Prelude.{Result, Ok, Err, IsOk, OnOk, Bool, ◌||◌, flat_map, nat_eq}
 use Rattle.std.specs.Result.{result_and}
 use Rattle.label_rows.specs.declared.rule.Visit.{Visit}

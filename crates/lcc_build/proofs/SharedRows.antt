@@ -1,5 +1,5 @@
 -- The rows that all workers leave together.
-use Rattle.std.proofs.Common.{◌≡◌, ℕ, ◌+◌, ◌-◌, ◌<◌, ◌≤◌, eqb, List, [], ◌++◌, All, Contains, length, get_or, map, refl, sym, subst, ◌∙◌, arith}
+use Rattle.std.proofs.Common.{◌≡◌, ℕ, ◌+◌, ◌-◌, ◌<◌, ◌≤◌, eqb, List, [], All, Contains, length, get_or, map, subst, ◌∙◌, arith}
 use Rattle.std.specs.Prelude.{IsOk}
 use Rattle.std.specs.List.Sorted.{IsPermutation}
 use Rattle.std.proofs.lemmas.List.Elements.{All-weaker}
@@ -10,7 +10,7 @@ use Rattle.walk_laws.specs.declared.graph.Edge.{Edge}
 use Rattle.walk_laws.specs.declared.entry.Entry.{Entry}
 use Rattle.walk_laws.specs.Graph.{IsGraph}
 use Rattle.walk_laws.specs.Joined.{Joined}
-use Rattle.walk_laws.specs.Ranking.{IsRanking, position_of}
+use Rattle.walk_laws.specs.Ranking.{IsRanking}
 use Rattle.walk_laws.specs.Labelling.{EntryFits, label_row}
 use Rattle.walk_laws.proofs.JoinedEdges.{weights_of_edges}
 use Rattle.walk_laws.proofs.Positions.{position-lt}
@@ -18,7 +18,6 @@ use Rattle.hub_index.specs.Views.{IsNode}
 use Rattle.table_seats.specs.Numbers.{numbers}
 use Rattle.label_rows.specs.Visits.{puts_of}
 use Rattle.label_clean.specs.Below.{HoldsBelow}
-use Rattle.label_clean.specs.RawRows.{HasEachOnce}
 use Rattle.label_clean.proofs.RowFacts.{eqb_flips}
 use Rattle.lcc_build.specs.declared.share.Share.{Share}
 use Rattle.lcc_build.specs.Shares.{IsDone}

@@ -1,5 +1,5 @@
 -- The shares of workers, before and after they have grown trees, and of several workers together.
-use Rattle.std.specs.Prelude.{◌≡◌, ℕ, true, false, List, [], Option, Some, IsOk, OnOk, length}
+use Rattle.std.specs.Prelude.{◌≡◌, ℕ, true, false, List, [], Some, IsOk, OnOk, length}
 use Rattle.walk_laws.specs.declared.graph.Edge.{Edge}
 use Rattle.hub_index.specs.Views.{IsNode}
 use Rattle.root_claims.specs.Seats.{ClaimsId, IsSeatOf as IsClaimSeatOf}

@@ -6,9 +6,8 @@ ghost use Rattle.walk_laws.specs.Ranking.{IsRanking};
 ghost use Rattle.hub_index.specs.Views.{IsNode};
 ghost use Rattle.label_clean.specs.Below.{IsChlBelow, IsRowBelow};
 
-use crate::narrow_rows::NarrowRows;
 use desk_io::Gate;
-use hub_index::RowList;
+use hub_index::{PlainRows, RowList};
 use pruned_tree::{Work, grow};
 use rank_table::Ranking;
 use std::alloc::{AllocError, Global};
@@ -26,7 +25,7 @@ pub fn rows_in_order<G: Gate>(
     requires nodes { length ranking.now ≡ graph.now.n }
     ensures { IfOk result (λ rows. IsChlBelow graph.now.edges ranking.now (length ranking.now) rows) }
 {
-    let mut view = NarrowRows::new(alloc, graph, ranking)?;
+    let mut view = PlainRows::new(alloc, graph, ranking)?;
     let mut work = Work::new(alloc, graph.n())?;
     for p in 0..ranking.n() {
         tree_in_order(alloc, graph, ranking, p, &mut view, &mut work, gate)?;
@@ -41,7 +40,7 @@ fn tree_in_order<G: Gate>(
     graph: &Graph,
     ranking: &Ranking,
     p: u32,
-    view: &mut NarrowRows,
+    view: &mut PlainRows,
     work: &mut Work,
     gate: &G,
 ) -> Result<(), AllocError>

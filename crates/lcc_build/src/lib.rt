@@ -10,13 +10,9 @@
 
 mod build;
 mod in_order;
-mod narrow_row;
-mod narrow_rows;
 mod share;
-mod split_rows;
 #[cfg(test)]
 mod tests;
-mod wide_rows;
 mod workers;
 
 pub use build::build_lcc;

@@ -34,7 +34,7 @@ fn a_lower_root_grows_first(rt: HostRuntime) -> Result<(), Fail> {
         grow(rt.alloc(), &graph, &ranking, 3, &mut view, &mut work)?,
         1
     );
-    let rows = view.into_rows();
+    let rows = view.into_rows(rt.alloc())?;
     assert_eq!(rt; rows.n(), 4);
     let wanted: [&[Entry]; 4] = [
         &[Entry { pos: 0, dist: 0 }],

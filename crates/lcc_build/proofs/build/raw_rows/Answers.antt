@@ -1,4 +1,4 @@
-use Rattle.std.proofs.Common.{◌≡◌, ℕ, ◌++◌, true, [], All, length, take, drop, sym, ap, subst, ◌∙◌, arith}
+use Rattle.std.proofs.Common.{◌≡◌, ℕ, true, All, length, sym, ap, subst, ◌∙◌, arith}
 use Rattle.std.specs.Prelude.{IsOk, is_ok, IfOk}
 use Rattle.std.specs.List.Sorted.{IsPermutation}
 use Rattle.walk_laws.specs.Joined.{Joined}

@@ -1,5 +1,4 @@
-use Rattle.std.proofs.Common.{◌≡◌, ℕ, ◌+◌, All, arith}
-use Rattle.lcc_build.specs.declared.workers.Worker.{Worker}
+use Rattle.std.proofs.Common.{◌+◌, arith}
 use Rattle.lcc_build.specs.Shares.{HasWorked}
 use Rattle.lcc_build.proofs.PutsTogether.{both_parts}
 use Rattle.lcc_build.proofs.workers.joined.Goals as goal

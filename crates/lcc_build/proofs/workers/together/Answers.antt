@@ -1,7 +1,6 @@
-use Rattle.std.proofs.Common.{◌≡◌, List, [], ◌++◌, sym, ap, subst, ◌∙◌}
+use Rattle.std.proofs.Common.{◌≡◌, [], ◌++◌, sym, subst}
 use Rattle.std.specs.Prelude.{IsOk, OnOk, true}
 use Rattle.label_rows.specs.Visits.{puts_of}
-use Rattle.walk_laws.specs.declared.entry.Entry.{Entry}
 use Rattle.pruned_tree.specs.GrownBy.{IsGrownBy}
 use Rattle.pruned_tree.proofs.GrownPuts.{AreApart-distinct, IsGrownBy-then, IsGrownBy-after}
 use Rattle.lcc_build.proofs.PutsTogether.{IsOk-both, over_both, puts_of-append}

@@ -1,5 +1,5 @@
--- The calls of plain rows keep what a view of rows promises.
-use Rattle.std.proofs.Common.{refl, ap, subst}
+-- The calls keep what a view of rows promises.
+use Rattle.std.proofs.Common.{refl, ap}
 use Rattle.walk_laws.specs.Joined.{Joined}
 use Rattle.walk_laws.specs.Labelling.{EntryFits, label_row}
 use Rattle.hub_index.specs.PlainRows.{GatheredRows}

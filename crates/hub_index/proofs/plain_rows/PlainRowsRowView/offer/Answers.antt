@@ -1,6 +1,5 @@
-use Rattle.std.proofs.Common.{◌≡◌, ap, subst, ◌∙◌}
+use Rattle.std.proofs.Common.{subst}
 use Rattle.walk_laws.specs.Labelling.{label_row}
-use Rattle.hub_index.specs.PlainRows.{IsGathered}
 use Rattle.hub_index.specs.Views.{IsAnswerOf}
 use Rattle.hub_index.proofs.plain_rows.PlainRowsRowView.offer.Goals as goal
 

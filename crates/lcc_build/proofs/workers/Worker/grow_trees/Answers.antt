@@ -1,4 +1,4 @@
-use Rattle.std.proofs.Common.{◌≡◌, refl, ap, sym, subst, ◌∙◌}
+use Rattle.std.proofs.Common.{◌≡◌, refl, subst, ◌∙◌}
 use Rattle.lcc_build.specs.Shares.{IsShareOf, IsNew}
 use Rattle.lcc_build.proofs.DoneShares.{IsDone-from_new}
 use Rattle.lcc_build.proofs.workers.Worker.grow_trees.Goals as goal

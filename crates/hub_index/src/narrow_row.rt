@@ -1,0 +1,76 @@
+//! The row of a node in two parts: entries that take half the room of an [`Entry`], and from the first on whose distance is
+//! too great for that, whole entries.
+ghost use Rattle.std.specs.Prelude.{◌≡◌, ◌<◌, ◌≤◌, All, Contains, length, map, IfOk, IfSome, IfNone};
+ghost use Rattle.hub_index.specs.RootDistances.{IsCover, HoldsRow};
+ghost use Rattle.hub_index.specs.NarrowRows.{widened, row_of_parts};
+
+use crate::root_table::RootTable;
+use std::alloc::{AllocError, Global};
+use walk_laws::Entry;
+
+/// An entry whose distance is below 2^32, in half the room of an [`Entry`].
+#[derive(Clone, Copy, Debug)]
+pub struct NarrowEntry {
+    pub pos: u32,
+    pub dist: u32,
+}
+
+impl NarrowEntry {
+    /// The same entry in full room.
+    fn widened(self) -> Entry
+        ensures { result ≡ widened self }
+    {
+        Entry {
+            pos: self.pos,
+            dist: u64::from(self.dist),
+        }
+    }
+}
+
+/// Makes the table hold the least distance of each position of the row in these parts, and nothing else. It takes no memory.
+pub fn load_parts(narrow: &[NarrowEntry], wide: &[Entry], table: &mut RootTable)
+    requires { All (λ e. e.pos < length table.old) (row_of_parts narrow.now wide.now) }
+    ensures held { HoldsRow table.new (row_of_parts narrow.now wide.now) }
+    ensures size { length table.new ≡ length table.old }
+{
+    table.clear();
+    for entry in narrow {
+        table.note(entry.widened());
+    }
+    for entry in wide {
+        table.note(*entry);
+    }
+}
+
+/// One of the entries that covers one at the position `pos` with the distance `dist`, or None where none does.
+pub fn narrow_cover(row: &[NarrowEntry], table: &RootTable, pos: u32, dist: u64) -> Option<Entry>
+    requires { pos ≤ length table.now }
+    ensures some { IfSome result (λ e. Contains (map (λ e. widened e) row.now) e × IsCover table.now pos dist e) }
+    ensures none { IfNone result (All (λ e. ¬ IsCover table.now pos dist (widened e)) row.now) }
+{
+    for entry in row {
+        let entry = entry.widened();
+        if table.covers(entry, pos, dist) {
+            return Some(entry);
+        }
+    }
+    None
+}
+
+/// The row in these parts, in just the room that its entries take. The only error is that memory ran out.
+pub fn joined_parts(
+    alloc: Global,
+    narrow: &[NarrowEntry],
+    wide: &[Entry],
+) -> Result<Vec<Entry>, AllocError>
+    ensures { IfOk result (λ entries. entries.items ≡ row_of_parts narrow.now wide.now) }
+{
+    let mut entries = Vec::with_capacity(alloc, narrow.len() + wide.len())?;
+    for entry in narrow {
+        entries.push(entry.widened())?;
+    }
+    for entry in wide {
+        entries.push(*entry)?;
+    }
+    Ok(entries)
+}

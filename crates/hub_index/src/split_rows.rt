@@ -1,0 +1,177 @@
+//! The rows of a graph's nodes, split at the first entry whose distance doesn't fit in half the room.
+ghost use Rattle.std.specs.Prelude.{◌≡◌, ◌-◌, ◌^◌, ◌<◌, ◌≤◌, [], All, Contains, length, map, replicate, slice_set, vec_len, IfOk, IfSome, IfNone, OnOk, OnErr};
+ghost use Rattle.walk_laws.specs.declared.entry.Entry.{Entry as AnEntry};
+ghost use Rattle.walk_laws.specs.Labelling.{label_row};
+ghost use Rattle.hub_index.specs.HubIndex.{with_entry};
+ghost use Rattle.hub_index.specs.RootDistances.{IsCover, HoldsRow};
+ghost use Rattle.hub_index.specs.Views.{IsAnswerOf, with_put};
+
+use crate::narrow_row::{NarrowEntry, joined_parts, load_parts, narrow_cover};
+use crate::root_table::{RootTable, covered};
+use crate::row_list::RowList;
+use crate::row_view::Offer;
+use crate::wide_rows::WideRows;
+use std::alloc::{AllocError, Global};
+use std::marker::Model;
+use walk_laws::Entry;
+
+/// A row for each of the nodes 1..n: entries of 8 bytes, and from the first on whose distance is too great for that, entries
+/// of 16. The two parts of a row lie apart, since the second is nearly always empty, and then isn't looked at. Contracts see
+/// the list of the rows, node 1 first.
+#[derive(Debug, Drop)]
+pub struct SplitRows {
+    narrow: Vec<Vec<NarrowEntry>>,
+    wide: WideRows,
+}
+
+impl Model for SplitRows {
+    ghost use Rattle.std.specs.Prelude.{◌≡◌, ◌^◌, ◌<◌, List, length, map};
+    ghost use Rattle.walk_laws.specs.declared.entry.Entry.{Entry};
+    ghost use Rattle.hub_index.specs.NarrowRows.{rows_of_parts};
+
+    ghost Value = { List (List Entry) };
+
+    ghost view = { λ r. rows_of_parts (map (λ row. row.items) r.narrow.items) r.wide };
+
+    ghost invariant = { λ r. (length r.narrow.items ≡ length r.wide) × (length r.wide < 2 ^ 32) };
+}
+
+impl SplitRows {
+    /// An empty row for each of the nodes 1..n. The only error is that memory ran out.
+    pub fn new(alloc: Global, n: u32) -> Result<SplitRows, AllocError>
+        ensures { IfOk result (λ rows. rows ≡ replicate n []) }
+    {
+        let mut narrow = Vec::with_capacity(alloc, n as usize)?;
+        for _ in 0..n {
+            narrow.push(Vec::new(alloc))?;
+        }
+        let wide = WideRows::new(alloc, n)?;
+        Ok(SplitRows { narrow, wide })
+    }
+
+    /// Makes the table hold the least distance of each position of the row of the node `v`, a number from 1, and nothing else.
+    /// It takes no memory.
+    pub fn load(&self, v: u32, table: &mut RootTable)
+        requires node { 1 ≤ v }
+        requires within { v ≤ length self.now }
+        requires positions { All (λ e. e.pos < length table.old) (label_row self.now v) }
+        ensures held { HoldsRow table.new (label_row self.now v) }
+        ensures size { length table.new ≡ length table.old }
+    {
+        load_parts(&self.narrow[v as usize - 1], self.wide.row(v), table);
+    }
+
+    /// Puts the entry last in the row of the node `v`, a number from 1, unless an entry of the row covers it by way of the
+    /// root's hubs in the table. No memory is taken where an entry covers, and all other rows stay.
+    pub fn offer(&mut self, v: u32, entry: Entry, table: &RootTable) -> Offer
+        requires node { 1 ≤ v }
+        requires within { v ≤ length self.old }
+        requires size { entry.pos ≤ length table.now }
+        ensures answer { IsAnswerOf table.now (label_row self.old v) entry result }
+        ensures rows { self.new ≡ slice_set self.old (v - 1) (with_put (label_row self.old v) entry result) }
+    {
+        if let Some(cover) = self.cover(v, table, entry.pos, entry.dist) {
+            return Offer::Covered {
+                pos: cover.pos,
+                dist: cover.dist,
+            };
+        }
+        if self.push(v, entry).is_err() {
+            return Offer::NoMemory;
+        }
+        Offer::Put
+    }
+
+    /// An entry of the row of the node `v` that covers one at the position `pos` with the distance `dist`, or None where none
+    /// does.
+    fn cover(&self, v: u32, table: &RootTable, pos: u32, dist: u64) -> Option<Entry>
+        requires node { 1 ≤ v }
+        requires within { v ≤ length self.now }
+        requires size { pos ≤ length table.now }
+        ensures some { IfSome result (λ e. Contains (label_row self.now v) e × IsCover table.now pos dist e) }
+        ensures none { IfNone result ((e : AnEntry) → Contains (label_row self.now v) e → ¬ IsCover table.now pos dist e) }
+    {
+        if let Some(cover) = narrow_cover(&self.narrow[v as usize - 1], table, pos, dist) {
+            return Some(cover);
+        }
+        covered(self.wide.row(v), table, pos, dist)
+    }
+
+    /// Puts the entry last in the row of the node `v`. The only error is that memory ran out, and then nothing has changed.
+    fn push(&mut self, v: u32, entry: Entry) -> Result<(), AllocError>
+        requires node { 1 ≤ v }
+        requires within { v ≤ length self.old }
+        ensures ok { OnOk result (self.new ≡ with_entry self.old v entry) }
+        ensures err { OnErr result (self.new ≡ self.old) }
+    {
+        if self.wide.row(v).is_empty() {
+            if let Ok(dist) = u32::try_from(entry.dist) {
+                self.narrow[v as usize - 1].push(NarrowEntry {
+                    pos: entry.pos,
+                    dist,
+                })?;
+                return Ok(());
+            }
+        }
+        self.wide.push(v, entry)?;
+        Ok(())
+    }
+
+    /// The rows, each in just the room that it takes. Each goes as soon as its entries stand there. The only error is that
+    /// memory ran out.
+    pub fn into_rows(self, alloc: Global) -> Result<RowList, AllocError>
+        ensures { IfOk result (λ rows. rows ≡ self) }
+    {
+        let SplitRows { narrow, wide } = self;
+        let mut wide = wide.into_rows().into_iter();
+        let mut rows = Vec::with_capacity(alloc, narrow.len())?;
+        for narrow in narrow {
+            let Some(wide) = wide.next() else {
+                unreachable!();
+            };
+            rows.push(joined_parts(alloc, &narrow, &wide)?)?;
+        }
+        Ok(RowList::from_rows(rows))
+    }
+}
+
+#[cfg(test)]
+mod tests {
+    use super::*;
+    use std::test::Fail;
+
+    /// 4294967295 is the greatest distance that fits in the half room. After the first entry that doesn't fit none is put
+    /// there, so the entries keep their order.
+    #[test]
+    fn entries_of_both_widths_keep_their_order(rt: HostRuntime) -> Result<(), Fail> {
+        let mut table = RootTable::new(rt.alloc(), 4)?;
+        let mut rows = SplitRows::new(rt.alloc(), 2)?;
+        let last_narrow = Entry {
+            pos: 0,
+            dist: 4_294_967_295,
+        };
+        let first_wide = Entry {
+            pos: 1,
+            dist: 4_294_967_296,
+        };
+        let near = Entry { pos: 2, dist: 7 };
+        assert_eq!(rt; rows.offer(2, last_narrow, &table), Offer::Put);
+        assert_eq!(rt; rows.offer(2, first_wide, &table), Offer::Put);
+        assert_eq!(rt; rows.offer(2, near, &table), Offer::Put);
+        table.note(Entry { pos: 1, dist: 1 });
+        let far = Entry {
+            pos: 3,
+            dist: 4_294_967_297,
+        };
+        let by_way_of_1 = Offer::Covered {
+            pos: 1,
+            dist: 4_294_967_296,
+        };
+        assert_eq!(rt; rows.offer(2, far, &table), by_way_of_1);
+        let rows = rows.into_rows(rt.alloc())?;
+        assert_eq!(rt; rows.n(), 2);
+        assert!(rt; rows.row(1).is_empty());
+        assert_eq!(rt; rows.row(2), [last_narrow, first_wide, near].as_slice());
+        Ok(())
+    }
+}

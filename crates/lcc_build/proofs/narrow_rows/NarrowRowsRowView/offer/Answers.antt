@@ -1,7 +1,0 @@
-use Rattle.std.proofs.Common.{subst}
-use Rattle.walk_laws.specs.Labelling.{label_row}
-use Rattle.hub_index.specs.Views.{IsAnswerOf}
-use Rattle.lcc_build.proofs.narrow_rows.NarrowRowsRowView.offer.Goals as goal
-
-pub returns-clause-answer : goal.returns-clause-answer
-returns-clause-answer c = subst (λ g. IsAnswerOf c.args.table.now (label_row g.rows c.args.v) c.args.entry c.offer.result) c.self.view_is c.offer.ensures.answer
