@@ -9,8 +9,8 @@
 #![tactic(auto)]
 
 mod build;
+mod growing;
 mod share;
-mod start_line;
 mod step;
 #[cfg(test)]
 mod tests;

@@ -1,12 +1,12 @@
 //! One superstep, with what a build takes once.
 ghost use Rattle.std.specs.Prelude.{◌≡◌, ◌*◌, ◌^◌, ◌<◌, ◌≤◌, All, IfOk, length, min, vec_len};
 ghost use Rattle.hub_index.specs.PlainRows.{IsGathered};
-ghost use Rattle.gll_build.specs.Shares.{HasWorked, IsBenchFor, IsPoolOf, IsReady};
+ghost use Rattle.gll_build.specs.Shares.{IsBenchFor};
 ghost use Rattle.gll_build.specs.Workshops.{IsGrownFrom, IsProgress, IsWorkshopFor};
 
+use crate::growing::grow_all;
 use crate::share::Seats;
-use crate::start_line::StartLine;
-use crate::workers::{Bench, Harvest, Worker, benches_for, bring_in, seated};
+use crate::workers::{Bench, Harvest, benches_for, bring_in, seated};
 use desk_io::Gate;
 use hub_index::{NodeEntry, RowList};
 use label_clean::Cleaner;
@@ -16,7 +16,6 @@ use rank_table::Ranking;
 use root_claims::Claims;
 use std::alloc::{AllocError, Global};
 use std::sync::Wait;
-use std::thread;
 use std::thread::Threads;
 use walk_laws::Graph;
 
@@ -137,8 +136,8 @@ fn grow_roots<R: Threads + Wait + Sync, G: Gate + Sync>(
         &pool,
         global,
         cut,
-        workers.as_mut_slice(),
         gate,
+        workers.as_mut_slice(),
     );
     let harvest = bring_in(alloc, graph, ranking, &claims, &pool, global, workers)?;
     let Harvest {
@@ -165,38 +164,4 @@ fn cells_for(workers: u32, cut: u32) -> u32
     ensures within { (1 ≤ result) × (result ≤ 2 ^ 31) }
 {
     (u64::from(workers) * u64::from(cut)).min(MOST_CELLS) as u32
-}
-
-/// Lets all workers grow trees, each in a thread of its own where one can be made.
-fn grow_all<R: Threads + Wait + Sync, G: Gate + Sync>(
-    rt: &R,
-    alloc: Global,
-    graph: &Graph,
-    ranking: &Ranking,
-    claims: &Claims,
-    pool: &Pool<Fits>,
-    global: &RowList,
-    cut: u32,
-    workers: &mut [Worker],
-    gate: &G,
-)
-    requires some { 1 ≤ length workers.old }
-    requires nodes { length ranking.now ≡ graph.now.n }
-    requires claims_to { claims.now.n ≡ graph.now.n }
-    requires pool { IsPoolOf graph.now.edges ranking.now pool.now }
-    requires global { IsGathered graph.now.edges ranking.now global.now }
-    requires ready { All (IsReady claims.now pool.now (length ranking.now)) workers.old }
-    ensures size { length workers.new ≡ length workers.old }
-    ensures worked { All (HasWorked claims.now pool.now graph.now.edges ranking.now global.now) workers.new }
-{
-    let count = workers.len();
-    let line = StartLine::new(count as u64);
-    let grow = |_place: usize, worker: &mut Worker|
-        requires { (length ranking.now ≡ graph.now.n) × (claims.now.n ≡ graph.now.n) × IsPoolOf graph.now.edges ranking.now pool.now × IsGathered graph.now.edges ranking.now global.now × IsReady claims.now pool.now (length ranking.now) worker.now }
-        ensures { HasWorked claims.entry.now pool.entry.now graph.entry.now.edges ranking.entry.now global.entry.now worker.exit.now }
-    {
-        line.wait(rt);
-        worker.grow_trees(rt, alloc, graph, ranking, claims, pool, global, cut, gate);
-    };
-    thread::for_each_mut(rt, workers, count, &grow);
 }
