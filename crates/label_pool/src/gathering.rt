@@ -52,22 +52,38 @@ pub fn listed(
 {
     let mut list = Vec::new(alloc);
     for place in 0..n {
-        let entries = entries_in(alloc, closed, n, cells, place + 1)?;
-        list_entries(&mut list, place + 1, entries.as_slice())?;
+        list_chain(closed, n, cells, place + 1, &mut list)?;
     }
     Ok(list)
 }
 
-/// Puts entries of a node, a number from 1, after others. The only error is that memory ran out.
-fn list_entries(list: &mut Vec<NodeEntry>, node: u32, entries: &[Entry]) -> Result<(), AllocError>
-    ensures { OnOk result (list.new.items ≡ list.old.items ++ entries_at_node node entries.now) }
+/// Puts the entries of the chain of the node `v`, a number from 1, after others, newest first. The only error is that memory
+/// ran out.
+fn list_chain(
+    closed: &Closed<(), Global>,
+    n: u32,
+    cells: u32,
+    v: u32,
+    list: &mut Vec<NodeEntry>,
+) -> Result<(), AllocError>
+    requires full { IsFull closed.now.words }
+    requires size { slots_len closed.now.words ≡ word_count n cells }
+    requires limits { (n ≤ 2 ^ 30) × (cells ≤ 2 ^ 31) }
+    requires node { IsNode n v }
+    requires chain { (chain : List Linked) × IsWritten n cells (slots_items closed.now.words) v chain }
+    ensures { OnOk result ((chain : List Linked) → IsWritten n cells (slots_items closed.now.words) v chain → list.new.items ≡ list.old.items ++ entries_at_node v (entries_of chain)) }
 {
-    for entry in entries {
+    let mut here = cell_named(closed.word(head_word(v)));
+    for _step in 0..cells {
+        let Some(cell) = here else { break };
+        let next = closed.word(next_word(n, cell));
+        let dist = closed.word(dist_word(n, cell));
         list.push(NodeEntry {
-            node,
-            pos: entry.pos,
-            dist: entry.dist,
+            node: v,
+            pos: pos_in(next),
+            dist,
         })?;
+        here = cell_in(next);
     }
     Ok(())
 }

@@ -1,4 +1,4 @@
-use Rattle.std.proofs.Common.{◌≡◌, ℕ, ◌+◌, ◌++◌, All, sym, ap, subst, ◌∙◌, arith}
+use Rattle.std.proofs.Common.{◌≡◌, ℕ, ◌+◌, ◌++◌, List, All, sym, ap, subst, ◌∙◌, arith}
 use Rattle.std.proofs.lemmas.List.{append-nil}
 use Rattle.std.proofs.lemmas.List.Elements.{All-append, All-weaker}
 use Rattle.std.specs.Slots.{slots_items}
@@ -8,44 +8,42 @@ use Rattle.hub_index.specs.declared.entry_sink.NodeEntry.{NodeEntry}
 use Rattle.hub_index.specs.Sunk.{entries_of_node}
 use Rattle.hub_index.specs.Views.{IsNode}
 use Rattle.hub_index.proofs.GatheredRows.{entries_of_node-append}
-use Rattle.label_pool.specs.Chains.{IsWritten, entries_at_node}
+use Rattle.label_pool.specs.declared.rule.Linked.{Linked}
+use Rattle.label_pool.specs.Chains.{IsWritten, entries_of, entries_at_node}
 use Rattle.label_pool.proofs.Listed.{listed-here, listed-else, listed-nodes}
 use Rattle.label_pool.proofs.gathering.listed.Goals as goal
-use Rattle.label_pool.proofs.gathering.listed.Goals.{In_ok-list_entries}
 
-pub entries_in-requires-clause-chain : goal.entries_in-requires-clause-chain
-entries_in-requires-clause-chain c = c.requires.chains (c.loop-place.place + 1) (record { from_one = omega arith; up_to_n = omega (arith, c.loop-place-test.true) })
-
--- the list with the entries of one node more
-now_is : (c : In_ok-list_entries) → c.list_entries.new.list.items ≡ c.loop-place.list.items ++ entries_at_node (c.loop-place.place + 1) c.in_ok-entries.entries.items
-now_is c = c.in_ok-list_entries.ensures ∙ ap (λ xs. c.loop-place.list.items ++ entries_at_node (c.loop-place.place + 1) xs) c.as_slice.ensures.value
+pub list_chain-requires-clause-chain : goal.list_chain-requires-clause-chain
+list_chain-requires-clause-chain c = c.requires.chains (c.loop-place.place + 1) (record { from_one = omega arith; up_to_n = omega (arith, c.loop-place-test.true) })
 
 pub loop-place-preserved : goal.loop-place-preserved
 loop-place-preserved c =
-    let up = (goal.at.loop-place-preserved c).In_ok-list_entries in
     let was = c.loop-place.invariant in
     let v = c.loop-place.place + 1 in
     let before = c.loop-place.list.items in
-    let es = c.in_ok-entries.entries.items in
-    let more : (u : ℕ) → entries_of_node c.list_entries.new.list.items u ≡ entries_of_node c.loop-place.list.items u ++ entries_of_node (entries_at_node (c.loop-place.place + 1) c.in_ok-entries.entries.items) u =
-    λ u. ap (λ xs. entries_of_node xs u) (now_is up) ∙ entries_of_node-append before (entries_at_node v es) u in
+    let here = c.requires.chains (c.loop-place.place + 1) (record { from_one = omega arith; up_to_n = omega (arith, c.loop-place-test.true) }) in
+    let es = entries_of here.0 in
+    let now_is : c.list_chain.new.list.items ≡ c.loop-place.list.items ++ entries_at_node (c.loop-place.place + 1) (entries_of here.0) = c.in_ok-list_chain.ensures here.0 here.1 in
+    let more : (u : ℕ) (chain : List Linked) → IsWritten c.args.n c.args.cells (slots_items c.args.closed.now.words) (c.loop-place.place + 1) chain → entries_of_node c.list_chain.new.list.items u ≡ entries_of_node c.loop-place.list.items u ++ entries_of_node (entries_at_node (c.loop-place.place + 1) (entries_of chain)) u =
+    λ u chain w. ap (λ xs. entries_of_node xs u) (c.in_ok-list_chain.ensures chain w) ∙ entries_of_node-append before (entries_at_node v (entries_of chain)) u in
     record {
       nodes =
-          subst (All (λ (e : NodeEntry). IsNode (c.loop-place.place + 1) e.node)) (sym (now_is up))
+          subst (All (λ (e : NodeEntry). IsNode (c.loop-place.place + 1) e.node)) (sym now_is)
           (All-append (λ (e : NodeEntry). IsNode (c.loop-place.place + 1) e.node) before (entries_at_node v es)
           (All-weaker (λ (e : NodeEntry). IsNode c.loop-place.place e.node) (λ e. IsNode (c.loop-place.place + 1) e.node) (λ e node. record { from_one = node.from_one; up_to_n = omega (arith, node.up_to_n) }) before was.nodes)
           (listed-nodes (c.loop-place.place + 1) v es (record { from_one = omega arith; up_to_n = omega arith })));
       none = λ u past.
-          more u ∙ ap (λ xs. xs ++ entries_of_node (entries_at_node v es) u) (was.none u (omega (arith, past))) ∙ listed-else v u es (λ same. omega (arith, same, past));
-      entries = λ u chain node w. more u ∙ dite (dec_le u c.loop-place.place)
+          more u here.0 here.1 ∙ ap (λ xs. xs ++ entries_of_node (entries_at_node v es) u) (was.none u (omega (arith, past))) ∙ listed-else v u es (λ same. omega (arith, same, past));
+      entries = λ u chain node w. dite (dec_le u c.loop-place.place)
           (λ low.
-          ap (λ xs. entries_of_node before u ++ xs) (listed-else v u es (λ same. omega (arith, same, low))) ∙ append-nil (entries_of_node before u) ∙ was.entries u chain (record { from_one = node.from_one; up_to_n = low }) w)
+          more u here.0 here.1
+          ∙ ap (λ xs. entries_of_node before u ++ xs) (listed-else v u es (λ same. omega (arith, same, low))) ∙ append-nil (entries_of_node before u) ∙ was.entries u chain (record { from_one = node.from_one; up_to_n = low }) w)
           (λ high.
           let last : u ≡ c.loop-place.place + 1 = omega (arith, high, node.up_to_n) in
-          ap (λ xs. xs ++ entries_of_node (entries_at_node v es) u) (was.none u (omega (arith, last)))
-          ∙ ap (entries_of_node (entries_at_node v es)) last
-          ∙ listed-here v es
-          ∙ c.in_ok-entries.ensures chain (subst (λ x. IsWritten c.args.n c.args.cells (slots_items c.args.closed.now.words) x chain) last w));
+          more u chain (subst (λ x. IsWritten c.args.n c.args.cells (slots_items c.args.closed.now.words) x chain) last w)
+          ∙ ap (λ xs. xs ++ entries_of_node (entries_at_node v (entries_of chain)) u) (was.none u (omega (arith, last)))
+          ∙ ap (entries_of_node (entries_at_node v (entries_of chain))) last
+          ∙ listed-here v (entries_of chain));
     }
 
 pub loop-place-init : goal.loop-place-init
