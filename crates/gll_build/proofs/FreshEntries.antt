@@ -1,5 +1,5 @@
 -- The entries of a superstep: those of the roots from the first one up to the next.
-use Rattle.std.proofs.Common.{◌≡◌, ℕ, ◌+◌, ◌-◌, ◌<◌, ◌≤◌, List, All, Contains, length, get_or, sym, ◌∙◌, arith}
+use Rattle.std.proofs.Common.{◌≡◌, ℕ, ◌+◌, ◌-◌, ◌<◌, ◌≤◌, List, Contains, length, get_or, sym, ◌∙◌, arith}
 use Rattle.std.specs.List.Sorted.{IsPermutation}
 use Rattle.std.proofs.lemmas.List.{get_or_default}
 use Rattle.std.proofs.lemmas.List.Elements.{All-weaker}
@@ -31,7 +31,7 @@ bounds first next p (k, within, is) =
     let same : first + k ≡ p = sym there ∙ is in
     (omega (arith, same), omega (arith, same, low))
 
-module _ (n : ℕ) (edges : List Edge) (at : List ℕ) (graph : IsGraph n edges) (first next : ℕ) (got : List ℕ) (each_once : IsPermutation got (numbers first next)) (whole : Type 0) (w : whole) (entries : ℕ → List Entry) (put : (v : ℕ) → IsNode (length at) v → IsPutBy edges at got whole v (entries v)) where
+module _ (n : ℕ) (edges : List Edge) (at : List ℕ) (graph : IsGraph n edges) (first next : ℕ) (got : List ℕ) (each_once : IsPermutation got (numbers first next)) (entries : ℕ → List Entry) (put : (v : ℕ) → IsNode (length at) v → IsPutBy edges at got v (entries v)) where
   node : (v : ℕ) → 1 ≤ v → v ≤ length at → IsNode (length at) v
   node v from_one up_to_n = record { from_one = from_one; up_to_n = up_to_n }
 
@@ -46,7 +46,7 @@ module _ (n : ℕ) (edges : List Edge) (at : List ℕ) (graph : IsGraph n edges)
     from = λ v from_one up_to_n. All-weaker (λ (e : Entry). Contains got e.pos) (λ e. first ≤ e.pos) (λ e there. (within e.pos there).0) (entries v) (put v (node v from_one up_to_n)).of_roots;
     below = λ v from_one up_to_n. All-weaker (λ (e : Entry). Contains got e.pos) (λ e. e.pos < next) (λ e there. (within e.pos there).1) (entries v) (put v (node v from_one up_to_n)).of_roots;
     once = λ v from_one up_to_n. (put v (node v from_one up_to_n)).once;
-    hubs = λ v from_one up_to_n e hub from low. (put v (node v from_one up_to_n)).hubs w e hub (Contains-permutation (numbers first next) got e.pos (IsPermutation-sym got (numbers first next) each_once) (among first next e.pos from low));
+    hubs = λ v from_one up_to_n e hub from low. (put v (node v from_one up_to_n)).hubs e hub (Contains-permutation (numbers first next) got e.pos (IsPermutation-sym got (numbers first next) each_once) (among first next e.pos from low));
   }
 
 -- some root was got, so the next one is further on

@@ -1,5 +1,5 @@
 -- What trees put at a node, in any order.
-use Rattle.std.proofs.Common.{◌≡◌, ℕ, eqb, List, [], ◌++◌, All, Contains, map, refl, sym, ap, subst, ◌∙◌, append_assoc}
+use Rattle.std.proofs.Common.{◌≡◌, true, ℕ, eqb, List, [], ◌++◌, Contains, map, refl, sym, ap, subst, ◌∙◌, append_assoc}
 use Rattle.std.specs.List.Sorted.{IsPermutation}
 use Rattle.std.specs.Prelude.{filter, nat_eq}
 use Rattle.std.proofs.lemmas.List.{map-append}
@@ -37,23 +37,23 @@ shuffled a x b y =
     (subst (IsPermutation (a ++ (x ++ (b ++ y)))) (sym (append_assoc a b (x ++ y))) (IsPermutation-append a a (x ++ (b ++ y)) (b ++ (x ++ y)) (IsPermutation-refl a) (swapped x b y)))
 
 module _ (edges : List Edge) (at : List ℕ) where
-  pub IsPutBy-from_grown : (roots : List ℕ) (whole : Type 0) (v : ℕ) (entries : List Entry) → IsGrownBy edges at roots whole v [] entries → IsPutBy edges at roots whole v entries
-  IsPutBy-from_grown roots whole v entries g = subst (IsPutBy edges at roots whole v) (sym g.joined) (record { fit = g.fit; once = g.once; of_roots = g.of_roots; hubs = g.hubs })
+  pub IsPutBy-from_grown : (roots : List ℕ) (whole : Type 0) (v : ℕ) (entries : List Entry) → whole → IsGrownBy edges at roots whole v [] entries → IsPutBy edges at roots v entries
+  IsPutBy-from_grown roots whole v entries w g = subst (IsPutBy edges at roots v) (sym g.joined) (record { fit = g.fit; once = g.once; of_roots = g.of_roots; hubs = g.hubs w })
 
-  IsGrownBy-from_put : (roots : List ℕ) (whole : Type 0) (v : ℕ) (entries : List Entry) → IsPutBy edges at roots whole v entries → IsGrownBy edges at roots whole v [] entries
-  IsGrownBy-from_put roots whole v entries p = record { puts = entries; joined = refl; fit = p.fit; once = p.once; of_roots = p.of_roots; hubs = p.hubs }
+  IsGrownBy-from_put : (roots : List ℕ) (v : ℕ) (entries : List Entry) → IsPutBy edges at roots v entries → IsGrownBy edges at roots (true ≡ true) v [] entries
+  IsGrownBy-from_put roots v entries p = record { puts = entries; joined = refl; fit = p.fit; once = p.once; of_roots = p.of_roots; hubs = λ _. p.hubs }
 
   -- in another order
-  pub IsPutBy-moved : (roots : List ℕ) (whole : Type 0) (v : ℕ) (xs ys : List Entry) → IsPermutation xs ys → IsPutBy edges at roots whole v xs → IsPutBy edges at roots whole v ys
-  IsPutBy-moved roots whole v xs ys moved p = record {
+  pub IsPutBy-moved : (roots : List ℕ) (v : ℕ) (xs ys : List Entry) → IsPermutation xs ys → IsPutBy edges at roots v xs → IsPutBy edges at roots v ys
+  IsPutBy-moved roots v xs ys moved p = record {
     fit = All-permutation (EntryFits (Joined edges) at v) xs ys moved p.fit;
     once = IsDistinct-IsPermutation eqb eqb_flips (map pos_of xs) (map pos_of ys) (IsPermutation-map pos_of xs ys moved) p.once;
     of_roots = All-permutation (λ (e : Entry). Contains roots e.pos) xs ys moved p.of_roots;
-    hubs = λ w e hub root. Contains-permutation xs ys e moved (p.hubs w e hub root);
+    hubs = λ e hub root. Contains-permutation xs ys e moved (p.hubs e hub root);
   }
 
   -- by trees of some roots, and of others
-  pub IsPutBy-both : (first second : List ℕ) (one two whole : Type 0) (v : ℕ) (xs ys : List Entry) → IsPutBy edges at first one v xs → IsPutBy edges at second two v ys → AreApart first second → (whole → one × two) → IsPutBy edges at (first ++ second) whole v (xs ++ ys)
-  IsPutBy-both first second one two whole v xs ys a b apart both =
-      IsPutBy-from_grown (first ++ second) whole v (xs ++ ys)
-      (IsGrownBy-then edges at first second one two whole v [] xs (xs ++ ys) (IsGrownBy-from_put first one v xs a) (IsGrownBy-after edges at second two v xs ys (IsGrownBy-from_put second two v ys b)) apart both)
+  pub IsPutBy-both : (first second : List ℕ) (v : ℕ) (xs ys : List Entry) → IsPutBy edges at first v xs → IsPutBy edges at second v ys → AreApart first second → IsPutBy edges at (first ++ second) v (xs ++ ys)
+  IsPutBy-both first second v xs ys a b apart =
+      IsPutBy-from_grown (first ++ second) (true ≡ true) v (xs ++ ys) refl
+      (IsGrownBy-then edges at first second (true ≡ true) (true ≡ true) (true ≡ true) v [] xs (xs ++ ys) (IsGrownBy-from_put first v xs a) (IsGrownBy-after edges at second (true ≡ true) v xs ys (IsGrownBy-from_put second v ys b)) apart (λ t. (t, t)))

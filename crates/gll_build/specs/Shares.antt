@@ -1,17 +1,17 @@
 -- The workers of a superstep: what each takes, what each hands back, and what all hand back together.
-use Rattle.std.specs.Prelude.{◌≡◌, ◌⊎◌, ℕ, ◌<◌, ◌≤◌, true, false, List, [], ◌++◌, Option, Some, None, All, Contains, IsOk, length, map, nat_eq, replicate}
+use Rattle.std.specs.Prelude.{◌≡◌, ◌⊎◌, ℕ, ◌≤◌, true, false, List, [], ◌++◌, Some, None, Ok, All, Contains, IfOk, length, map, nat_eq, replicate}
 use Rattle.std.specs.List.{IsDistinct}
 use Rattle.walk_laws.specs.declared.graph.Edge.{Edge}
 use Rattle.walk_laws.specs.declared.entry.Entry.{Entry}
 use Rattle.walk_laws.specs.Joined.{Joined}
-use Rattle.walk_laws.specs.Labelling.{EntryFits, IsHubEntry, label_row}
+use Rattle.walk_laws.specs.Labelling.{EntryFits, IsHubEntry}
+use Rattle.hub_index.specs.declared.entry_sink.NodeEntry.{NodeEntry}
 use Rattle.hub_index.specs.Sunk.{entries_of_node}
 use Rattle.hub_index.specs.Views.{IsNode}
 use Rattle.root_claims.specs.Seats.{ClaimsId, IsSeatOf as IsClaimSeatOf}
 use Rattle.label_pool.specs.Chains.{entries_at}
 use Rattle.label_pool.specs.Seats.{PoolId, IsSeatOf}
 use Rattle.label_clean.specs.Needless.{IsNeedless}
-use Rattle.pruned_tree.specs.GrownBy.{IsGrownBy}
 use Rattle.pool_view.specs.Fitting.{Fitting, IsFittingPool, edges_of, order_of}
 use Rattle.gll_build.specs.declared.share.Seats.{Seats}
 use Rattle.gll_build.specs.declared.share.Share.{Share}
@@ -55,7 +55,8 @@ pub record IsReady (claims : ClaimsId) (pool : PoolId Fitting) (n : ℕ) (worker
   pub there : worker.share ≡ Some share
   pub of : AreSeatsOf claims pool 0 share.seats
   pub new : AreNew share.seats
-  pub own : share.own ≡ nothing_of n
+  pub own : share.own ≡ Ok (nothing_of n)
+  pub kept : share.kept.items ≡ []
   pub work : worker.work ≡ n
 
 -- the global rows of the hub of each entry and of the node v cover none
@@ -70,12 +71,23 @@ StayUncovered at global before after = (v : ℕ) → IsNode (length at) v → Ar
 abbrev pub HasBegun : Seats → Type 0
 HasBegun seats = (seats.claims.over ≡ true) ⊎ (1 ≤ length seats.claims.got)
 
--- the trees of all roots that were claimed with the share are grown, over this global table
+-- the entries, in any order, are what the trees of these roots put at v: such as may stand in its row, at most one for each root and none for another, and each root that is a hub of v
+pub record IsPutBy (edges : List Edge) (at roots : List ℕ) (v : ℕ) (entries : List Entry) : Type 0 where
+  pub fit : All (EntryFits (Joined edges) at v) entries
+  pub once : IsDistinct nat_eq (map (λ e. e.pos) entries)
+  pub of_roots : All (λ e. Contains roots e.pos) entries
+  pub hubs : (e : Entry) → IsHubEntry (Joined edges) at v e → Contains roots e.pos → Contains entries e
+
+-- the trees of all roots that were claimed with the seats are grown: what they put is in the pool and among the entries kept, and this global table covers none of it
+pub record HavePut (edges : List Edge) (at : List ℕ) (global : List (List Entry)) (seats : Seats) (kept : List NodeEntry) : Type 0 where
+  pub nodes : All (λ e. IsNode (length at) e.node) kept
+  pub put : (v : ℕ) → IsNode (length at) v → IsPutBy edges at seats.claims.got v (entries_at seats.pool.puts v ++ entries_of_node kept v)
+  pub apart : (v : ℕ) → IsNode (length at) v → AreUncovered at global v (entries_at seats.pool.puts v ++ entries_of_node kept v)
+
+-- some root was claimed with the share, or none was left; and where memory sufficed the trees of all that were claimed are grown over this global table, and the rows are empty again
 pub record IsDone (edges : List Edge) (at : List ℕ) (global : List (List Entry)) (share : Share) : Type 0 where
   pub begun : HasBegun share.seats
-  pub nodes : length share.own ≡ length at
-  pub grown : (v : ℕ) → IsNode (length at) v → IsGrownBy edges at share.seats.claims.got (IsOk share.memory) v [] (entries_at share.seats.pool.puts v ++ label_row share.own v)
-  pub apart : (v : ℕ) → IsNode (length at) v → AreUncovered at global v (entries_at share.seats.pool.puts v ++ label_row share.own v)
+  pub sufficed : IfOk share.own (λ own. (own ≡ nothing_of (length at)) × HavePut edges at global share.seats share.kept.items)
 
 -- a worker that has grown all trees of its share
 pub record HasWorked (claims : ClaimsId) (pool : PoolId Fitting) (edges : List Edge) (at : List ℕ) (global : List (List Entry)) (worker : Worker) : Type 0 where
@@ -85,17 +97,8 @@ pub record HasWorked (claims : ClaimsId) (pool : PoolId Fitting) (edges : List E
   pub done : IsDone edges at global share
   pub work : worker.work ≡ length at
 
--- the entries, in any order, are what the trees of these roots put at v: such as may stand in its row, at most one for each root and none for another; and where the trees are whole, each root that is a hub of v
-pub record IsPutBy (edges : List Edge) (at roots : List ℕ) (whole : Type 0) (v : ℕ) (entries : List Entry) : Type 0 where
-  pub fit : All (EntryFits (Joined edges) at v) entries
-  pub once : IsDistinct nat_eq (map (λ e. e.pos) entries)
-  pub of_roots : All (λ e. Contains roots e.pos) entries
-  pub hubs : whole → (e : Entry) → IsHubEntry (Joined edges) at v e → Contains roots e.pos → Contains entries e
-
--- what some workers hand back: what their trees put in the pool and among the entries that they kept, of which this global table covers none, and their benches
+-- what some workers hand back: seats with which some root was claimed, or none was left, what their trees put over this global table, and their benches
 pub record IsHarvest (edges : List Edge) (at : List ℕ) (global : List (List Entry)) (harvest : Harvest) : Type 0 where
   pub begun : HasBegun harvest.seats
-  pub nodes : All (λ e. IsNode (length at) e.node) harvest.kept.items
-  pub put : (v : ℕ) → IsNode (length at) v → IsPutBy edges at harvest.seats.claims.got (IsOk harvest.memory) v (entries_at harvest.seats.pool.puts v ++ entries_of_node harvest.kept.items v)
-  pub apart : (v : ℕ) → IsNode (length at) v → AreUncovered at global v (entries_at harvest.seats.pool.puts v ++ entries_of_node harvest.kept.items v)
+  pub whole : HavePut edges at global harvest.seats harvest.kept.items
   pub benches : All (IsBenchFor (length at)) harvest.benches.items

@@ -1,15 +1,18 @@
 //! One worker of a superstep: the trees of the roots that its seat claims.
-ghost use Rattle.std.specs.Prelude.{◌≡◌, ◌⊎◌, ◌≤◌, true, false, [], None, IsOk, IfOk, IfSome, IfNone, length, nat_eq};
+ghost use Rattle.std.specs.Prelude.{◌≡◌, ◌⊎◌, ℕ, ◌≤◌, ◌++◌, true, false, [], None, Ok, All, IsOk, IfOk, IfSome, IfNone, length, nat_eq};
 ghost use Rattle.std.specs.List.{IsDistinct};
 ghost use Rattle.root_claims.specs.Seats.{IsSeatOf as IsClaimSeatOf};
 ghost use Rattle.pruned_tree.specs.GrownBy.{HasGrown};
+ghost use Rattle.walk_laws.specs.Labelling.{label_row};
 ghost use Rattle.hub_index.specs.PlainRows.{IsGathered};
+ghost use Rattle.hub_index.specs.Sunk.{entries_of_node};
+ghost use Rattle.hub_index.specs.Views.{IsNode};
 ghost use Rattle.pool_view.specs.Fitting.{edges_of, order_of};
 ghost use Rattle.pool_view.specs.Viewing.{puts_row, view_kept};
 ghost use Rattle.gll_build.specs.Shares.{AreSeatsOf, AreNew, IsDone, IsPoolOf, StayUncovered, nothing_of};
 
 use desk_io::Gate;
-use hub_index::RowList;
+use hub_index::{NodeEntry, RowList};
 use label_pool::{Pool, PoolSeat};
 use pool_view::{Fits, OwnRows, PoolView};
 use pruned_tree::{Work, grow};
@@ -26,18 +29,19 @@ pub struct Seats {
     pub pool: PoolSeat<Fits>,
 }
 
-/// What a worker takes into a superstep and hands back: its seats, the rows of its own, and whether memory sufficed for all
-/// its trees.
+/// What a worker takes into a superstep and hands back: its seats, the rows of its own, which are empty before and after it,
+/// and the entries that it kept for itself. The rows are gone where memory ran out, and what it kept is of no use then.
 #[derive(Drop)]
 pub struct Share {
     pub seats: Seats,
-    pub own: OwnRows,
-    pub memory: Result<(), AllocError>,
+    pub own: Result<OwnRows, AllocError>,
+    pub kept: Vec<NodeEntry>,
 }
 
 /// One worker of a superstep: it claims a root and grows its tree, until it has put at least `cut` entries or no root is
-/// left. Its gate is told of each root when its tree begins, and when it ends with the number of entries put. Where memory
-/// runs out, the entries put by then stay, and others may go on. What it took comes back in any case.
+/// left. Then it moves what it kept for itself from its own rows to a list. Its gate is told of each root when its tree
+/// begins, and when it ends with the number of entries put. Where memory runs out others may go on. Its seats come back in
+/// any case.
 pub fn grow_share<R: Wait, G: Gate>(
     rt: &R,
     alloc: Global,
@@ -58,7 +62,8 @@ pub fn grow_share<R: Wait, G: Gate>(
     requires global { IsGathered graph.now.edges ranking.now global.now }
     requires seats { AreSeatsOf claims.now pool.now 0 share.seats }
     requires new { AreNew share.seats }
-    requires own { share.own ≡ nothing_of (length ranking.now) }
+    requires own { share.own ≡ Ok (nothing_of (length ranking.now)) }
+    requires kept { share.kept.items ≡ [] }
     ensures work { work.new ≡ work.old }
     ensures seats { AreSeatsOf claims.now pool.now 0 result.seats }
     ensures done { IsDone graph.now.edges ranking.now global.now result }
@@ -66,8 +71,9 @@ pub fn grow_share<R: Wait, G: Gate>(
     let Share {
         seats,
         own,
-        memory: _,
+        mut kept,
     } = share;
+    let Ok(own) = own else { unreachable!() };
     let Seats {
         claims: mut claim_seat,
         pool: pool_seat,
@@ -86,14 +92,31 @@ pub fn grow_share<R: Wait, G: Gate>(
         gate,
     );
     let (pool_seat, own) = view.into_parts();
+    let own = emptied(memory, own, &mut kept);
     Share {
         seats: Seats {
             claims: claim_seat,
             pool: pool_seat,
         },
         own,
-        memory,
+        kept,
     }
+}
+
+/// Moves what the trees put in the own rows after other entries, and gives the rows back, which are empty then. The only
+/// error is that memory ran out, here or for the trees.
+fn emptied(
+    memory: Result<(), AllocError>,
+    own: OwnRows,
+    kept: &mut Vec<NodeEntry>,
+) -> Result<OwnRows, AllocError>
+    ensures memory { IfOk result (λ _. IsOk memory) }
+    ensures empty { IfOk result (λ empty. empty ≡ nothing_of (length own)) }
+    ensures entries { IfOk result (λ _. (v : ℕ) → IsNode (length own) v → entries_of_node kept.new.items v ≡ entries_of_node kept.old.items v ++ label_row own v) }
+    ensures nodes { All (λ e. IsNode (length own) e.node) kept.old.items → All (λ e. IsNode (length own) e.node) kept.new.items }
+{
+    memory?;
+    own.empty_into(kept)
 }
 
 /// Claims roots and grows their trees, until at least `cut` entries are put or no root is left. The only error is that memory

@@ -142,11 +142,9 @@ fn grow_roots<R: Threads + Wait + Sync, G: Gate + Sync>(
     let harvest = bring_in(alloc, graph, ranking, &claims, &pool, global, workers)?;
     let Harvest {
         seats,
-        memory,
         mut kept,
         benches,
     } = harvest;
-    memory?;
     let mut fresh = pool.close_listed(seats.pool)?;
     fresh.append(&mut kept)?;
     let next = claims.close(seats.claims);

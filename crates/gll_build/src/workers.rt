@@ -31,12 +31,11 @@ pub struct Worker {
     pub work: Work,
 }
 
-/// What workers hand back: their seats as one, whether memory sufficed for all, the entries that they kept for themselves,
-/// and their benches.
+/// What workers hand back, where memory sufficed for all: their seats as one, the entries that they kept for themselves, and
+/// their benches.
 #[derive(Drop)]
 pub struct Harvest {
     pub seats: Seats,
-    pub memory: Result<(), AllocError>,
     pub kept: Vec<NodeEntry>,
     pub benches: Vec<Bench>,
 }
@@ -118,14 +117,21 @@ pub fn seated(
     let mut workers = Vec::with_capacity(alloc, benches.len() + 1)?;
     while let Some(bench) = benches.pop() {
         let seats = split_off(claims, pool, &mut first);
-        workers.push(worker_at(n, claims, pool, bench, seats))?;
+        workers.push(worker_at(alloc, n, claims, pool, bench, seats))?;
     }
-    workers.push(worker_at(n, claims, pool, last, first))?;
+    workers.push(worker_at(alloc, n, claims, pool, last, first))?;
     Ok(workers)
 }
 
 /// A worker at a bench for `n` nodes, with these seats.
-fn worker_at(n: u32, claims: &Claims, pool: &Pool<Fits>, bench: Bench, seats: Seats) -> Worker
+fn worker_at(
+    alloc: Global,
+    n: u32,
+    claims: &Claims,
+    pool: &Pool<Fits>,
+    bench: Bench,
+    seats: Seats,
+) -> Worker
     requires bench { IsBenchFor n bench }
     requires seats { AreSeatsOf claims.now pool.now 0 seats }
     requires new { AreNew seats }
@@ -134,8 +140,8 @@ fn worker_at(n: u32, claims: &Claims, pool: &Pool<Fits>, bench: Bench, seats: Se
     let Bench { own, work } = bench;
     let share = Share {
         seats,
-        own,
-        memory: Ok(()),
+        own: Ok(own),
+        kept: Vec::new(alloc),
     };
     Worker {
         share: Some(share),
@@ -157,7 +163,7 @@ fn split_off(claims: &Claims, pool: &Pool<Fits>, seats: &mut Seats) -> Seats
     }
 }
 
-/// What all workers hand back. The only error is that memory ran out.
+/// What all workers hand back. The only error is that memory ran out, here or for one of them.
 pub fn bring_in(
     alloc: Global,
     graph: &Graph,
@@ -205,7 +211,7 @@ fn parts_of(
     }
 }
 
-/// What one worker hands back. The only error is that memory ran out.
+/// What one worker hands back. The only error is that memory ran out, here or for the worker.
 fn first_of(
     alloc: Global,
     graph: &Graph,
@@ -221,20 +227,18 @@ fn first_of(
     ensures harvest { IfOk result (λ harvest. IsHarvest graph.now.edges ranking.now global.now harvest) }
 {
     let (share, work) = parts_of(graph, ranking, claims, pool, global, worker);
-    let Share { seats, own, memory } = share;
-    let mut kept = Vec::new(alloc);
-    let empty = own.empty_into(&mut kept)?;
+    let Share { seats, own, kept } = share;
+    let own = own?;
     let mut benches = Vec::new(alloc);
-    benches.push(Bench { own: empty, work })?;
+    benches.push(Bench { own, work })?;
     Ok(Harvest {
         seats,
-        memory,
         kept,
         benches,
     })
 }
 
-/// What some workers hand back, and another one. The only error is that memory ran out.
+/// What some workers hand back, and another one. The only error is that memory ran out, here or for that one.
 fn with_worker(
     graph: &Graph,
     ranking: &Ranking,
@@ -255,20 +259,18 @@ fn with_worker(
     let Share {
         seats: other,
         own,
-        memory: sufficed,
+        kept: mut more,
     } = share;
     let Harvest {
         seats,
-        memory,
         mut kept,
         mut benches,
     } = whole;
     let seats = together(claims, pool, seats, other);
-    let empty = own.empty_into(&mut kept)?;
-    benches.push(Bench { own: empty, work })?;
+    kept.append(&mut more)?;
+    benches.push(Bench { own: own?, work })?;
     Ok(Harvest {
         seats,
-        memory: memory.and(sufficed),
         kept,
         benches,
     })

@@ -1,18 +1,15 @@
-use Rattle.std.proofs.Common.{◌≡◌, ℕ, ◌++◌, inl, inr, true, ◌<◌, All, length, take, drop, sym, ap, subst, ◌∙◌, arith}
-use Rattle.std.specs.Prelude.{IsOk, is_ok, IfOk}
+use Rattle.std.proofs.Common.{◌≡◌, ℕ, ◌++◌, inl, inr, All, length, sym, ap, subst, ◌∙◌, arith}
 use Rattle.std.specs.List.Sorted.{IsPermutation}
 use Rattle.std.proofs.lemmas.List.Elements.{All-append}
 use Rattle.std.proofs.lemmas.List.Sorted.{IsPermutation-append, IsPermutation-refl}
-use Rattle.walk_laws.specs.declared.entry.Entry.{Entry}
 use Rattle.hub_index.specs.declared.entry_sink.NodeEntry.{NodeEntry}
 use Rattle.hub_index.specs.Sunk.{entries_of_node}
 use Rattle.hub_index.specs.Views.{IsNode}
 use Rattle.hub_index.proofs.GatheredRows.{entries_of_node-append}
 use Rattle.table_seats.specs.Numbers.{numbers}
 use Rattle.label_pool.specs.Chains.{entries_at}
-use Rattle.label_clean.specs.Between.{HoldsBetween}
 use Rattle.label_clean.proofs.RowItems.{take_filled}
-use Rattle.gll_build.specs.Shares.{AreSeatsOf, HasWorked, IsBenchFor, IsPoolOf, IsPutBy, IsReady}
+use Rattle.gll_build.specs.Shares.{HasWorked, IsReady}
 use Rattle.gll_build.proofs.FreshEntries.{HoldsBetween-fresh, further}
 use Rattle.gll_build.proofs.PutBy.{IsPutBy-moved}
 use Rattle.gll_build.proofs.UncoveredPuts.{AreUncovered-moved}
@@ -39,7 +36,6 @@ returns-clause-grown g c =
     let next = c.close-next.result in
     let got : IsPermutation harvest.seats.claims.got (numbers c.args.first c.close-next.result) = subst (λ p. IsPermutation harvest.seats.claims.got (numbers p c.close-next.result)) c.in_ok-claims.ensures.claims.0 c.close-next.ensures.drawn in
     let n_is : c.n-n.result ≡ length c.args.ranking.now = c.n-n.ensures.value ∙ sym c.requires.nodes in
-    let ok : IsOk harvest.memory = ap is_ok c.in_ok-memory.was in
     let listed = c.in_ok-fresh.fresh.items in
     let fresh : c.append.new.self.items ≡ c.in_ok-fresh.fresh.items ++ harvest.kept.items = c.in_ok-append.ensures.items in
     let moved : (v : ℕ) → IsNode (length c.args.ranking.now) v → IsPermutation (entries_at harvest.seats.pool.puts v ++ entries_of_node harvest.kept.items v) (entries_of_node c.append.new.self.items v) = λ v node.
@@ -54,9 +50,9 @@ returns-clause-grown g c =
       within = omega (arith, c.close-next.ensures.within.1, c.in_ok-claims.ensures.claims.1, n_is);
       nodes =
           subst (All (λ (e : NodeEntry). IsNode (length c.args.ranking.now) e.node)) (sym fresh)
-          (All-append (λ (e : NodeEntry). IsNode (length c.args.ranking.now) e.node) listed harvest.kept.items (subst (λ n. All (λ (e : NodeEntry). IsNode n e.node) c.in_ok-fresh.fresh.items) (c.in_ok-pool.ensures.pool.0 ∙ n_is) c.in_ok-fresh.ensures.nodes) is.nodes);
+          (All-append (λ (e : NodeEntry). IsNode (length c.args.ranking.now) e.node) listed harvest.kept.items (subst (λ n. All (λ (e : NodeEntry). IsNode n e.node) c.in_ok-fresh.fresh.items) (c.in_ok-pool.ensures.pool.0 ∙ n_is) c.in_ok-fresh.ensures.nodes) is.whole.nodes);
       holds =
-          HoldsBetween-fresh c.args.graph.now.n edges at c.n-n.ensures.graph first next harvest.seats.claims.got got (IsOk harvest.memory) ok (entries_of_node c.append.new.self.items)
-          (λ v node. IsPutBy-moved edges at harvest.seats.claims.got (IsOk harvest.memory) v (entries_at harvest.seats.pool.puts v ++ entries_of_node harvest.kept.items v) (entries_of_node c.append.new.self.items v) (moved v node) (is.put v node));
-      apart = λ v node. AreUncovered-moved at c.args.global.now v (entries_at harvest.seats.pool.puts v ++ entries_of_node harvest.kept.items v) (entries_of_node c.append.new.self.items v) (moved v node) (is.apart v node);
+          HoldsBetween-fresh c.args.graph.now.n edges at c.n-n.ensures.graph first next harvest.seats.claims.got got (entries_of_node c.append.new.self.items)
+          (λ v node. IsPutBy-moved edges at harvest.seats.claims.got v (entries_at harvest.seats.pool.puts v ++ entries_of_node harvest.kept.items v) (entries_of_node c.append.new.self.items v) (moved v node) (is.whole.put v node));
+      apart = λ v node. AreUncovered-moved at c.args.global.now v (entries_at harvest.seats.pool.puts v ++ entries_of_node harvest.kept.items v) (entries_of_node c.append.new.self.items v) (moved v node) (is.whole.apart v node);
     }
