@@ -87,7 +87,7 @@ pub fn next_step<R: Threads + Wait + Sync, G: Gate + Sync>(
         next,
         benches,
     } = grown;
-    let gone = cleaner.go_on(alloc, ranking, rows, first, fresh.as_slice())?;
+    let gone = cleaner.go_on(ranking, rows, first, fresh.as_slice())?;
     let (rows, cleaner) = gone;
     Ok((Progress { rows, next }, Workshop { benches, cleaner }))
 }

@@ -35,12 +35,12 @@ one_part xs ys e f once (i, i_within, here) (j, j_within, there) same =
     one_place (xs ++ ys) i (length xs + j) e f once (omega arith) (omega (arith, length-append xs ys))
     (get_or_append_left xs ys e i i_within ∙ here) (get_or-append-add xs ys j f ∙ there) same
 
-module _ (edges : List Edge) (at : List ℕ) (ranking : IsRanking at) (p c : ℕ) (global raw kept : List (List Entry)) (before : p ≤ c) (global_is : IsChlBelow edges at p global) (holds : HoldsBelow edges at c global raw) (survive : (v : ℕ) → 1 ≤ v → v ≤ length at → IsSurvivingRow at global raw v (label_row kept v)) (v : ℕ) (from_one : 1 ≤ v) (up_to_n : v ≤ length at) where
-  hubs_kept : (e : Entry) → Contains (label_row kept v) e ↔ (Contains (label_row raw v) e × IsHubEntry (Joined edges) at v e)
-  hubs_kept = surviving_hubs at ranking edges c global raw holds v from_one up_to_n (label_row kept v) (survive v from_one up_to_n)
+module _ (edges : List Edge) (at : List ℕ) (ranking : IsRanking at) (p c : ℕ) (global raw : List (List Entry)) (before : p ≤ c) (global_is : IsChlBelow edges at p global) (holds : HoldsBelow edges at c global raw) (v : ℕ) (from_one : 1 ≤ v) (up_to_n : v ≤ length at) (kept : List Entry) (survives : IsSurvivingRow at global raw v kept) where
+  hubs_kept : (e : Entry) → Contains kept e ↔ (Contains (label_row raw v) e × IsHubEntry (Joined edges) at v e)
+  hubs_kept = surviving_hubs at ranking edges c global raw holds v from_one up_to_n kept survives
 
   -- no surviving entry has a position of the table
-  after : (e f : Entry) → Contains (label_row global v) e → Contains (label_row kept v) f → e.pos < f.pos
+  after : (e f : Entry) → Contains (label_row global v) e → Contains kept f → e.pos < f.pos
   after e f there here =
       let row = global_is.row v from_one up_to_n in
       let known = (hubs_kept f).0 here in
@@ -49,27 +49,27 @@ module _ (edges : List Edge) (at : List ℕ) (ranking : IsRanking at) (p c : ℕ
         | inr later ↦ omega (arith, later, ((row.each e).0 there).1)
       ]
 
-  pub IsRowBelow-gone_on : (row : List Entry) → row ≡ label_row global v ++ label_row kept v → IsRowBelow edges at c v row
+  pub IsRowBelow-gone_on : (row : List Entry) → row ≡ label_row global v ++ kept → IsRowBelow edges at c v row
   IsRowBelow-gone_on row is = subst (IsRowBelow edges at c v) (sym is) (record {
     rising = λ k within. both_rise k (k + 1) 0 (omega arith) within;
     each = λ e. (there e, back e);
   })
     where
-      both_rise : Rises pos_of (label_row global v ++ label_row kept v)
+      both_rise : Rises pos_of (label_row global v ++ kept)
       both_rise =
-          Rises-append (label_row global v) (label_row kept v) (AllPairs-from_increasing (map pos_of (label_row global v)) (global_is.row v from_one up_to_n).rising)
-          (AllPairs-from_increasing (map pos_of (label_row kept v)) (survive v from_one up_to_n).rising) after
+          Rises-append (label_row global v) kept (AllPairs-from_increasing (map pos_of (label_row global v)) (global_is.row v from_one up_to_n).rising)
+          (AllPairs-from_increasing (map pos_of kept) survives.rising) after
 
-      there : (e : Entry) → Contains (label_row global v ++ label_row kept v) e → IsHubEntry (Joined edges) at v e × (e.pos < c)
-      there e h = elim (Contains-append_cases (label_row global v) (label_row kept v) e h) [
+      there : (e : Entry) → Contains (label_row global v ++ kept) e → IsHubEntry (Joined edges) at v e × (e.pos < c)
+      there e h = elim (Contains-append_cases (label_row global v) kept e h) [
         | inl here ↦ let known = ((global_is.row v from_one up_to_n).each e).0 here in (known.0, omega (arith, known.1, before))
         | inr later ↦
             let known = (hubs_kept e).0 later in
             (known.1, All-contains (λ (x : Entry). x.pos < c) (both_rows global raw v) e (holds.below v from_one up_to_n) (Contains-append_right (label_row global v) (label_row raw v) e known.0))
       ]
 
-      back : (e : Entry) → IsHubEntry (Joined edges) at v e × (e.pos < c) → Contains (label_row global v ++ label_row kept v) e
+      back : (e : Entry) → IsHubEntry (Joined edges) at v e × (e.pos < c) → Contains (label_row global v ++ kept) e
       back e hub = elim (Contains-append_cases (label_row global v) (label_row raw v) e (holds.hubs v from_one up_to_n e hub.0 hub.1)) [
-        | inl here ↦ Contains-append_left (label_row global v) (label_row kept v) e here
-        | inr later ↦ Contains-append_right (label_row global v) (label_row kept v) e ((hubs_kept e).1 (later, hub.0))
+        | inl here ↦ Contains-append_left (label_row global v) kept e here
+        | inr later ↦ Contains-append_right (label_row global v) kept e ((hubs_kept e).1 (later, hub.0))
       ]

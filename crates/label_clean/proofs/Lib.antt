@@ -8,6 +8,7 @@ pub mod TestRows
 pub mod GoneOn
 pub mod RowItems
 pub mod KeptRows
-pub mod Placed
-pub mod ShortRows
+pub mod Chained
 pub mod GoneOnWith
+pub mod TakenRows
+pub mod Meetings

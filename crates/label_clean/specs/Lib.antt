@@ -6,4 +6,5 @@ pub mod Tested
 pub mod Below
 pub mod Laws
 pub mod Between
-pub mod Shortened
+pub mod Chains
+pub mod Taken

@@ -1,5 +1,5 @@
 -- What entries are tested with: rows by rising distance, and a table of the distances of a row.
-use Rattle.std.specs.Prelude.{◌≡◌, ◌↔◌, ℕ, ◌<◌, ◌≤◌, List, Option, Some, Contains, length}
+use Rattle.std.specs.Prelude.{◌≡◌, ◌↔◌, ℕ, ◌+◌, ◌<◌, ◌≤◌, List, Option, Some, Contains, length}
 use Rattle.std.specs.List.Sorted.{IsNonDecreasingBy}
 use Rattle.walk_laws.specs.declared.entry.Entry.{Entry}
 use Rattle.walk_laws.specs.Labelling.{label_row}
@@ -26,3 +26,11 @@ pub record HoldsLeast (table : List (Option ℕ)) (row : List Entry) : Type 0 wh
 -- an entry of the row covers one at the position p with the distance d, by way of the hubs in the table
 abbrev pub HasCover : List (Option ℕ) → ℕ → ℕ → List Entry → Type 0
 HasCover table p d row = (e : Entry) × Contains row e × IsCover table p d e
+
+-- the row has an entry at the position of e, and their distances are together at most d
+abbrev pub Meets : List Entry → Entry → ℕ → Type 0
+Meets row e d = (b : ℕ) × Contains row (record { pos = e.pos; dist = b }) × (e.dist + b ≤ d)
+
+-- an entry above p meets one of the row
+abbrev pub IsCovering : List Entry → ℕ → ℕ → Entry → Type 0
+IsCovering row p d e = (e.pos < p) × Meets row e d

@@ -1,7 +1,7 @@
-ghost use Rattle.std.specs.Prelude.{◌≡◌, ◌↔◌, ◌≤◌, ◌++◌, List, length, IsTrue};
-ghost use Rattle.std.specs.List.Sorted.{IsNonDecreasingBy};
+ghost use Rattle.std.specs.Prelude.{◌≡◌, ◌↔◌, ◌≤◌, ◌++◌, List, length, map, IsTrue};
+ghost use Rattle.std.specs.List.Sorted.{IsNonDecreasingBy, IsStrictlyIncreasing};
 ghost use Rattle.walk_laws.specs.declared.entry.Entry.{Entry as AnEntry};
-ghost use Rattle.label_clean.specs.Tested.{HoldsLeast, HasCover};
+ghost use Rattle.label_clean.specs.Tested.{HoldsLeast, HasCover, IsCovering, Meets};
 
 use hub_index::RootTable;
 use walk_laws::Entry;
@@ -34,4 +34,34 @@ pub fn is_covered(row: &[Entry], table: &RootTable, pos: u32, dist: u64) -> bool
         }
     }
     false
+}
+
+/// Whether an entry and one of a row by rising position cover one at the position `pos`, from 0, with the distance `dist`.
+pub fn covers(other: Entry, row: &[Entry], pos: u32, dist: u64) -> bool
+    requires { IsStrictlyIncreasing (map (λ e. e.pos) row.now) }
+    ensures { IsTrue result ↔ IsCovering row.now pos dist other }
+{
+    if other.pos >= pos {
+        return false;
+    }
+    meets(row, other, dist)
+}
+
+/// Whether a row by rising position has an entry at the position of another one, whose distances are together at most `dist`.
+fn meets(row: &[Entry], other: Entry, dist: u64) -> bool
+    requires { IsStrictlyIncreasing (map (λ e. e.pos) row.now) }
+    ensures { IsTrue result ↔ Meets row.now other dist }
+{
+    let place = row.partition_point(|e| e.pos < other.pos);
+    if place >= row.len() {
+        return false;
+    }
+    let met = row[place];
+    if met.pos != other.pos {
+        return false;
+    }
+    if other.dist > dist {
+        return false;
+    }
+    met.dist <= dist - other.dist
 }

@@ -1,4 +1,4 @@
-//! A table that is gone on with: later entries are put into its rows, and of these the needless ones go.
+//! A table that is gone on with: its rows take later entries in, but for the needless ones.
 ghost use Rattle.std.specs.Prelude.{◌≡◌, ℕ, ◌≤◌, [], All, List, length, IfOk};
 ghost use Rattle.walk_laws.specs.declared.graph.Edge.{Edge as AnEdge};
 ghost use Rattle.walk_laws.specs.Labelling.{label_row};
@@ -8,29 +8,32 @@ ghost use Rattle.label_clean.specs.Below.{IsChlBelow};
 ghost use Rattle.label_clean.specs.Between.{HoldsBetween, IsEarlierRow, IsLaterRow};
 ghost use Rattle.label_clean.specs.Needless.{IsNeedless};
 
-use crate::placing::with_fresh;
-use crate::shortening::{replace_rows, shortened_rows};
-use hub_index::{NodeEntry, RootTable, RowList};
+use crate::chains::Chains;
+use crate::taking::take_in;
+use hub_index::{NodeEntry, RowList};
 use rank_table::Ranking;
 use std::alloc::{AllocError, Global};
 use std::marker::Model;
+use walk_laws::Entry;
 
-/// What a builder who goes on with a table takes once, whatever is cleaned later: a table of distances. Contracts see the
-/// number of nodes.
+/// What a builder who goes on with a table takes once, whatever is cleaned later: chains, which are empty between two
+/// cleanings, and a row. Contracts see the number of nodes.
 #[derive(Drop)]
 pub struct Cleaner {
     n: u32,
-    table: RootTable,
+    chains: Chains,
+    row: Vec<Entry>,
 }
 
 impl Model for Cleaner {
-    ghost use Rattle.std.specs.Prelude.{◌≡◌, ℕ, length};
+    ghost use Rattle.std.specs.Prelude.{ℕ};
+    ghost use Rattle.label_clean.specs.Chains.{AreEmpty};
 
     ghost Value = { ℕ };
 
     ghost view = { λ c. c.n };
 
-    ghost invariant = { λ c. length c.table ≡ c.n };
+    ghost invariant = { λ c. AreEmpty c.n c.chains };
 }
 
 impl Cleaner {
@@ -38,8 +41,12 @@ impl Cleaner {
     pub fn new(alloc: Global, n: u32) -> Result<Cleaner, AllocError>
         ensures { IfOk result (λ cleaner. cleaner ≡ n) }
     {
-        let table = RootTable::new(alloc, n)?;
-        Ok(Cleaner { n, table })
+        let chains = Chains::new(alloc, n)?;
+        Ok(Cleaner {
+            n,
+            chains,
+            row: Vec::new(alloc),
+        })
     }
 
     /// The canonical hub labelling up to a position, of a graph on the ranking's nodes, made of the one up to the position
@@ -47,12 +54,11 @@ impl Cleaner {
     /// in the rows of their nodes, at most one of each hub, and every canonical one, Ok is exactly the canonical ones up to
     /// that position, each row by rising position. The fresh entries come in any order, and the global rows cover none of
     /// them: so an entry is needless just where the fresh parts of two rows cover it, and these parts alone are gone through.
-    /// Each entry is put into its row in place, and tested where its node took in another one too. Memory is taken for the
-    /// entries, for the nodes that took in several, and for a copy of each row that loses one. The cleaner comes back. The
-    /// only error is that memory ran out, and then both are given up. (Planting Trees, PVLDB 2019.)
+    /// The fresh entries of a node are put after its row in place, but for the needless ones: it costs the fresh entries, and
+    /// neither rows nor tables of n nodes are made. The cleaner comes back. The only error is that memory ran out, and then both
+    /// are given up. (Planting Trees, PVLDB 2019.)
     pub fn go_on(
         self,
-        alloc: Global,
         ranking: &Ranking,
         global: RowList,
         first: u32,
@@ -71,12 +77,15 @@ impl Cleaner {
     {
         let ranked = ranking.n();
         prove!(ranked == self.n);
-        let Cleaner { n, mut table } = self;
-        let mut touched = Vec::new(alloc);
-        let rows = with_fresh(n, global, first, fresh, &mut touched)?;
-        let found = shortened_rows(alloc, ranking, &rows, first, &mut table, touched.as_slice())?;
-        let mut rows = rows.into_rows();
-        replace_rows(&mut rows, found);
-        Ok((RowList::from_rows(rows), Cleaner { n, table }))
+        let Cleaner {
+            n,
+            mut chains,
+            mut row,
+        } = self;
+        chains.put_all(fresh)?;
+        let mut rows = global.into_rows();
+        take_in(ranking, fresh, &chains, &mut row, &mut rows)?;
+        chains.clear(fresh);
+        Ok((RowList::from_rows(rows), Cleaner { n, chains, row }))
     }
 }

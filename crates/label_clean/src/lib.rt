@@ -10,14 +10,14 @@
 //! (specs/RawRows), `IsNeedless` and `IsSurvivingRow` (specs/Needless).
 #![tactic(auto)]
 
+mod chains;
 mod cleaning;
 mod cover;
 mod going_on;
 pub mod laws;
-mod placing;
 mod rows;
-mod shortening;
 mod sorting;
+mod taking;
 mod testing;
 #[cfg(test)]
 mod tests;

@@ -162,7 +162,7 @@ fn a_table_is_gone_on_with_in_place(rt: HostRuntime) -> Result<(), Fail> {
         &[entry(0, 1), entry(2, 1), entry(3, 0)],
     ];
     let cleaner = Cleaner::new(rt.alloc(), 4)?;
-    let (rows, _cleaner) = cleaner.go_on(rt.alloc(), &ranking, global, 1, fresh.as_slice())?;
+    let (rows, _cleaner) = cleaner.go_on(&ranking, global, 1, fresh.as_slice())?;
     assert_eq!(rt; rows.n(), 4);
     for (place, row) in table.iter().enumerate() {
         let v = place as u32 + 1;
@@ -206,7 +206,7 @@ fn a_fresh_entry_covers_another(rt: HostRuntime) -> Result<(), Fail> {
         &[entry(0, 1), entry(2, 1), entry(3, 0)],
     ];
     let cleaner = Cleaner::new(rt.alloc(), 4)?;
-    let (rows, _cleaner) = cleaner.go_on(rt.alloc(), &ranking, none, 0, fresh.as_slice())?;
+    let (rows, _cleaner) = cleaner.go_on(&ranking, none, 0, fresh.as_slice())?;
     assert_eq!(rt; rows.n(), 4);
     for (place, row) in table.iter().enumerate() {
         let v = place as u32 + 1;

@@ -1,0 +1,178 @@
+-- Chains through a list of entries, and what a walk of one finds.
+use Rattle.std.proofs.Common.{◌≡◌, ◌≢◌, ◌↔◌, ℕ, ◌+◌, ◌-◌, ◌<◌, ◌≤◌, eqb, inl, inr, List, [], ◌∷◌, ◌++◌, Contains, length, map, get_or, set, take, reverse, sym, ap, subst, ◌∙◌, refl, add-one, arith}
+use Rattle.std.specs.List.Sorted.{IsNonDecreasingBy, IsPermutation}
+use Rattle.std.proofs.Math.ListN.{length-set}
+use Rattle.std.proofs.lemmas.Bool.{cases_lt, cases_eq}
+use Rattle.std.proofs.lemmas.List.{append-nil, get_or_append_left, get_or_default, get_or_push, get_or-set_same, get_or-set_other, length-append, reverse-append, take_all}
+use Rattle.std.proofs.lemmas.List.Sorted.{Contains-permutation, IsPermutation-map, IsPermutation-reverse, IsPermutation-sym}
+use Rattle.std.proofs.lemmas.Map.Keys.{IsDistinct-IsPermutation}
+use Rattle.walk_laws.specs.declared.entry.Entry.{Entry}
+use Rattle.walk_laws.proofs.Members.{Contains-next, Contains-cons_cases}
+use Rattle.hub_index.specs.declared.entry_sink.NodeEntry.{NodeEntry}
+use Rattle.hub_index.specs.Sunk.{entries_of_node, entry_if, entry_of}
+use Rattle.hub_index.specs.Views.{IsNode}
+use Rattle.hub_index.proofs.GatheredRows.{entries_of_node-more, entry_if-other, entry_if-same}
+use Rattle.label_clean.specs.declared.chains.Chains.{Chains}
+use Rattle.label_clean.specs.Chains.{AreChained, AreEmpty, IsChain, IsLink, head_of}
+use Rattle.label_clean.specs.RawRows.{HasEachOnce}
+use Rattle.label_clean.specs.Sorted.{IsSortedRow}
+use Rattle.label_clean.proofs.Covering.{pos_of}
+use Rattle.label_clean.proofs.RowFacts.{IsSortedRow-from_sort, eqb_flips, one_place}
+
+module _ (entries : List NodeEntry) (nexts : List ℕ) where
+  -- a chain goes on where links are put after the others
+  pub IsChain-more : (x link : ℕ) (es : List Entry) → IsChain entries nexts link es → IsChain entries (nexts ++ x ∷ []) link es
+  IsChain-more x link [] is = is
+  IsChain-more x link (e ∷ es) is =
+      let here = is.0 in
+      let same : get_or (nexts ++ x ∷ []) (link - 1) 0 ≡ get_or nexts (link - 1) 0 = get_or_append_left nexts (x ∷ []) 0 (link - 1) (omega (arith, here.from_one, here.within)) in (
+        record { from_one = here.from_one; within = omega (arith, here.within, length-append nexts (x ∷ [])); back = omega (arith, same, here.back); entry_is = here.entry_is },
+        subst (λ k. IsChain entries (nexts ++ x ∷ []) k es) (sym same) (IsChain-more x (get_or nexts (link - 1) 0) es is.1),
+      )
+
+  -- what a link that is not the end leads to
+  pub record IsOneMore (link : ℕ) (rest : List Entry) : Type 0 where
+    pub e : Entry
+    pub es : List Entry
+    pub rest_is : rest ≡ e ∷ es
+    pub here : IsLink entries nexts link e
+    pub on : IsChain entries nexts (get_or nexts (link - 1) 0) es
+
+  pub one_more : (link : ℕ) (rest : List Entry) → IsChain entries nexts link rest → 0 < link → IsOneMore link rest
+  one_more link [] is some = absurd (omega (arith, is, some))
+  one_more link (e ∷ es) is some = record { e = e; es = es; rest_is = refl; here = is.0; on = is.1 }
+
+  -- the end leads to nothing
+  pub no_more : (link : ℕ) (rest : List Entry) → IsChain entries nexts link rest → link ≤ 0 → rest ≡ []
+  no_more link [] is none = refl
+  no_more link (e ∷ es) is none = absurd (omega (arith, is.0.from_one, none))
+
+-- one more entry is chained
+module _ (entries : List NodeEntry) (many : ℕ) (d : NodeEntry) (node : ℕ) (old new : Chains) (within : many < length entries) (is : (get_or entries many d).node ≡ node) (place : IsNode (length old.heads.items) node) (chained : AreChained entries many old) (nexts_are : new.nexts.items ≡ old.nexts.items ++ head_of old node ∷ []) (heads_are : new.heads.items ≡ set old.heads.items (node - 1) (many + 1)) where
+  abbrev it : Entry
+  it = entry_of (get_or entries many d)
+
+  abbrev so_many : ℕ → List Entry
+  so_many v = entries_of_node (take many entries) v
+
+  size : length new.heads.items ≡ length old.heads.items
+  size = ap length heads_are ∙ length-set old.heads.items (node - 1) (many + 1)
+
+  more : (v : ℕ) → entries_of_node (take (many + 1) entries) v ≡ so_many v ++ entry_if node v it
+  more v = entries_of_node-more entries many v d within ∙ ap (λ u. so_many v ++ entry_if u v it) is
+
+  entries_here : reverse (entries_of_node (take (many + 1) entries) node) ≡ it ∷ reverse (so_many node)
+  entries_here = ap reverse (more node ∙ ap (λ es. so_many node ++ es) (entry_if-same node it)) ∙ reverse-append (so_many node) (it ∷ [])
+
+  entries_else : (v : ℕ) → v ≢ node → reverse (entries_of_node (take (many + 1) entries) v) ≡ reverse (so_many v)
+  entries_else v other = ap reverse (more v ∙ ap (λ es. so_many v ++ es) (entry_if-other node v it (λ same. other (sym same))) ∙ append-nil (so_many v))
+
+  head_here : head_of new node ≡ many + 1
+  head_here = ap (λ hs. get_or hs (node - 1) 0) heads_are ∙ get_or-set_same old.heads.items (node - 1) (many + 1) 0 (omega (arith, place.from_one, place.up_to_n))
+
+  head_else : (v : ℕ) → 1 ≤ v → v ≢ node → head_of new v ≡ head_of old v
+  head_else v from_one other = ap (λ hs. get_or hs (v - 1) 0) heads_are ∙ get_or-set_other old.heads.items (node - 1) (v - 1) (many + 1) 0 (λ same. other (omega (arith, same, from_one, place.from_one)))
+
+  head_small : head_of old node ≤ many
+  head_small = elim (cases_lt (head_of old node) 1) [ inl none ↦ omega (arith, none) | inr some ↦ (chained.head node d place some).0 ]
+
+  abbrev links : List ℕ
+  links = old.nexts.items ++ head_of old node ∷ []
+
+  last_link : get_or links (many + 1 - 1) 0 ≡ head_of old node
+  last_link = let same : length old.nexts.items ≡ many + 1 - 1 = omega (arith, chained.count) in get_or_push old.nexts.items (head_of old node) 0 (many + 1 - 1) same
+
+  chain_here : IsChain entries links (many + 1) (it ∷ reverse (so_many node))
+  chain_here = (
+    record {
+      from_one = omega arith;
+      within = omega (arith, chained.count, length-append old.nexts.items (head_of old node ∷ []));
+      back = omega (arith, last_link, head_small);
+      entry_is = λ x. let same : many + 1 - 1 ≡ many = omega arith in ap (λ k. entry_of (get_or entries k x)) same ∙ ap (λ (y : NodeEntry). entry_of y) (get_or_default entries many x d within);
+    },
+    subst (λ k. IsChain entries links k (reverse (so_many node))) (sym last_link) (IsChain-more entries old.nexts.items (head_of old node) (head_of old node) (reverse (so_many node)) (chained.chain node place)),
+  )
+
+  was : (v : ℕ) → IsNode (length new.heads.items) v → IsNode (length old.heads.items) v
+  was v v_in = subst (λ n. IsNode n v) size v_in
+
+  pub AreChained-put : AreChained entries (many + 1) new
+  AreChained-put = record {
+    count = ap length nexts_are ∙ length-append old.nexts.items (head_of old node ∷ []) ∙ ap (λ k. k + 1) chained.count;
+    within = omega (arith, within);
+    chain = λ v v_in. subst (λ ns. IsChain entries ns (head_of new v) (reverse (entries_of_node (take (many + 1) entries) v))) (sym nexts_are) (elim (cases_eq v node) [
+      | inl same ↦
+          subst (λ u. IsChain entries links (head_of new u) (reverse (entries_of_node (take (many + 1) entries) u))) (sym same)
+          (subst (λ k. IsChain entries links k (reverse (entries_of_node (take (many + 1) entries) node))) (sym head_here) (subst (IsChain entries links (many + 1)) (sym entries_here) chain_here))
+      | inr other ↦
+          subst (λ k. IsChain entries links k (reverse (entries_of_node (take (many + 1) entries) v))) (sym (head_else v v_in.from_one other))
+          (subst (IsChain entries links (head_of old v)) (sym (entries_else v other)) (IsChain-more entries old.nexts.items (head_of old node) (head_of old v) (reverse (so_many v)) (chained.chain v (was v v_in))))
+    ]);
+    head = λ v x v_in some. elim (cases_eq v node) [
+      | inl same ↦
+          let now : head_of new v ≡ many + 1 = ap (head_of new) same ∙ head_here in
+          let at : head_of new v - 1 ≡ many = omega (arith, now) in (omega (arith, now), ap (λ k. (get_or entries k x).node) at ∙ ap (λ (y : NodeEntry). y.node) (get_or_default entries many x d within) ∙ is ∙ sym same)
+      | inr other ↦
+          let now = head_else v v_in.from_one other in
+          let known = chained.head v x (was v v_in) (omega (arith, now, some)) in (omega (arith, now, known.0), ap (λ k. (get_or entries (k - 1) x).node) now ∙ known.1)
+    ];
+  }
+
+-- no entry is chained yet
+pub AreChained-none : (entries : List NodeEntry) (chains : Chains) → AreEmpty (length chains.heads.items) chains → chains.nexts.items ≡ [] → AreChained entries 0 chains
+AreChained-none entries chains empty none = record {
+  count = ap length none;
+  within = omega arith;
+  chain = λ v v_in. empty.none (v - 1) (omega (arith, v_in.from_one, v_in.up_to_n));
+  head = λ v x v_in some. let is = empty.none (v - 1) (omega (arith, v_in.from_one, v_in.up_to_n)) in absurd (omega (arith, is, some));
+}
+
+-- the entries of a node, from the last one on
+pub record IsBackwards (entries : List Entry) (back : List Entry) : Type 0 where
+  pub each : (e : Entry) → Contains entries e ↔ Contains back e
+  pub once : HasEachOnce entries → HasEachOnce back
+
+pub backwards : (entries : List Entry) → IsBackwards entries (reverse entries)
+backwards entries =
+    let moved = IsPermutation-reverse entries in
+    record {
+      each = λ e. (λ h. Contains-permutation entries (reverse entries) e moved h, λ h. Contains-permutation (reverse entries) entries e (IsPermutation-sym entries (reverse entries) moved) h);
+      once = IsDistinct-IsPermutation eqb eqb_flips (map pos_of entries) (map pos_of (reverse entries)) (IsPermutation-map pos_of entries (reverse entries) moved);
+    }
+
+-- a first entry has another position than those after it
+pub first_apart : (e f : Entry) (es : List Entry) → HasEachOnce (e ∷ es) → Contains es f → e.pos ≢ f.pos
+first_apart e f es once (k, within, is) same =
+    let there : get_or (e ∷ es) (k + 1) f ≡ f = rw add-one is in
+    one_place (e ∷ es) 0 (k + 1) e f once (omega arith) (omega (arith, within)) refl there same
+
+-- entries that are sorted from the last one on
+pub IsSortedRow-backwards : (entries row : List Entry) → HasEachOnce entries → IsPermutation (reverse entries) row → IsNonDecreasingBy pos_of row → IsSortedRow entries row
+IsSortedRow-backwards entries row once moved up =
+    let all = IsSortedRow-from_sort (reverse entries) row ((backwards entries).once once) moved up in
+    record { rising = all.rising; each = λ e. (λ h. ((backwards entries).each e).1 ((all.each e).0 h), λ h. (all.each e).1 (((backwards entries).each e).0 h)) }
+
+-- none of the entries is of a kind, but for the rest that is to come
+pub record IsSeeking (P : Entry → Type 0) (entries rest : List Entry) : Type 0 where
+  pub some : (e : Entry) → Contains rest e → Contains entries e
+  pub left : (e : Entry) → Contains entries e → P e → Contains rest e
+
+pub IsSeeking-none : (P : Entry → Type 0) (entries : List Entry) → IsSeeking P entries (reverse entries)
+IsSeeking-none P entries = record { some = λ e h. ((backwards entries).each e).1 h; left = λ e h good. ((backwards entries).each e).0 h }
+
+pub IsSeeking-more : (P : Entry → Type 0) (entries : List Entry) (e : Entry) (es : List Entry) → IsSeeking P entries (e ∷ es) → ¬ P e → IsSeeking P entries es
+IsSeeking-more P entries e es so_far bad = record {
+  some = λ f h. so_far.some f (Contains-next e f es h);
+  left = λ f h good. elim (Contains-cons_cases e f es (so_far.left f h good)) [ inl is ↦ absurd (bad (subst P (sym is) good)) | inr later ↦ later ];
+}
+
+-- all entries are chained
+pub whole_chain : (entries : List NodeEntry) (chains : Chains) → AreChained entries (length entries) chains → (v : ℕ) → IsNode (length chains.heads.items) v → IsChain entries chains.nexts.items (head_of chains v) (reverse (entries_of_node entries v))
+whole_chain entries chains chained v v_in =
+    subst (λ es. IsChain entries chains.nexts.items (head_of chains v) (reverse (entries_of_node es v))) (take_all (length entries) entries (omega arith)) (chained.chain v v_in)
+
+pub head_within : (entries : List NodeEntry) (many : ℕ) (chains : Chains) → AreChained entries many chains → (v : ℕ) → IsNode (length chains.heads.items) v → head_of chains v ≤ many
+head_within entries many chains chained v v_in = elim (cases_lt (head_of chains v) 1) [
+  | inl none ↦ omega (arith, none)
+  | inr some ↦ (chained.head v (record { node = 0; pos = 0; dist = 0 }) v_in some).0
+]

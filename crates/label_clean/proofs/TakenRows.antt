@@ -1,0 +1,195 @@
+-- Rows that take in the entries of their nodes, one node after another.
+use Rattle.std.proofs.Common.{◌≡◌, ◌≢◌, ℕ, ◌+◌, ◌-◌, ◌<◌, ◌≤◌, inl, inr, List, [], ◌∷◌, ◌++◌, Vec, Global, Contains, length, get_or, set, reverse, refl, sym, ap, subst, ◌∙◌, arith}
+use Rattle.std.proofs.lemmas.Bool.{cases_lt, cases_eq}
+use Rattle.std.proofs.Math.ListN.{length-set}
+use Rattle.std.proofs.lemmas.List.{append-nil, get_or_default, get_or-set_same, get_or-set_other, reverse-reverse}
+use Rattle.walk_laws.specs.declared.entry.Entry.{Entry}
+use Rattle.walk_laws.proofs.Members.{Contains-empty}
+use Rattle.hub_index.specs.declared.entry_sink.NodeEntry.{NodeEntry}
+use Rattle.hub_index.specs.Sunk.{entries_of_node, entry_of}
+use Rattle.hub_index.specs.Views.{IsNode}
+use Rattle.hub_index.proofs.GatheredRows.{row_before, row_now, row_other}
+use Rattle.label_clean.specs.declared.chains.Chains.{Chains}
+use Rattle.label_clean.specs.Chains.{AreChained, AreEmpty, head_of}
+use Rattle.label_clean.specs.Sorted.{IsSortedRow}
+use Rattle.label_clean.specs.Taken.{HasTaken, IsNeedlessAmong, row_of}
+use Rattle.label_clean.proofs.Chained.{backwards, no_more, one_more, whole_chain}
+use Rattle.label_clean.proofs.Covering.{entry, pos_of}
+use Rattle.label_clean.proofs.Meetings.{never_falls}
+use Rattle.label_clean.proofs.KeptEntries.{IsKept, IsKept-none, IsKept-rising, IsKept-with}
+
+-- a row that is put in the place of its node
+pub placed : (rows : List (Vec Entry Global)) (node : ℕ) (row : Vec Entry Global) → IsNode (length rows) node → row_of (set rows (node - 1) row) node ≡ row.items
+placed rows node row is =
+    let same : node - 1 + 1 ≡ node = omega (arith, is.from_one) in
+    subst (λ v. row_of (set rows (node - 1) row) v ≡ row.items) same (row_now rows (node - 1) row (omega (arith, is.from_one, is.up_to_n)))
+
+pub row_there : (rows : List (Vec Entry Global)) (node : ℕ) (old : Vec Entry Global) → IsNode (length rows) node → old ≡ get_or rows (node - 1) old → row_of rows node ≡ old.items
+row_there rows node old is here =
+    let same : node - 1 + 1 ≡ node = omega (arith, is.from_one) in
+    subst (λ v. row_of rows v ≡ old.items) same (row_before rows (node - 1) old (omega (arith, is.from_one, is.up_to_n)) here)
+
+pub placed_other : (rows : List (Vec Entry Global)) (node v : ℕ) (row : Vec Entry Global) → 1 ≤ v → 1 ≤ node → v ≢ node → row_of (set rows (node - 1) row) v ≡ row_of rows v
+placed_other rows node v row from_one node_from_one other = row_other rows (node - 1) v row from_one (λ same. other (omega (arith, same, node_from_one)))
+
+module _ (at : List ℕ) (entries : ℕ → List Entry) (v : ℕ) where
+  -- where a node has no entries, its row is as it was
+  pub HasTaken-none : (before after : List Entry) → ((e : Entry) → ¬ Contains (entries v) e) → after ≡ before → HasTaken at entries v before after
+  HasTaken-none before after none same = record {
+    kept = [];
+    staying = record { rising = λ k within. absurd (omega (arith, within)); each = λ e. (λ h. absurd (Contains-empty e h), λ h. absurd (none e h.0)) };
+    after_is = same ∙ sym (append-nil before);
+  }
+
+  module _ (row : List Entry) (sorted : IsSortedRow (entries v) row) where
+    -- the first entry is covered by none
+    pub first_stays : (d : Entry) → 0 < length row → ¬ IsNeedlessAmong at entries v (get_or row 0 d)
+    first_stays d some needless =
+        let c = needless.covered in
+        let there = (sorted.each (entry c.position c.shared.after)).1 c.shared.in_second in
+        let k = there.0 in
+        let up = never_falls row sorted.rising 0 there.0 d (omega arith) there.1 in
+        let same : (get_or row there.0 d).pos ≡ c.position = ap pos_of (get_or_default row k d (entry c.position c.shared.after) there.1 ∙ there.2) in
+        omega (arith, up, same, c.above)
+
+    -- what is kept of the row was taken in
+    pub HasTaken-kept : (before after kept : List Entry) → IsKept (IsNeedlessAmong at entries v) row kept → after ≡ before ++ kept → HasTaken at entries v before after
+    HasTaken-kept before after kept is same = record {
+      kept = kept;
+      staying = record {
+        rising = IsKept-rising (IsNeedlessAmong at entries v) row kept is;
+        each = λ e. (
+          λ h. let known = (is.each e).0 h in ((sorted.each e).0 known.0, known.1),
+          λ h. (is.each e).1 ((sorted.each e).1 h.0, h.1),
+        );
+      };
+      after_is = same;
+    }
+
+-- the rows of the nodes whose last entry stands before the place k have taken in what they are to, and the others are as before
+pub record HasCome (at : List ℕ) (entries : List NodeEntry) (chains : Chains) (before rows : List (Vec Entry Global)) (k v : ℕ) : Type 0 where
+  pub taken : head_of chains v ≤ k → HasTaken at (entries_of_node entries) v (row_of before v) (row_of rows v)
+  pub left : k < head_of chains v → row_of rows v ≡ row_of before v
+
+module _ (at : List ℕ) (entries : List NodeEntry) (chains : Chains) (before : List (Vec Entry Global)) (chained : AreChained entries (length entries) chains) where
+  -- a chain that is empty has no entry
+  none_of : (v : ℕ) → IsNode (length chains.heads.items) v → head_of chains v ≤ 0 → (e : Entry) → ¬ Contains (entries_of_node entries v) e
+  none_of v v_in low e there =
+      let none = no_more entries chains.nexts.items (head_of chains v) (reverse (entries_of_node entries v)) (whole_chain entries chains chained v v_in) low in
+      Contains-empty e (subst (λ es. Contains es e) none (((backwards (entries_of_node entries v)).each e).0 there))
+
+  pub HasCome-none : (rows : List (Vec Entry Global)) (v : ℕ) → IsNode (length chains.heads.items) v → rows ≡ before → HasCome at entries chains before rows 0 v
+  HasCome-none rows v v_in same = record {
+    taken = λ low. HasTaken-none at (entries_of_node entries) v (row_of before v) (row_of rows v) (none_of v v_in low) (ap (λ rs. row_of rs v) same);
+    left = λ past. ap (λ rs. row_of rs v) same;
+  }
+
+  module _ (k : ℕ) (d : NodeEntry) (within : k < length entries) where
+    abbrev node : ℕ
+    node = (get_or entries k d).node
+
+    -- the last entry of no other node stands there
+    only_here : (v : ℕ) → IsNode (length chains.heads.items) v → head_of chains v ≡ k + 1 → v ≡ node
+    only_here v v_in is =
+        let known = chained.head v d v_in (omega (arith, is)) in
+        let place : head_of chains v - 1 ≡ k = omega (arith, is) in
+        sym known.1 ∙ ap (λ i. (get_or entries i d).node) place
+
+    -- where it isn't the last one of its node, the rows stay as they are
+    pub HasCome-stays : (rows : List (Vec Entry Global)) → head_of chains node ≢ k + 1 → ((v : ℕ) → IsNode (length chains.heads.items) v → HasCome at entries chains before rows k v) → (v : ℕ) → IsNode (length chains.heads.items) v → HasCome at entries chains before rows (k + 1) v
+    HasCome-stays rows other so_far v v_in = record {
+      taken = λ low. elim (cases_eq (head_of chains v) (k + 1)) [
+        | inl is ↦ absurd (other (ap (head_of chains) (sym (only_here v v_in is)) ∙ is))
+        | inr apart ↦ (so_far v v_in).taken (omega (arith, low, apart))
+      ];
+      left = λ past. (so_far v v_in).left (omega (arith, past));
+    }
+
+    -- and where it is, its node's row takes them in
+    pub HasCome-more : (rows : List (Vec Entry Global)) (new : Vec Entry Global) → head_of chains node ≡ k + 1 → IsNode (length rows) node → IsNode (length chains.heads.items) node → HasTaken at (entries_of_node entries) node (row_of rows node) new.items
+        → ((v : ℕ) → IsNode (length chains.heads.items) v → HasCome at entries chains before rows k v) → (v : ℕ) → IsNode (length chains.heads.items) v → HasCome at entries chains before (set rows (node - 1) new) (k + 1) v
+    HasCome-more rows new is here node_in taken so_far v v_in = elim (cases_eq v node) [
+      | inl same ↦ subst (HasCome at entries chains before (set rows (node - 1) new) (k + 1)) (sym same) (record {
+        taken = λ low.
+            subst (λ row. HasTaken at (entries_of_node entries) node (row_of before node) row) (sym (placed rows node new here))
+            (subst (λ row. HasTaken at (entries_of_node entries) node row new.items) ((so_far node node_in).left (omega (arith, is))) taken);
+        left = λ past. absurd (omega (arith, past, is));
+      })
+      | inr other ↦
+          let now = placed_other rows node v new v_in.from_one here.from_one other in
+          record {
+            taken = λ low. subst (HasTaken at (entries_of_node entries) v (row_of before v)) (sym now) (elim (cases_eq (head_of chains v) (k + 1)) [
+              | inl last ↦ absurd (other (only_here v v_in last))
+              | inr apart ↦ (so_far v v_in).taken (omega (arith, low, apart))
+            ]);
+            left = λ past. now ∙ (so_far v v_in).left (omega (arith, past));
+          }
+    ]
+
+-- an entry that is the only one of its node is taken in
+pub HasTaken-one : (at : List ℕ) (entries : List NodeEntry) (chains : Chains) (k v : ℕ) (d : NodeEntry) (before : List Entry) → AreChained entries (length entries) chains → IsNode (length chains.heads.items) v → head_of chains v ≡ k + 1 → get_or chains.nexts.items k 0 ≡ 0
+    → HasTaken at (entries_of_node entries) v before (before ++ entry_of (get_or entries k d) ∷ [])
+HasTaken-one at entries chains k v d before chained v_in is last =
+    let es = entries_of_node entries v in
+    let e = entry_of (get_or entries k d) in
+    let nexts = chains.nexts.items in
+    let m = one_more entries nexts (head_of chains v) (reverse es) (whole_chain entries chains chained v v_in) (omega (arith, is)) in
+    let place : head_of chains v - 1 ≡ k = omega (arith, is) in
+    let none : m.es ≡ [] = no_more entries nexts (get_or nexts (head_of chains v - 1) 0) m.es m.on (omega (arith, ap (λ i. get_or nexts i 0) place, last)) in
+    let first : m.e ≡ entry_of (get_or entries k d) = sym (m.here.entry_is d) ∙ ap (λ i. entry_of (get_or entries i d)) place in
+    let all : entries_of_node entries v ≡ entry_of (get_or entries k d) ∷ [] = sym (reverse-reverse es) ∙ ap reverse (m.rest_is ∙ ap (λ xs. m.e ∷ xs) none ∙ ap (λ x. x ∷ []) first) in
+    let sorted : IsSortedRow (entries_of_node entries v) (entry_of (get_or entries k d) ∷ []) = record {
+      rising = λ i within. absurd (omega (arith, within));
+      each = λ x. (λ h. subst (λ xs. Contains xs x) (sym all) h, λ h. subst (λ xs. Contains xs x) all h);
+    } in
+    let P = IsNeedlessAmong at (entries_of_node entries) v in
+    HasTaken-kept at (entries_of_node entries) v (e ∷ []) sorted before (before ++ e ∷ []) (e ∷ [])
+    (IsKept-with P (e ∷ []) [] 0 e (omega arith) (IsKept-none P) sorted.rising (first_stays at (entries_of_node entries) v (e ∷ []) sorted e (omega arith))) refl
+
+-- chains are emptied, entry by entry: what is left of a chain has its head from the place on
+pub record AreEmptied (entries : List NodeEntry) (before : Chains) (k : ℕ) (chains : Chains) : Type 0 where
+  pub size : length chains.heads.items ≡ length before.heads.items
+  pub left : (v : ℕ) → IsNode (length before.heads.items) v → 1 ≤ head_of chains v → (k < head_of chains v) × (head_of chains v ≡ head_of before v)
+
+module _ (entries : List NodeEntry) (before : Chains) (chained : AreChained entries (length entries) before) where
+  pub AreEmptied-none : (chains : Chains) → chains ≡ before → AreEmptied entries before 0 chains
+  AreEmptied-none chains same = record {
+    size = ap (λ (c : Chains). length c.heads.items) same;
+    left = λ v v_in some. (omega (arith, some), ap (λ c. head_of c v) same);
+  }
+
+  pub AreEmptied-more : (k : ℕ) (d : NodeEntry) (chains after : Chains) → k < length entries → IsNode (length before.heads.items) (get_or entries k d).node → AreEmptied entries before k chains → after.heads.items ≡ set chains.heads.items ((get_or entries k d).node - 1) 0 → AreEmptied entries before (k + 1) after
+  AreEmptied-more k d chains after within node_in so_far are = record { size = ap length are ∙ length-set chains.heads.items (node - 1) 0 ∙ so_far.size; left = left }
+    where
+      node : ℕ
+      node = (get_or entries k d).node
+
+      left : (v : ℕ) → IsNode (length before.heads.items) v → 1 ≤ head_of after v → (k + 1 < head_of after v) × (head_of after v ≡ head_of before v)
+      left v v_in some = elim (cases_eq v node) [
+        | inl same ↦
+            let gone : head_of after v ≡ 0 = ap (λ hs. get_or hs (v - 1) 0) are ∙ ap (λ u. get_or (set chains.heads.items (node - 1) 0) (u - 1) 0) same ∙ get_or-set_same chains.heads.items (node - 1) 0 0 (omega (arith, node_in.from_one, node_in.up_to_n, so_far.size)) in
+            absurd (omega (arith, gone, some))
+        | inr other ↦
+            let stays : head_of after v ≡ head_of chains v = ap (λ hs. get_or hs (v - 1) 0) are ∙ get_or-set_other chains.heads.items (node - 1) (v - 1) 0 0 (λ same. other (omega (arith, same, v_in.from_one, node_in.from_one))) in
+            let known = so_far.left v v_in (omega (arith, stays, some)) in
+            elim (cases_eq (head_of before v) (k + 1)) [
+              | inl is ↦ absurd (other (only_here [] entries before [] chained k d within v v_in is))
+              | inr apart ↦ (omega (arith, stays, known.0, known.1, apart), stays ∙ known.1)
+            ]
+      ]
+
+  -- in the end all are empty
+  pub AreEmpty-emptied : (k : ℕ) (chains : Chains) → length entries ≤ k → AreEmptied entries before k chains → AreEmpty (length before.heads.items) chains
+  AreEmpty-emptied k chains over all = record {
+    size = all.size;
+    none = λ i i_in. elim (cases_lt (get_or chains.heads.items i 0) 1) [
+      | inl zero ↦ omega (arith, zero)
+      | inr some ↦
+          let v_in : IsNode (length before.heads.items) (i + 1) = record { from_one = omega arith; up_to_n = omega (arith, i_in) } in
+          let place : i + 1 - 1 ≡ i = omega arith in
+          let head : head_of chains (i + 1) ≡ get_or chains.heads.items i 0 = ap (λ j. get_or chains.heads.items j 0) place in
+          let known = all.left (i + 1) v_in (omega (arith, head, some)) in
+          let d : NodeEntry = record { node = 0; pos = 0; dist = 0 } in
+          absurd (omega (arith, over, known.0, known.1, (chained.head (i + 1) d v_in (omega (arith, known.0, known.1))).0))
+    ];
+  }

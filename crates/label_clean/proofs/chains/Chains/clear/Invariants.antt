@@ -1,0 +1,6 @@
+use Rattle.label_clean.proofs.TakenRows.{AreEmptied}
+use Rattle.label_clean.proofs.chains.Chains.clear.Given as goal
+
+-- the heads of the entries so far are none
+abbrev pub invariant-loop-entry : goal.invariant-loop-entry
+invariant-loop-entry l = AreEmptied l.entries l.fn.self l.entry-index l.self

@@ -1,0 +1,10 @@
+use Rattle.std.proofs.Common.{◌≡◌, length}
+use Rattle.label_clean.specs.Chains.{AreChained}
+use Rattle.label_clean.proofs.chains.Chains.put_all.Given as goal
+
+-- the entries so far are chained
+abbrev pub invariant-loop-entry : goal.invariant-loop-entry
+invariant-loop-entry l = record {
+  size : length l.self.heads.items ≡ length l.fn.self.heads.items;
+  chained : AreChained l.entries l.entry-index l.self;
+}

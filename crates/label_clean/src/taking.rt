@@ -1,0 +1,100 @@
+//! Rows that take later entries in, but for the needless ones.
+ghost use Rattle.std.specs.Prelude.{◌≡◌, ◌↔◌, ℕ, ◌<◌, All, length, map, OnOk, IsTrue};
+ghost use Rattle.std.specs.List.Sorted.{IsStrictlyIncreasing};
+ghost use Rattle.hub_index.specs.Sunk.{entries_of_node};
+ghost use Rattle.hub_index.specs.Views.{IsNode};
+ghost use Rattle.label_clean.specs.Chains.{AreChained};
+ghost use Rattle.label_clean.specs.RawRows.{HasEachOnce};
+ghost use Rattle.label_clean.specs.Sorted.{IsSortedRow};
+ghost use Rattle.label_clean.specs.Taken.{HasTaken, IsNeedlessAmong, row_of};
+
+use crate::chains::Chains;
+use hub_index::NodeEntry;
+use rank_table::Ranking;
+use std::alloc::AllocError;
+use walk_laws::Entry;
+
+/// Puts the entries of the list, which are chained, after the rows of their nodes, each node's by rising position, but for those
+/// that entries of the list make needless. Those of a node are gathered in `row`, whatever it held. The only error is that
+/// memory ran out.
+pub fn take_in(
+    ranking: &Ranking,
+    entries: &[NodeEntry],
+    chains: &Chains,
+    row: &mut Vec<Entry>,
+    rows: &mut Vec<Vec<Entry>>,
+) -> Result<(), AllocError>
+    requires chained { AreChained entries.now (length entries.now) chains.now }
+    requires heads { length chains.now.heads.items ≡ length ranking.now }
+    requires rows { length rows.old.items ≡ length ranking.now }
+    requires nodes { All (λ e. IsNode (length ranking.now) e.node) entries.now }
+    requires within { (v : ℕ) → IsNode (length ranking.now) v → All (λ e. e.pos < length ranking.now) (entries_of_node entries.now v) }
+    requires once { (v : ℕ) → IsNode (length ranking.now) v → HasEachOnce (entries_of_node entries.now v) }
+    ensures rows { length rows.new.items ≡ length rows.old.items }
+    ensures taken { OnOk result ((v : ℕ) → IsNode (length ranking.now) v → HasTaken ranking.now (entries_of_node entries.now) v (row_of rows.old.items v) (row_of rows.new.items v)) }
+{
+    for k in 0..entries.len() {
+        let node = entries[k].node;
+        let place = node as usize - 1;
+        if chains.heads[place] as usize != k + 1 {
+            continue;
+        }
+        if chains.nexts[k] == 0 {
+            rows[place].push(entries[k].entry())?;
+            continue;
+        }
+        chains.row_of(entries, node, row)?;
+        add_kept(
+            ranking,
+            entries,
+            chains,
+            row.as_slice(),
+            node,
+            &mut rows[place],
+        )?;
+    }
+    Ok(())
+}
+
+/// Puts the entries of the node `v`, a number from 1, which are those of a row by rising position, after others, but for the
+/// needless ones. The only error is that memory ran out.
+fn add_kept(
+    ranking: &Ranking,
+    entries: &[NodeEntry],
+    chains: &Chains,
+    row: &[Entry],
+    v: u32,
+    others: &mut Vec<Entry>,
+) -> Result<(), AllocError>
+    requires chained { AreChained entries.now (length entries.now) chains.now }
+    requires heads { length chains.now.heads.items ≡ length ranking.now }
+    requires row { IsSortedRow (entries_of_node entries.now v) row.now }
+    requires positions { All (λ e. e.pos < length ranking.now) row.now }
+    ensures { OnOk result (HasTaken ranking.now (entries_of_node entries.now) v others.old.items others.new.items) }
+{
+    for (place, entry) in row.iter().enumerate() {
+        if place > 0 && is_needless(ranking, entries, chains, row, *entry) {
+            continue;
+        }
+        others.push(*entry)?;
+    }
+    Ok(())
+}
+
+/// Whether an entry is needless by those of its hub and of its node, which are those of a row by rising position.
+fn is_needless(
+    ranking: &Ranking,
+    entries: &[NodeEntry],
+    chains: &Chains,
+    row: &[Entry],
+    entry: Entry,
+) -> bool
+    requires chained { AreChained entries.now (length entries.now) chains.now }
+    requires heads { length chains.now.heads.items ≡ length ranking.now }
+    requires rising { IsStrictlyIncreasing (map (λ e. e.pos) row.now) }
+    requires position { entry.pos < length ranking.now }
+    ensures { (v : ℕ) → IsSortedRow (entries_of_node entries.now v) row.now → IsTrue result ↔ IsNeedlessAmong ranking.now (entries_of_node entries.now) v entry }
+{
+    let hub = ranking.at(entry.pos);
+    chains.cover(entries, hub, row, entry.pos, entry.dist)
+}
