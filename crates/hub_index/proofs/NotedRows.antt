@@ -1,11 +1,12 @@
 -- A table in which the entries of a row are noted holds the least distance of each of its positions.
-use Rattle.std.proofs.Common.{◌≡◌, ◌≢◌, ◌↔◌, ℕ, ◌+◌, ◌<◌, ◌≤◌, min, inl, inr, Option, Some, None, List, [], ◌∷◌, ◌++◌, Contains, length, get_or, take, replicate, get_or-set_other, get_or-set_same, refl, sym, ap, subst, ◌∙◌, add-one, arith}
+use Rattle.std.proofs.Common.{◌≡◌, ◌≢◌, ◌↔◌, ℕ, ◌+◌, ◌<◌, ◌≤◌, min, inl, inr, Option, Some, None, List, [], ◌∷◌, ◌++◌, Contains, length, All, get_or, take, replicate, get_or-set_other, get_or-set_same, refl, sym, ap, subst, ◌∙◌, add-one, append_assoc, arith}
+use Rattle.std.proofs.Math.ListN.{length-set}
 use Rattle.std.proofs.Math.Seq.{take-suc}
 use Rattle.std.proofs.lemmas.Bool.{cases_eq, cases_lt}
-use Rattle.std.proofs.lemmas.List.{take_all}
-use Rattle.std.proofs.lemmas.List.Elements.{Contains-append_left, Contains-append_right, Contains-append_cases}
+use Rattle.std.proofs.lemmas.List.{append-nil, length-replicate}
+use Rattle.std.proofs.lemmas.List.Elements.{All-head, All-tail, Contains-append_left, Contains-append_right, Contains-append_cases}
 use Rattle.walk_laws.specs.declared.entry.Entry.{Entry}
-use Rattle.hub_index.specs.RootDistances.{root_distance, lesser, with_noted, IsLeastAt, HoldsRow}
+use Rattle.hub_index.specs.RootDistances.{root_distance, lesser, noted, with_noted, IsLeastAt, HoldsRow}
 use Rattle.hub_index.proofs.TouchedPositions.{one_of, none_in, nothing_noted}
 
 -- the entry of a position and a distance
@@ -83,11 +84,32 @@ HoldsEach-noted table row e inside each p = elim (cases_eq p e.pos) [
       subst (HoldsAt (row ++ e ∷ []) p) (sym same) (kept_at row e p (root_distance table p) other (each p))
 ]
 
--- along a row
-pub HoldsEach-next : (table : List (Option ℕ)) (row : List Entry) (i : ℕ) (d : Entry) → i < length row → (get_or row i d).pos < length table → HoldsEach table (take i row) → HoldsEach (with_noted table (get_or row i d)) (take (i + 1) row)
-HoldsEach-next table row i d lt inside each =
-    let cut : take (i + 1) row ≡ take i row ++ get_or row i d ∷ [] = rw add-one (take-suc row i d lt) in
-    subst (HoldsEach (with_noted table (get_or row i d))) (sym cut) (HoldsEach-noted table (take i row) (get_or row i d) inside each)
+pub length-noted : (table : List (Option ℕ)) (es : List Entry) → length (noted table es) ≡ length table
+length-noted table [] = refl
+length-noted table (e ∷ es) = length-noted (with_noted table e) es ∙ length-set table e.pos _
 
-pub HoldsRow-whole : (table : List (Option ℕ)) (row : List Entry) (i : ℕ) → length row ≤ i → HoldsEach table (take i row) → HoldsRow table row
-HoldsRow-whole table row i over each = HoldsRow-from_each table row (subst (HoldsEach table) (take_all i row over) each)
+pub noted-append : (table : List (Option ℕ)) (es fs : List Entry) → noted table (es ++ fs) ≡ noted (noted table es) fs
+noted-append table [] fs = refl
+noted-append table (e ∷ es) fs = noted-append (with_noted table e) es fs
+
+-- along a row
+pub noted-next : (table : List (Option ℕ)) (row : List Entry) (i : ℕ) (d : Entry) → i < length row → noted table (take (i + 1) row) ≡ with_noted (noted table (take i row)) (get_or row i d)
+noted-next table row i d lt =
+    let cut : take (i + 1) row ≡ take i row ++ get_or row i d ∷ [] = rw add-one (take-suc row i d lt) in
+    ap (noted table) cut ∙ noted-append table (take i row) (get_or row i d ∷ [])
+
+-- a table that held a row holds it with the entries after it
+pub HoldsEach-noted_all : (table : List (Option ℕ)) (row es : List Entry) → All (λ e. e.pos < length table) es → HoldsEach table row → HoldsEach (noted table es) (row ++ es)
+HoldsEach-noted_all table row [] inside each = subst (HoldsEach table) (sym (append-nil row)) each
+HoldsEach-noted_all table row (e ∷ es) inside each =
+    let here = All-head (λ f. f.pos < length table) e es inside in
+    let rest : All (λ f. f.pos < length (with_noted table e)) es = subst (λ n. All (λ f. f.pos < n) es) (sym (length-set table e.pos _)) (All-tail (λ f. f.pos < length table) e es inside) in
+    subst (HoldsEach (noted (with_noted table e) es)) (append_assoc row (e ∷ []) es)
+    (HoldsEach-noted_all (with_noted table e) (row ++ e ∷ []) es rest (HoldsEach-noted table row e here each))
+
+-- an empty table in which a row is noted holds it
+pub HoldsRow-noted : (n : ℕ) (empty table : List (Option ℕ)) (row : List Entry) → empty ≡ replicate n None → All (λ e. e.pos < n) row → table ≡ noted empty row → HoldsRow table row
+HoldsRow-noted n empty table row none inside is =
+    let size : length empty ≡ n = ap length none ∙ length-replicate n None in
+    subst (λ t. HoldsRow t row) (sym is)
+    (HoldsRow-from_each (noted empty row) row (HoldsEach-noted_all empty [] row (subst (λ k. All (λ e. e.pos < k) row) (sym size) inside) (HoldsEach-none n empty none)))

@@ -1,9 +1,9 @@
 -- Rows in two parts: what stands in one of them, and a change of one part.
 use Rattle.std.specs.Prelude.{Vec}
 use Rattle.std.specs.List.{zip}
-use Rattle.std.proofs.Common.{◌≡◌, ℕ, zero, suc, ◌-◌, ◌<◌, ◌≤◌, List, [], ◌∷◌, ◌++◌, length, map, get_or, set, replicate, refl, sym, ap, subst, ◌∙◌, append_assoc, Global, arith}
-use Rattle.std.proofs.Math.Seq.{map-set_same}
-use Rattle.std.proofs.lemmas.List.{append-nil, get_or-map, length-map, map-append, map-set, set-get_or}
+use Rattle.std.proofs.Common.{◌≡◌, ℕ, zero, suc, ◌+◌, ◌-◌, ◌<◌, ◌≤◌, List, [], ◌∷◌, ◌++◌, length, map, get_or, set, take, replicate, add-one, refl, sym, ap, subst, ◌∙◌, append_assoc, Global, arith}
+use Rattle.std.proofs.Math.Seq.{get_or-append_seam, map-set_same, set-append_seam, take-suc}
+use Rattle.std.proofs.lemmas.List.{append-nil, get_or-map, get_or-set_same, length-map, length-take-le, map-append, map-set, set-get_or, set-set}
 use Rattle.std.proofs.lemmas.Slice.Zip.{length-zip, get_or-zip}
 use Rattle.walk_laws.specs.declared.entry.Entry.{Entry}
 use Rattle.walk_laws.specs.Labelling.{label_row}
@@ -43,6 +43,34 @@ parts-set narrow wide i n w =
 pub parts-replicate : (n : ℕ) → rows_of_parts (replicate n []) (replicate n []) ≡ replicate n []
 parts-replicate zero = refl
 parts-replicate (suc n) = ap (λ rs. [] ∷ rs) (parts-replicate n)
+
+-- one more row of a list is copied, where the rows from its place on are empty
+pub copied_next : (list rows more : List (List Entry)) (n k : ℕ) → n ≡ length list → k < n → rows ≡ take k list ++ replicate (n - k) [] → more ≡ set rows k (get_or rows k [] ++ get_or list k []) → more ≡ take (k + 1) list ++ replicate (n - (k + 1)) []
+copied_next list rows more n k size lt are more_is =
+    let left : n - k ≡ suc (n - (k + 1)) = omega (arith, lt) in
+    let rest : replicate {A = List Entry} (n - k) [] ≡ [] ∷ replicate (n - (k + 1)) [] = ap (λ j. replicate j []) left in
+    let first : length (take k list) ≡ k = length-take-le k list (omega (arith, size, lt)) in
+    let now : rows ≡ take k list ++ [] ∷ replicate (n - (k + 1)) [] = are ∙ ap (λ rs. take k list ++ rs) rest in
+    let here : get_or rows k [] ≡ [] = ap (λ rs. get_or rs k []) now ∙ ap (λ i. get_or (take k list ++ [] ∷ replicate (n - (k + 1)) []) i []) (sym first) ∙ get_or-append_seam (take k list) [] (replicate (n - (k + 1)) []) [] in
+    more_is
+    ∙ ap (λ row. set rows k (row ++ get_or list k [])) here
+    ∙ ap (λ rs. set rs k (get_or list k [])) now
+    ∙ ap (λ i. set (take k list ++ [] ∷ replicate (n - (k + 1)) []) i (get_or list k [])) (sym first)
+    ∙ set-append_seam (take k list) [] (replicate (n - (k + 1)) []) (get_or list k [])
+    ∙ sym (append_assoc (take k list) (get_or list k [] ∷ []) (replicate (n - (k + 1)) []))
+    ∙ ap (λ rs. rs ++ replicate (n - (k + 1)) []) (sym (rw add-one (take-suc list k [] (omega (arith, size, lt)))))
+
+-- one more entry of a list stands last in a row
+pub put_next : (rows now more : List (List Entry)) (v i : ℕ) (es : List Entry) (d : Entry) → 1 ≤ v → v ≤ length rows → i < length es → now ≡ set rows (v - 1) (label_row rows v ++ take i es) → more ≡ with_entry now v (get_or es i d) → more ≡ set rows (v - 1) (label_row rows v ++ take (i + 1) es)
+put_next rows now more v i es d from_one within lt are more_is =
+    let row = label_row rows v ++ take i es in
+    let e = get_or es i d in
+    let here : label_row now v ≡ label_row rows v ++ take i es = ap (λ rs. label_row rs v) are ∙ get_or-set_same rows (v - 1) row [] (omega (arith, from_one, within)) in
+    more_is
+    ∙ ap (λ r. set now (v - 1) (r ++ e ∷ [])) here
+    ∙ ap (λ rs. set rs (v - 1) (row ++ e ∷ [])) are
+    ∙ set-set rows (v - 1) row (row ++ e ∷ [])
+    ∙ ap (set rows (v - 1)) (append_assoc (label_row rows v) (take i es) (e ∷ []) ∙ ap (λ xs. label_row rows v ++ xs) (sym (rw add-one (take-suc es i d lt))))
 
 -- a node that has a row has one of each part
 pub within_parts : (narrow : List (Vec NarrowEntry Global)) (wide rows : List (List Entry)) (v : ℕ) → rows_of_parts (narrow_lists narrow) wide ≡ rows → length narrow ≡ length wide → v ≤ length rows → v ≤ length wide

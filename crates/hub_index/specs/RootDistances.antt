@@ -1,5 +1,5 @@
 -- A root's hubs by position, and which entries of a row they cover (pruned landmark labelling, SIGMOD 2013).
-use Rattle.std.specs.Prelude.{◌≡◌, ◌↔◌, ℕ, ◌+◌, ◌<◌, ◌≤◌, min, List, Option, Some, None, Contains, slice_index_or, slice_set}
+use Rattle.std.specs.Prelude.{◌≡◌, ◌↔◌, ℕ, ◌+◌, ◌<◌, ◌≤◌, min, List, [], ◌∷◌, Option, Some, None, Contains, slice_index_or, slice_set}
 use Rattle.walk_laws.specs.declared.entry.Entry.{Entry}
 
 -- the distance at the position p, or None
@@ -14,6 +14,11 @@ lesser (Some known) d = min known d
 -- the table with the entry: its position has the lesser of the old and the new distance
 abbrev pub with_noted : List (Option ℕ) → Entry → List (Option ℕ)
 with_noted table e = slice_set table e.pos (Some (lesser (root_distance table e.pos) e.dist))
+
+-- the table in which the entries are noted, one after another
+abbrev pub noted : List (Option ℕ) → List Entry → List (Option ℕ)
+noted table [] = table
+noted table (e ∷ es) = noted (with_noted table e) es
 
 -- the entry makes one at the position p with distance d needless: its hub ranks above that of p, and its distance together with the root's is no longer than d
 pub record IsCover (table : List (Option ℕ)) (p d : ℕ) (e : Entry) : Type 0 where

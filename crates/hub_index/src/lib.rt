@@ -31,4 +31,5 @@ pub use root_table::{RootTable, covered};
 pub use row::Row;
 pub use row_list::RowList;
 pub use row_view::{Offer, RowView};
+pub use split_rows::SplitRows;
 pub use walk_laws::Entry;

@@ -1,7 +1,7 @@
 //! The row of a node in two parts: entries that take half the room of an [`Entry`], and from the first on whose distance is
 //! too great for that, whole entries.
 ghost use Rattle.std.specs.Prelude.{◌≡◌, ◌<◌, ◌≤◌, All, Contains, length, map, IfOk, IfSome, IfNone};
-ghost use Rattle.hub_index.specs.RootDistances.{IsCover, HoldsRow};
+ghost use Rattle.hub_index.specs.RootDistances.{noted, IsCover};
 ghost use Rattle.hub_index.specs.NarrowRows.{widened, row_of_parts};
 
 use crate::root_table::RootTable;
@@ -27,19 +27,15 @@ impl NarrowEntry {
     }
 }
 
-/// Makes the table hold the least distance of each position of the row in these parts, and nothing else. It takes no memory.
-pub fn load_parts(narrow: &[NarrowEntry], wide: &[Entry], table: &mut RootTable)
+/// Notes the entries of the row in these parts in the table, one after another. It takes no memory.
+pub fn note_parts(narrow: &[NarrowEntry], wide: &[Entry], table: &mut RootTable)
     requires { All (λ e. e.pos < length table.old) (row_of_parts narrow.now wide.now) }
-    ensures held { HoldsRow table.new (row_of_parts narrow.now wide.now) }
-    ensures size { length table.new ≡ length table.old }
+    ensures { table.new ≡ noted table.old (row_of_parts narrow.now wide.now) }
 {
-    table.clear();
     for entry in narrow {
         table.note(entry.widened());
     }
-    for entry in wide {
-        table.note(*entry);
-    }
+    table.note_row(wide);
 }
 
 /// One of the entries that covers one at the position `pos` with the distance `dist`, or None where none does.

@@ -1,5 +1,5 @@
 ghost use Rattle.std.specs.Prelude.{◌≡◌, ◌↔◌, ℕ, ◌<◌, ◌≤◌, Option, Some, None, All, length, replicate, take, slice_get, IfOk, IfSome, IfNone, IsTrue};
-ghost use Rattle.hub_index.specs.RootDistances.{root_distance, with_noted, IsCover, HoldsRow};
+ghost use Rattle.hub_index.specs.RootDistances.{root_distance, noted, with_noted, IsCover, HoldsRow};
 
 use std::alloc::{AllocError, Global};
 use std::marker::Model;
@@ -90,6 +90,16 @@ impl RootTable {
         }
     }
 
+    /// Notes the entries of a row, one after another. It takes no memory.
+    pub fn note_row(&mut self, row: &[Entry])
+        requires { All (λ e. e.pos < length self.old) row.now }
+        ensures { self.new ≡ noted self.old row.now }
+    {
+        for entry in row {
+            self.note(*entry);
+        }
+    }
+
     /// Forgets what it had, and notes the entries of the row: it then has the least distance of each of their positions, and
     /// nothing else. It costs what it had and the row, and takes no memory.
     pub fn load(&mut self, row: &[Entry])
@@ -98,9 +108,7 @@ impl RootTable {
         ensures size { length self.new ≡ length self.old }
     {
         self.clear();
-        for entry in row {
-            self.note(*entry);
-        }
+        self.note_row(row);
     }
 
     /// Whether the entry covers one at the position `pos` with the distance `dist`. One comparison refuses almost all

@@ -1,12 +1,12 @@
 //! The rows of a graph's nodes, split at the first entry whose distance doesn't fit in half the room.
-ghost use Rattle.std.specs.Prelude.{◌≡◌, ◌-◌, ◌^◌, ◌<◌, ◌≤◌, [], All, Contains, length, map, replicate, slice_set, vec_len, IfOk, IfSome, IfNone, OnOk, OnErr};
+ghost use Rattle.std.specs.Prelude.{◌≡◌, ◌-◌, ◌^◌, ◌<◌, ◌≤◌, [], ◌++◌, All, Contains, length, map, replicate, slice_set, vec_len, IfOk, IfSome, IfNone, OnOk, OnErr};
 ghost use Rattle.walk_laws.specs.declared.entry.Entry.{Entry as AnEntry};
 ghost use Rattle.walk_laws.specs.Labelling.{label_row};
 ghost use Rattle.hub_index.specs.HubIndex.{with_entry};
-ghost use Rattle.hub_index.specs.RootDistances.{IsCover, HoldsRow};
+ghost use Rattle.hub_index.specs.RootDistances.{noted, IsCover, HoldsRow};
 ghost use Rattle.hub_index.specs.Views.{IsAnswerOf, with_put};
 
-use crate::narrow_row::{NarrowEntry, joined_parts, load_parts, narrow_cover};
+use crate::narrow_row::{NarrowEntry, joined_parts, narrow_cover, note_parts};
 use crate::root_table::{RootTable, covered};
 use crate::row_list::RowList;
 use crate::row_view::Offer;
@@ -49,6 +49,41 @@ impl SplitRows {
         Ok(SplitRows { narrow, wide })
     }
 
+    /// Notes the entries of the row of the node `v`, a number from 1, in the table, one after another. It takes no memory.
+    pub fn note(&self, v: u32, table: &mut RootTable)
+        requires node { 1 ≤ v }
+        requires within { v ≤ length self.now }
+        requires positions { All (λ e. e.pos < length table.old) (label_row self.now v) }
+        ensures { table.new ≡ noted table.old (label_row self.now v) }
+    {
+        note_parts(&self.narrow[v as usize - 1], self.wide.row(v), table);
+    }
+
+    /// The rows of a list, with most entries in half the room. The only error is that memory ran out.
+    pub fn of(alloc: Global, list: &RowList) -> Result<SplitRows, AllocError>
+        ensures { IfOk result (λ rows. rows ≡ list.now) }
+    {
+        let n = list.n();
+        let mut rows = SplitRows::new(alloc, n)?;
+        for k in 0..n {
+            rows.push_all(k + 1, list.row(k + 1))?;
+        }
+        Ok(rows)
+    }
+
+    /// Puts the entries of another row last in the row of the node `v`, a number from 1, in their order. The only error is
+    /// that memory ran out.
+    fn push_all(&mut self, v: u32, entries: &[Entry]) -> Result<(), AllocError>
+        requires node { 1 ≤ v }
+        requires within { v ≤ length self.old }
+        ensures { OnOk result (self.new ≡ slice_set self.old (v - 1) (label_row self.old v ++ entries.now)) }
+    {
+        for entry in entries {
+            self.push(v, *entry)?;
+        }
+        Ok(())
+    }
+
     /// Makes the table hold the least distance of each position of the row of the node `v`, a number from 1, and nothing else.
     /// It takes no memory.
     pub fn load(&self, v: u32, table: &mut RootTable)
@@ -58,7 +93,8 @@ impl SplitRows {
         ensures held { HoldsRow table.new (label_row self.now v) }
         ensures size { length table.new ≡ length table.old }
     {
-        load_parts(&self.narrow[v as usize - 1], self.wide.row(v), table);
+        table.clear();
+        self.note(v, table);
     }
 
     /// Puts the entry last in the row of the node `v`, a number from 1, unless an entry of the row covers it by way of the
@@ -82,9 +118,9 @@ impl SplitRows {
         Offer::Put
     }
 
-    /// An entry of the row of the node `v` that covers one at the position `pos` with the distance `dist`, or None where none
-    /// does.
-    fn cover(&self, v: u32, table: &RootTable, pos: u32, dist: u64) -> Option<Entry>
+    /// An entry of the row of the node `v`, a number from 1, that covers one at the position `pos`, from 0, with the distance
+    /// `dist`, or None where none does.
+    pub fn cover(&self, v: u32, table: &RootTable, pos: u32, dist: u64) -> Option<Entry>
         requires node { 1 ≤ v }
         requires within { v ≤ length self.now }
         requires size { pos ≤ length table.now }
@@ -97,8 +133,9 @@ impl SplitRows {
         covered(self.wide.row(v), table, pos, dist)
     }
 
-    /// Puts the entry last in the row of the node `v`. The only error is that memory ran out, and then nothing has changed.
-    fn push(&mut self, v: u32, entry: Entry) -> Result<(), AllocError>
+    /// Puts the entry last in the row of the node `v`, a number from 1. The only error is that memory ran out, and then
+    /// nothing has changed.
+    pub fn push(&mut self, v: u32, entry: Entry) -> Result<(), AllocError>
         requires node { 1 ≤ v }
         requires within { v ≤ length self.old }
         ensures ok { OnOk result (self.new ≡ with_entry self.old v entry) }

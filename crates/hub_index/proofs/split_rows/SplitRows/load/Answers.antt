@@ -1,22 +1,14 @@
-use Rattle.std.proofs.Common.{◌<◌, All, length, sym, subst, arith}
-use Rattle.hub_index.specs.RootDistances.{HoldsRow}
-use Rattle.hub_index.proofs.PartedRows.{within_parts, row_read}
+use Rattle.std.proofs.Common.{◌<◌, All, length, sym, ap, subst, ◌∙◌}
+use Rattle.std.proofs.lemmas.List.{length-replicate}
+use Rattle.walk_laws.specs.Labelling.{label_row}
+use Rattle.hub_index.proofs.NotedRows.{HoldsRow-noted, length-noted}
 use Rattle.hub_index.proofs.split_rows.SplitRows.load.Goals as goal
 
-pub index-requires : goal.index-requires
-index-requires c =
-    let within = within_parts c.self.inside.narrow.items c.self.inside.wide c.args.self.now c.args.v c.self.view_is c.self.invariant.0 c.requires.within in
-    omega (arith, within, c.requires.node, c.self.inside.narrow.ok.0, c.self.invariant.0)
-
-pub row-requires-clause-within : goal.row-requires-clause-within
-row-requires-clause-within c = within_parts c.self.inside.narrow.items c.self.inside.wide c.args.self.now c.args.v c.self.view_is c.self.invariant.0 c.requires.within
-
-pub load_parts-requires : goal.load_parts-requires
-load_parts-requires c =
-    let row = row_read c.self.inside.narrow.items c.self.inside.wide c.args.self.now c.args.v c.index.result.now c.deref.result.now c.row.result.now c.self.view_is c.self.invariant.0 c.requires.node c.requires.within c.index.ensures c.deref.ensures.value c.row.ensures in
-    subst (λ row. All (λ e. e.pos < length c.args.table.now) row) (sym row) c.requires.positions
+pub note-requires-clause-positions : goal.note-requires-clause-positions
+note-requires-clause-positions c = subst (λ n. All (λ e. e.pos < n) (label_row c.args.self.now c.args.v)) (sym (ap length c.clear.ensures ∙ length-replicate (length c.args.table.now) _)) c.requires.positions
 
 pub returns-clause-held : goal.returns-clause-held
-returns-clause-held c =
-    let row = row_read c.self.inside.narrow.items c.self.inside.wide c.args.self.now c.args.v c.index.result.now c.deref.result.now c.row.result.now c.self.view_is c.self.invariant.0 c.requires.node c.requires.within c.index.ensures c.deref.ensures.value c.row.ensures in
-    subst (HoldsRow c.load_parts.new.table) row c.load_parts.ensures.held
+returns-clause-held c = HoldsRow-noted (length c.args.table.now) c.clear.new.self c.note.new.table (label_row c.args.self.now c.args.v) c.clear.ensures c.requires.positions c.note.ensures
+
+pub returns-clause-size : goal.returns-clause-size
+returns-clause-size c = ap length c.note.ensures ∙ length-noted c.clear.new.self (label_row c.args.self.now c.args.v) ∙ ap length c.clear.ensures ∙ length-replicate (length c.args.table.now) _
