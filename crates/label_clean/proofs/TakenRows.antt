@@ -1,36 +1,41 @@
 -- Rows that take in the entries of their nodes, one node after another.
-use Rattle.std.proofs.Common.{◌≡◌, ◌≢◌, ℕ, ◌+◌, ◌-◌, ◌<◌, ◌≤◌, inl, inr, List, [], ◌∷◌, ◌++◌, Vec, Global, Contains, length, get_or, set, reverse, refl, sym, ap, subst, ◌∙◌, arith}
+use Rattle.std.proofs.Common.{◌≡◌, ◌≢◌, ℕ, ◌+◌, ◌-◌, ◌<◌, ◌≤◌, inl, inr, List, [], ◌∷◌, ◌++◌, Contains, length, get_or, set, reverse, refl, sym, ap, subst, ◌∙◌, append_assoc, arith}
 use Rattle.std.proofs.lemmas.Bool.{cases_lt, cases_eq}
 use Rattle.std.proofs.Math.ListN.{length-set}
-use Rattle.std.proofs.lemmas.List.{append-nil, get_or_default, get_or-set_same, get_or-set_other, reverse-reverse}
+use Rattle.std.proofs.lemmas.List.{append-nil, get_or_default, get_or-set_same, get_or-set_other, reverse-reverse, set-set}
 use Rattle.walk_laws.specs.declared.entry.Entry.{Entry}
+use Rattle.walk_laws.specs.Labelling.{label_row}
 use Rattle.walk_laws.proofs.Members.{Contains-empty}
 use Rattle.hub_index.specs.declared.entry_sink.NodeEntry.{NodeEntry}
+use Rattle.hub_index.specs.HubIndex.{with_entry}
 use Rattle.hub_index.specs.Sunk.{entries_of_node, entry_of}
 use Rattle.hub_index.specs.Views.{IsNode}
-use Rattle.hub_index.proofs.GatheredRows.{row_before, row_now, row_other}
 use Rattle.label_clean.specs.declared.chains.Chains.{Chains}
 use Rattle.label_clean.specs.Chains.{AreChained, AreEmpty, head_of}
 use Rattle.label_clean.specs.Sorted.{IsSortedRow}
-use Rattle.label_clean.specs.Taken.{HasTaken, IsNeedlessAmong, row_of}
+use Rattle.label_clean.specs.Taken.{HasTaken, IsNeedlessAmong}
 use Rattle.label_clean.proofs.Chained.{backwards, no_more, one_more, whole_chain}
 use Rattle.label_clean.proofs.Covering.{entry, pos_of}
 use Rattle.label_clean.proofs.Meetings.{never_falls}
 use Rattle.label_clean.proofs.KeptEntries.{IsKept, IsKept-none, IsKept-rising, IsKept-with}
 
 -- a row that is put in the place of its node
-pub placed : (rows : List (Vec Entry Global)) (node : ℕ) (row : Vec Entry Global) → IsNode (length rows) node → row_of (set rows (node - 1) row) node ≡ row.items
-placed rows node row is =
-    let same : node - 1 + 1 ≡ node = omega (arith, is.from_one) in
-    subst (λ v. row_of (set rows (node - 1) row) v ≡ row.items) same (row_now rows (node - 1) row (omega (arith, is.from_one, is.up_to_n)))
+pub placed : (rows now : List (List Entry)) (node : ℕ) (row : List Entry) → IsNode (length rows) node → now ≡ set rows (node - 1) row → label_row now node ≡ row
+placed rows now node row here is = ap (λ rs. label_row rs node) is ∙ get_or-set_same rows (node - 1) row [] (omega (arith, here.from_one, here.up_to_n))
 
-pub row_there : (rows : List (Vec Entry Global)) (node : ℕ) (old : Vec Entry Global) → IsNode (length rows) node → old ≡ get_or rows (node - 1) old → row_of rows node ≡ old.items
-row_there rows node old is here =
-    let same : node - 1 + 1 ≡ node = omega (arith, is.from_one) in
-    subst (λ v. row_of rows v ≡ old.items) same (row_before rows (node - 1) old (omega (arith, is.from_one, is.up_to_n)) here)
+placed_other : (rows now : List (List Entry)) (node v : ℕ) (row : List Entry) → 1 ≤ v → 1 ≤ node → v ≢ node → now ≡ set rows (node - 1) row → label_row now v ≡ label_row rows v
+placed_other rows now node v row from_one node_from_one other is =
+    ap (λ rs. label_row rs v) is ∙ get_or-set_other rows (node - 1) (v - 1) row [] (λ same. other (omega (arith, same, from_one, node_from_one)))
 
-pub placed_other : (rows : List (Vec Entry Global)) (node v : ℕ) (row : Vec Entry Global) → 1 ≤ v → 1 ≤ node → v ≢ node → row_of (set rows (node - 1) row) v ≡ row_of rows v
-placed_other rows node v row from_one node_from_one other = row_other rows (node - 1) v row from_one (λ same. other (omega (arith, same, node_from_one)))
+-- one more entry is put in it
+pub placed_more : (rows now more : List (List Entry)) (node : ℕ) (before kept : List Entry) (e : Entry) → IsNode (length rows) node → now ≡ set rows (node - 1) (before ++ kept) → more ≡ with_entry now node e → more ≡ set rows (node - 1) (before ++ (kept ++ e ∷ []))
+placed_more rows now more node before kept e here is more_is =
+    let row = before ++ kept in
+    more_is
+    ∙ ap (λ r. set now (node - 1) (r ++ e ∷ [])) (placed rows now node row here is)
+    ∙ ap (λ rs. set rs (node - 1) (row ++ e ∷ [])) is
+    ∙ set-set rows (node - 1) row (row ++ e ∷ [])
+    ∙ ap (set rows (node - 1)) (append_assoc before kept (e ∷ []))
 
 module _ (at : List ℕ) (entries : ℕ → List Entry) (v : ℕ) where
   -- where a node has no entries, its row is as it was
@@ -67,21 +72,21 @@ module _ (at : List ℕ) (entries : ℕ → List Entry) (v : ℕ) where
     }
 
 -- the rows of the nodes whose last entry stands before the place k have taken in what they are to, and the others are as before
-pub record HasCome (at : List ℕ) (entries : List NodeEntry) (chains : Chains) (before rows : List (Vec Entry Global)) (k v : ℕ) : Type 0 where
-  pub taken : head_of chains v ≤ k → HasTaken at (entries_of_node entries) v (row_of before v) (row_of rows v)
-  pub left : k < head_of chains v → row_of rows v ≡ row_of before v
+pub record HasCome (at : List ℕ) (entries : List NodeEntry) (chains : Chains) (before rows : List (List Entry)) (k v : ℕ) : Type 0 where
+  pub taken : head_of chains v ≤ k → HasTaken at (entries_of_node entries) v (label_row before v) (label_row rows v)
+  pub left : k < head_of chains v → label_row rows v ≡ label_row before v
 
-module _ (at : List ℕ) (entries : List NodeEntry) (chains : Chains) (before : List (Vec Entry Global)) (chained : AreChained entries (length entries) chains) where
+module _ (at : List ℕ) (entries : List NodeEntry) (chains : Chains) (before : List (List Entry)) (chained : AreChained entries (length entries) chains) where
   -- a chain that is empty has no entry
   none_of : (v : ℕ) → IsNode (length chains.heads.items) v → head_of chains v ≤ 0 → (e : Entry) → ¬ Contains (entries_of_node entries v) e
   none_of v v_in low e there =
       let none = no_more entries chains.nexts.items (head_of chains v) (reverse (entries_of_node entries v)) (whole_chain entries chains chained v v_in) low in
       Contains-empty e (subst (λ es. Contains es e) none (((backwards (entries_of_node entries v)).each e).0 there))
 
-  pub HasCome-none : (rows : List (Vec Entry Global)) (v : ℕ) → IsNode (length chains.heads.items) v → rows ≡ before → HasCome at entries chains before rows 0 v
+  pub HasCome-none : (rows : List (List Entry)) (v : ℕ) → IsNode (length chains.heads.items) v → rows ≡ before → HasCome at entries chains before rows 0 v
   HasCome-none rows v v_in same = record {
-    taken = λ low. HasTaken-none at (entries_of_node entries) v (row_of before v) (row_of rows v) (none_of v v_in low) (ap (λ rs. row_of rs v) same);
-    left = λ past. ap (λ rs. row_of rs v) same;
+    taken = λ low. HasTaken-none at (entries_of_node entries) v (label_row before v) (label_row rows v) (none_of v v_in low) (ap (λ rs. label_row rs v) same);
+    left = λ past. ap (λ rs. label_row rs v) same;
   }
 
   module _ (k : ℕ) (d : NodeEntry) (within : k < length entries) where
@@ -96,7 +101,7 @@ module _ (at : List ℕ) (entries : List NodeEntry) (chains : Chains) (before : 
         sym known.1 ∙ ap (λ i. (get_or entries i d).node) place
 
     -- where it isn't the last one of its node, the rows stay as they are
-    pub HasCome-stays : (rows : List (Vec Entry Global)) → head_of chains node ≢ k + 1 → ((v : ℕ) → IsNode (length chains.heads.items) v → HasCome at entries chains before rows k v) → (v : ℕ) → IsNode (length chains.heads.items) v → HasCome at entries chains before rows (k + 1) v
+    pub HasCome-stays : (rows : List (List Entry)) → head_of chains node ≢ k + 1 → ((v : ℕ) → IsNode (length chains.heads.items) v → HasCome at entries chains before rows k v) → (v : ℕ) → IsNode (length chains.heads.items) v → HasCome at entries chains before rows (k + 1) v
     HasCome-stays rows other so_far v v_in = record {
       taken = λ low. elim (cases_eq (head_of chains v) (k + 1)) [
         | inl is ↦ absurd (other (ap (head_of chains) (sym (only_here v v_in is)) ∙ is))
@@ -106,23 +111,23 @@ module _ (at : List ℕ) (entries : List NodeEntry) (chains : Chains) (before : 
     }
 
     -- and where it is, its node's row takes them in
-    pub HasCome-more : (rows : List (Vec Entry Global)) (new : Vec Entry Global) → head_of chains node ≡ k + 1 → IsNode (length rows) node → IsNode (length chains.heads.items) node → HasTaken at (entries_of_node entries) node (row_of rows node) new.items
-        → ((v : ℕ) → IsNode (length chains.heads.items) v → HasCome at entries chains before rows k v) → (v : ℕ) → IsNode (length chains.heads.items) v → HasCome at entries chains before (set rows (node - 1) new) (k + 1) v
-    HasCome-more rows new is here node_in taken so_far v v_in = elim (cases_eq v node) [
-      | inl same ↦ subst (HasCome at entries chains before (set rows (node - 1) new) (k + 1)) (sym same) (record {
+    pub HasCome-more : (rows now : List (List Entry)) (row : List Entry) → head_of chains node ≡ k + 1 → IsNode (length rows) node → IsNode (length chains.heads.items) node → now ≡ set rows (node - 1) row → HasTaken at (entries_of_node entries) node (label_row rows node) row
+        → ((v : ℕ) → IsNode (length chains.heads.items) v → HasCome at entries chains before rows k v) → (v : ℕ) → IsNode (length chains.heads.items) v → HasCome at entries chains before now (k + 1) v
+    HasCome-more rows now row is here node_in now_is taken so_far v v_in = elim (cases_eq v node) [
+      | inl same ↦ subst (HasCome at entries chains before now (k + 1)) (sym same) (record {
         taken = λ low.
-            subst (λ row. HasTaken at (entries_of_node entries) node (row_of before node) row) (sym (placed rows node new here))
-            (subst (λ row. HasTaken at (entries_of_node entries) node row new.items) ((so_far node node_in).left (omega (arith, is))) taken);
+            subst (HasTaken at (entries_of_node entries) node (label_row before node)) (sym (placed rows now node row here now_is))
+            (subst (λ was. HasTaken at (entries_of_node entries) node was row) ((so_far node node_in).left (omega (arith, is))) taken);
         left = λ past. absurd (omega (arith, past, is));
       })
       | inr other ↦
-          let now = placed_other rows node v new v_in.from_one here.from_one other in
+          let stays = placed_other rows now node v row v_in.from_one here.from_one other now_is in
           record {
-            taken = λ low. subst (HasTaken at (entries_of_node entries) v (row_of before v)) (sym now) (elim (cases_eq (head_of chains v) (k + 1)) [
+            taken = λ low. subst (HasTaken at (entries_of_node entries) v (label_row before v)) (sym stays) (elim (cases_eq (head_of chains v) (k + 1)) [
               | inl last ↦ absurd (other (only_here v v_in last))
               | inr apart ↦ (so_far v v_in).taken (omega (arith, low, apart))
             ]);
-            left = λ past. now ∙ (so_far v v_in).left (omega (arith, past));
+            left = λ past. stays ∙ (so_far v v_in).left (omega (arith, past));
           }
     ]
 

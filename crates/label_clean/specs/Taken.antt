@@ -1,14 +1,8 @@
 -- Rows that take later entries in, but for the needless ones.
-use Rattle.std.specs.Prelude.{◌≡◌, ◌↔◌, ℕ, ◌++◌, List, Some, Vec, Contains, map, slice_get}
-use Rattle.std.specs.declared.alloc.Global.{Global}
+use Rattle.std.specs.Prelude.{◌≡◌, ◌↔◌, ℕ, ◌++◌, List, Some, Contains, map, slice_get}
 use Rattle.std.specs.List.Sorted.{IsStrictlyIncreasing}
 use Rattle.walk_laws.specs.declared.entry.Entry.{Entry}
-use Rattle.walk_laws.specs.Labelling.{label_row}
 use Rattle.label_clean.specs.Needless.{IsCovered}
-
--- the row of the node v, where rows are vectors
-abbrev pub row_of : List (Vec Entry Global) → ℕ → List Entry
-row_of rows v = label_row (map (λ row. row.items) rows) v
 
 -- the entry of v is covered by the entries of its hub and of v
 pub record IsNeedlessAmong (at : List ℕ) (entries : ℕ → List Entry) (v : ℕ) (e : Entry) : Type 0 where

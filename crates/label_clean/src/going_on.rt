@@ -10,7 +10,7 @@ ghost use Rattle.label_clean.specs.Needless.{IsNeedless};
 
 use crate::chains::Chains;
 use crate::taking::take_in;
-use hub_index::{NodeEntry, RowList};
+use hub_index::{NodeEntry, SplitRows};
 use rank_table::Ranking;
 use std::alloc::{AllocError, Global};
 use std::marker::Model;
@@ -54,16 +54,16 @@ impl Cleaner {
     /// in the rows of their nodes, at most one of each hub, and every canonical one, Ok is exactly the canonical ones up to
     /// that position, each row by rising position. The fresh entries come in any order, and the global rows cover none of
     /// them: so an entry is needless just where the fresh parts of two rows cover it, and these parts alone are gone through.
-    /// The fresh entries of a node are put after its row in place, but for the needless ones: it costs the fresh entries, and
-    /// neither rows nor tables of n nodes are made. The cleaner comes back. The only error is that memory ran out, and then both
-    /// are given up. (Planting Trees, PVLDB 2019.)
+    /// The fresh entries of a node are put after its row in place, but for the needless ones, each in 8 bytes where its distance
+    /// and those before it fit: it costs the fresh entries, and neither rows nor tables of n nodes are made. The cleaner comes
+    /// back. The only error is that memory ran out, and then both are given up. (Planting Trees, PVLDB 2019.)
     pub fn go_on(
         self,
         ranking: &Ranking,
-        global: RowList,
+        global: SplitRows,
         first: u32,
         fresh: &[NodeEntry],
-    ) -> Result<(RowList, Cleaner), AllocError>
+    ) -> Result<(SplitRows, Cleaner), AllocError>
         requires cleaner { self ≡ length ranking.now }
         requires first { first ≤ length ranking.now }
         requires size { length global ≡ length ranking.now }
@@ -83,9 +83,9 @@ impl Cleaner {
             mut row,
         } = self;
         chains.put_all(fresh)?;
-        let mut rows = global.into_rows();
+        let mut rows = global;
         take_in(ranking, fresh, &chains, &mut row, &mut rows)?;
         chains.clear(fresh);
-        Ok((RowList::from_rows(rows), Cleaner { n, chains, row }))
+        Ok((rows, Cleaner { n, chains, row }))
     }
 }

@@ -1,15 +1,16 @@
 //! Rows that take later entries in, but for the needless ones.
-ghost use Rattle.std.specs.Prelude.{◌≡◌, ◌↔◌, ℕ, ◌<◌, All, length, map, OnOk, IsTrue};
+ghost use Rattle.std.specs.Prelude.{◌≡◌, ◌↔◌, ℕ, ◌-◌, ◌<◌, All, length, map, slice_set, OnOk, IsTrue};
 ghost use Rattle.std.specs.List.Sorted.{IsStrictlyIncreasing};
+ghost use Rattle.walk_laws.specs.Labelling.{label_row};
 ghost use Rattle.hub_index.specs.Sunk.{entries_of_node};
 ghost use Rattle.hub_index.specs.Views.{IsNode};
 ghost use Rattle.label_clean.specs.Chains.{AreChained};
 ghost use Rattle.label_clean.specs.RawRows.{HasEachOnce};
 ghost use Rattle.label_clean.specs.Sorted.{IsSortedRow};
-ghost use Rattle.label_clean.specs.Taken.{HasTaken, IsNeedlessAmong, row_of};
+ghost use Rattle.label_clean.specs.Taken.{HasTaken, IsNeedlessAmong};
 
 use crate::chains::Chains;
-use hub_index::NodeEntry;
+use hub_index::{NodeEntry, SplitRows};
 use rank_table::Ranking;
 use std::alloc::AllocError;
 use walk_laws::Entry;
@@ -22,16 +23,16 @@ pub fn take_in(
     entries: &[NodeEntry],
     chains: &Chains,
     row: &mut Vec<Entry>,
-    rows: &mut Vec<Vec<Entry>>,
+    rows: &mut SplitRows,
 ) -> Result<(), AllocError>
     requires chained { AreChained entries.now (length entries.now) chains.now }
     requires heads { length chains.now.heads.items ≡ length ranking.now }
-    requires rows { length rows.old.items ≡ length ranking.now }
+    requires rows { length rows.old ≡ length ranking.now }
     requires nodes { All (λ e. IsNode (length ranking.now) e.node) entries.now }
     requires within { (v : ℕ) → IsNode (length ranking.now) v → All (λ e. e.pos < length ranking.now) (entries_of_node entries.now v) }
     requires once { (v : ℕ) → IsNode (length ranking.now) v → HasEachOnce (entries_of_node entries.now v) }
-    ensures rows { length rows.new.items ≡ length rows.old.items }
-    ensures taken { OnOk result ((v : ℕ) → IsNode (length ranking.now) v → HasTaken ranking.now (entries_of_node entries.now) v (row_of rows.old.items v) (row_of rows.new.items v)) }
+    ensures rows { length rows.new ≡ length rows.old }
+    ensures taken { OnOk result ((v : ℕ) → IsNode (length ranking.now) v → HasTaken ranking.now (entries_of_node entries.now) v (label_row rows.old v) (label_row rows.new v)) }
 {
     for k in 0..entries.len() {
         let node = entries[k].node;
@@ -40,43 +41,38 @@ pub fn take_in(
             continue;
         }
         if chains.nexts[k] == 0 {
-            rows[place].push(entries[k].entry())?;
+            rows.push(node, entries[k].entry())?;
             continue;
         }
         chains.row_of(entries, node, row)?;
-        add_kept(
-            ranking,
-            entries,
-            chains,
-            row.as_slice(),
-            node,
-            &mut rows[place],
-        )?;
+        add_kept(ranking, entries, chains, row.as_slice(), node, rows)?;
     }
     Ok(())
 }
 
-/// Puts the entries of the node `v`, a number from 1, which are those of a row by rising position, after others, but for the
-/// needless ones. The only error is that memory ran out.
+/// Puts the entries of the node `v`, which are those of a row by rising position, after its row, but for the needless ones. No
+/// other row changes. The only error is that memory ran out.
 fn add_kept(
     ranking: &Ranking,
     entries: &[NodeEntry],
     chains: &Chains,
     row: &[Entry],
     v: u32,
-    others: &mut Vec<Entry>,
+    rows: &mut SplitRows,
 ) -> Result<(), AllocError>
     requires chained { AreChained entries.now (length entries.now) chains.now }
     requires heads { length chains.now.heads.items ≡ length ranking.now }
     requires row { IsSortedRow (entries_of_node entries.now v) row.now }
     requires positions { All (λ e. e.pos < length ranking.now) row.now }
-    ensures { OnOk result (HasTaken ranking.now (entries_of_node entries.now) v others.old.items others.new.items) }
+    requires node { IsNode (length rows.old) v }
+    ensures taken { OnOk result (HasTaken ranking.now (entries_of_node entries.now) v (label_row rows.old v) (label_row rows.new v)) }
+    ensures others { rows.new ≡ slice_set rows.old (v - 1) (label_row rows.new v) }
 {
     for (place, entry) in row.iter().enumerate() {
         if place > 0 && is_needless(ranking, entries, chains, row, *entry) {
             continue;
         }
-        others.push(*entry)?;
+        rows.push(v, *entry)?;
     }
     Ok(())
 }

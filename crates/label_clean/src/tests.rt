@@ -2,7 +2,7 @@ ghost use Rattle.std.specs.Prelude.{◌≡◌, ℕ, [], ◌∷◌, IfOk};
 ghost use Rattle.walk_laws.specs.Worked.{entry as entry_of, first_four};
 
 use crate::{Cleaner, clean, survivors};
-use hub_index::{NodeEntry, RowList};
+use hub_index::{NodeEntry, RowList, SplitRows};
 use rank_table::Ranking;
 use std::alloc::Global;
 use std::test::Fail;
@@ -153,7 +153,8 @@ fn fresh_entries(alloc: Global) -> Result<Vec<NodeEntry>, Fail>
 #[test]
 fn a_table_is_gone_on_with_in_place(rt: HostRuntime) -> Result<(), Fail> {
     let ranking = one_to_four(rt.alloc())?;
-    let global = first_hub(rt.alloc())?;
+    let first_rows = first_hub(rt.alloc())?;
+    let global = SplitRows::of(rt.alloc(), &first_rows)?;
     let fresh = fresh_entries(rt.alloc())?;
     let table: [&[Entry]; 4] = [
         &[entry(0, 0)],
@@ -163,6 +164,7 @@ fn a_table_is_gone_on_with_in_place(rt: HostRuntime) -> Result<(), Fail> {
     ];
     let cleaner = Cleaner::new(rt.alloc(), 4)?;
     let (rows, _cleaner) = cleaner.go_on(&ranking, global, 1, fresh.as_slice())?;
+    let rows = rows.into_rows(rt.alloc())?;
     assert_eq!(rt; rows.n(), 4);
     for (place, row) in table.iter().enumerate() {
         let v = place as u32 + 1;
@@ -197,7 +199,7 @@ fn all_fresh(alloc: Global) -> Result<Vec<NodeEntry>, Fail>
 #[test]
 fn a_fresh_entry_covers_another(rt: HostRuntime) -> Result<(), Fail> {
     let ranking = one_to_four(rt.alloc())?;
-    let none = RowList::new(rt.alloc(), 4)?;
+    let none = SplitRows::new(rt.alloc(), 4)?;
     let fresh = all_fresh(rt.alloc())?;
     let table: [&[Entry]; 4] = [
         &[entry(0, 0)],
@@ -207,6 +209,7 @@ fn a_fresh_entry_covers_another(rt: HostRuntime) -> Result<(), Fail> {
     ];
     let cleaner = Cleaner::new(rt.alloc(), 4)?;
     let (rows, _cleaner) = cleaner.go_on(&ranking, none, 0, fresh.as_slice())?;
+    let rows = rows.into_rows(rt.alloc())?;
     assert_eq!(rt; rows.n(), 4);
     for (place, row) in table.iter().enumerate() {
         let v = place as u32 + 1;

@@ -1,10 +1,11 @@
-use Rattle.std.proofs.Common.{◌≡◌, false, [], ◌∷◌, ◌++◌, append_assoc, get_or, ap, subst, ◌∙◌, arith}
+use Rattle.std.proofs.Common.{◌≡◌, false, [], ◌∷◌, ◌++◌, get_or, subst, arith}
 use Rattle.std.specs.Prelude.{IsTrue}
 use Rattle.walk_laws.specs.declared.entry.Entry.{Entry}
+use Rattle.walk_laws.specs.Labelling.{label_row}
 use Rattle.hub_index.specs.Sunk.{entries_of_node}
 use Rattle.label_clean.specs.Taken.{IsNeedlessAmong}
 use Rattle.label_clean.proofs.KeptEntries.{IsKept-with, IsKept-without, IsKept-whole}
-use Rattle.label_clean.proofs.TakenRows.{first_stays, HasTaken-kept}
+use Rattle.label_clean.proofs.TakenRows.{first_stays, placed, placed_more, HasTaken-kept}
 use Rattle.label_clean.proofs.taking.add_kept.Goals as goal
 use Rattle.label_clean.proofs.taking.add_kept.Goals.{else-place-gt0-via-then-place-gt0+else-is_needless, else-place-gt0-via-else-place-gt0}
 
@@ -34,13 +35,14 @@ loop-place-preserved c =
           first_stays c.args.ranking.now (entries_of_node c.args.entries.now) c.args.v row c.requires.row nothing (omega (arith, c.loop-place-test.true)) (subst (λ k. P (get_or c.args.row.now k nothing)) is bad)
     ] in (
       was.0 ++ e ∷ [],
-      c.in_ok-push.ensures.items ∙ ap (λ xs. xs ++ e ∷ []) was.1 ∙ append_assoc c.args.others.now.items was.0 (e ∷ []),
+      placed_more c.args.rows.now c.loop-place.rows c.push.new.self c.args.v (label_row c.args.rows.now c.args.v) was.0 e c.requires.node was.1 c.in_ok-push.ensures.ok,
       IsKept-with P row was.0 c.loop-place.place nothing c.loop-place-test.true was.2 c.requires.row.rising good,
     )
 
-pub returns : goal.returns
-returns c =
+pub returns-clause-taken : goal.returns-clause-taken
+returns-clause-taken c =
     let P = IsNeedlessAmong c.args.ranking.now (entries_of_node c.args.entries.now) c.args.v in
     let all = c.loop-place.invariant in
-    HasTaken-kept c.args.ranking.now (entries_of_node c.args.entries.now) c.args.v c.args.row.now c.requires.row c.args.others.now.items c.loop-place.others.items all.0
-    (IsKept-whole P c.args.row.now all.0 c.loop-place.place c.loop-place-test.false all.2) all.1
+    HasTaken-kept c.args.ranking.now (entries_of_node c.args.entries.now) c.args.v c.args.row.now c.requires.row (label_row c.args.rows.now c.args.v) (label_row c.loop-place.rows c.args.v) all.0
+    (IsKept-whole P c.args.row.now all.0 c.loop-place.place c.loop-place-test.false all.2)
+    (placed c.args.rows.now c.loop-place.rows c.args.v (label_row c.args.rows.now c.args.v ++ all.0) c.requires.node all.1)
