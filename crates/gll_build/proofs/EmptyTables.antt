@@ -1,9 +1,8 @@
 -- A table with no entry is the labelling up to no position.
-use Rattle.std.proofs.Common.{◌≡◌, ℕ, ◌<◌, ◌≤◌, List, [], length, replicate, sym, subst, ◌∙◌, arith}
+use Rattle.std.proofs.Common.{◌≡◌, ℕ, List, [], length, replicate, sym, subst, ◌∙◌, arith}
 use Rattle.std.proofs.lemmas.List.{length-replicate}
 use Rattle.walk_laws.specs.declared.graph.Edge.{Edge}
 use Rattle.walk_laws.specs.declared.entry.Entry.{Entry}
-use Rattle.walk_laws.specs.Labelling.{label_row}
 use Rattle.walk_laws.proofs.Members.{Contains-empty}
 use Rattle.label_clean.specs.Below.{IsChlBelow, IsRowBelow}
 use Rattle.label_clean.proofs.RowFacts.{label_row-replicate}

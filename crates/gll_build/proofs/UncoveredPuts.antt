@@ -1,10 +1,8 @@
 -- What the trees of a superstep put: the global table, over which they grew, covers none of it.
 use Rattle.std.proofs.Common.{◌≡◌, inl, inr, ℕ, List, [], ◌++◌, Contains, length, sym, subst, arith}
 use Rattle.std.specs.Prelude.{Result, reverse}
-use Rattle.std.specs.List.Sorted.{IsPermutation}
 use Rattle.std.specs.declared.alloc.AllocError.{AllocError}
-use Rattle.std.proofs.lemmas.List.Elements.{All-append, All-nil, All-push, Contains-append_left}
-use Rattle.std.proofs.lemmas.List.Sorted.{All-permutation}
+use Rattle.std.proofs.lemmas.List.Elements.{All-nil, All-push, Contains-append_left}
 use Rattle.walk_laws.specs.declared.graph.Edge.{Edge}
 use Rattle.walk_laws.specs.declared.entry.Entry.{Entry}
 use Rattle.walk_laws.specs.Labelling.{label_row}
@@ -15,7 +13,6 @@ use Rattle.pruned_tree.specs.Grown.{IsGrown}
 use Rattle.pool_view.specs.Seen.{seen_chain}
 use Rattle.pool_view.specs.Viewing.{Viewing, puts_row, seen_row}
 use Rattle.gll_build.specs.Shares.{AreUncovered, StayUncovered}
-use Rattle.gll_build.proofs.PutBy.{shuffled}
 
 module _ (at : List ℕ) where
   -- a row of the global table alone stands in the row that a view saw
@@ -62,14 +59,3 @@ module _ (at : List ℕ) where
   pub AreUncovered-from_nothing : (global : List (List Entry)) (before after entries : ℕ → List Entry) → StayUncovered at global before after → ((v : ℕ) → IsNode (length at) v → before v ≡ []) → ((v : ℕ) → after v ≡ entries v) → (v : ℕ) → IsNode (length at) v → AreUncovered at global v (entries v)
   AreUncovered-from_nothing global before after entries stay empty same v node =
       subst (AreUncovered at global v) (same v) (stay v node (subst (AreUncovered at global v) (sym (empty v node)) (All-nil (λ e. ¬ IsNeedless at [] global v e))))
-
-  -- in another order
-  pub AreUncovered-moved : (global : List (List Entry)) (v : ℕ) (xs ys : List Entry) → IsPermutation xs ys → AreUncovered at global v xs → AreUncovered at global v ys
-  AreUncovered-moved global v xs ys moved all = All-permutation (λ e. ¬ IsNeedless at [] global v e) xs ys moved all
-
-  -- what some workers put, and another one
-  pub AreUncovered-both : (global : List (List Entry)) (v : ℕ) (a x b y all rest : List Entry) → AreUncovered at global v (a ++ x) → AreUncovered at global v (b ++ y) → all ≡ a ++ b → rest ≡ x ++ y → AreUncovered at global v (all ++ rest)
-  AreUncovered-both global v a x b y all rest one two all_is rest_is =
-      subst (λ l. AreUncovered at global v (l ++ rest)) (sym all_is)
-      (subst (λ l. AreUncovered at global v ((a ++ b) ++ l)) (sym rest_is)
-      (AreUncovered-moved global v ((a ++ x) ++ (b ++ y)) ((a ++ b) ++ (x ++ y)) (shuffled a x b y) (All-append (λ e. ¬ IsNeedless at [] global v e) (a ++ x) (b ++ y) one two)))

@@ -1,5 +1,5 @@
 -- The workers of a superstep: what each takes, what each hands back, and what all hand back together.
-use Rattle.std.specs.Prelude.{◌≡◌, ◌⊎◌, ℕ, ◌≤◌, true, false, List, [], ◌++◌, Some, None, Ok, All, Contains, IfOk, length, map, nat_eq, replicate}
+use Rattle.std.specs.Prelude.{◌≡◌, ◌⊎◌, ℕ, ◌≤◌, true, false, List, [], Some, None, All, Contains, IfOk, length, map, nat_eq, replicate}
 use Rattle.std.specs.List.{IsDistinct}
 use Rattle.walk_laws.specs.declared.graph.Edge.{Edge}
 use Rattle.walk_laws.specs.declared.entry.Entry.{Entry}
@@ -8,8 +8,7 @@ use Rattle.walk_laws.specs.Labelling.{EntryFits, IsHubEntry}
 use Rattle.hub_index.specs.declared.entry_sink.NodeEntry.{NodeEntry}
 use Rattle.hub_index.specs.Sunk.{entries_of_node}
 use Rattle.hub_index.specs.Views.{IsNode}
-use Rattle.root_claims.specs.Seats.{ClaimsId, IsSeatOf as IsClaimSeatOf}
-use Rattle.label_pool.specs.Chains.{entries_at}
+use Rattle.root_claims.specs.Seats.{Claimed, ClaimsId, IsSeatOf as IsClaimSeatOf}
 use Rattle.label_pool.specs.Seats.{PoolId, IsSeatOf}
 use Rattle.label_clean.specs.Needless.{IsNeedless}
 use Rattle.pool_view.specs.Fitting.{Fitting, IsFittingPool, edges_of, order_of}
@@ -44,9 +43,10 @@ pub record IsPoolOf (edges : List Edge) (order : List ℕ) (pool : PoolId Fittin
 abbrev pub nothing_of : ℕ → List (List Entry)
 nothing_of n = replicate n []
 
--- memory for trees over n nodes, and empty rows
+-- memory for trees over n nodes, empty rows and an empty list
 pub record IsBenchFor (n : ℕ) (bench : Bench) : Type 0 where
   pub own : bench.own ≡ nothing_of n
+  pub list : bench.list.items ≡ []
   pub work : bench.work ≡ n
 
 -- a worker at such a bench, with new seats
@@ -55,8 +55,8 @@ pub record IsReady (claims : ClaimsId) (pool : PoolId Fitting) (n : ℕ) (worker
   pub there : worker.share ≡ Some share
   pub of : AreSeatsOf claims pool 0 share.seats
   pub new : AreNew share.seats
-  pub own : share.own ≡ Ok (nothing_of n)
-  pub kept : share.kept.items ≡ []
+  pub own : share.own ≡ nothing_of n
+  pub list : share.list.items ≡ []
   pub work : worker.work ≡ n
 
 -- the global rows of the hub of each entry and of the node v cover none
@@ -67,9 +67,9 @@ AreUncovered at global v entries = All (λ e. ¬ IsNeedless at [] global v e) en
 abbrev pub StayUncovered : List ℕ → List (List Entry) → (ℕ → List Entry) → (ℕ → List Entry) → Type 0
 StayUncovered at global before after = (v : ℕ) → IsNode (length at) v → AreUncovered at global v (before v) → AreUncovered at global v (after v)
 
--- some root was claimed, or none was left
-abbrev pub HasBegun : Seats → Type 0
-HasBegun seats = (seats.claims.over ≡ true) ⊎ (1 ≤ length seats.claims.got)
+-- some root was claimed with the seat, or none was left
+abbrev pub HasBegun : Claimed → Type 0
+HasBegun seat = (seat.over ≡ true) ⊎ (1 ≤ length seat.got)
 
 -- the entries, in any order, are what the trees of these roots put at v: such as may stand in its row, at most one for each root and none for another, and each root that is a hub of v
 pub record IsPutBy (edges : List Edge) (at roots : List ℕ) (v : ℕ) (entries : List Entry) : Type 0 where
@@ -78,27 +78,29 @@ pub record IsPutBy (edges : List Edge) (at roots : List ℕ) (v : ℕ) (entries 
   pub of_roots : All (λ e. Contains roots e.pos) entries
   pub hubs : (e : Entry) → IsHubEntry (Joined edges) at v e → Contains roots e.pos → Contains entries e
 
--- the trees of all roots that were claimed with the seats are grown: what they put is in the pool and among the entries kept, and this global table covers none of it
-pub record HavePut (edges : List Edge) (at : List ℕ) (global : List (List Entry)) (seats : Seats) (kept : List NodeEntry) : Type 0 where
-  pub nodes : All (λ e. IsNode (length at) e.node) kept
-  pub put : (v : ℕ) → IsNode (length at) v → IsPutBy edges at seats.claims.got v (entries_at seats.pool.puts v ++ entries_of_node kept v)
-  pub apart : (v : ℕ) → IsNode (length at) v → AreUncovered at global v (entries_at seats.pool.puts v ++ entries_of_node kept v)
+-- the list is what the trees of these roots put, and this global table covers none of it
+pub record HavePut (edges : List Edge) (at : List ℕ) (global : List (List Entry)) (roots : List ℕ) (list : List NodeEntry) : Type 0 where
+  pub nodes : All (λ e. IsNode (length at) e.node) list
+  pub put : (v : ℕ) → IsNode (length at) v → IsPutBy edges at roots v (entries_of_node list v)
+  pub apart : (v : ℕ) → IsNode (length at) v → AreUncovered at global v (entries_of_node list v)
 
--- some root was claimed with the share, or none was left; and where memory sufficed the trees of all that were claimed are grown over this global table, and the rows are empty again
+-- some root was claimed with the share, or none was left; the rows are empty again; and where memory sufficed the trees of all roots that were claimed are grown over this global table, and the list is what they put
 pub record IsDone (edges : List Edge) (at : List ℕ) (global : List (List Entry)) (share : Share) : Type 0 where
-  pub begun : HasBegun share.seats
-  pub sufficed : IfOk share.own (λ own. (own ≡ nothing_of (length at)) × HavePut edges at global share.seats share.kept.items)
+  pub begun : HasBegun share.seats.claims
+  pub own : share.own ≡ nothing_of (length at)
+  pub sufficed : IfOk share.memory (λ _. HavePut edges at global share.seats.claims.got share.list.items)
 
 -- a worker that has grown all trees of its share
-pub record HasWorked (claims : ClaimsId) (pool : PoolId Fitting) (edges : List Edge) (at : List ℕ) (global : List (List Entry)) (worker : Worker) : Type 0 where
+pub record HasWorked (claims : ClaimsId) (edges : List Edge) (at : List ℕ) (global : List (List Entry)) (worker : Worker) : Type 0 where
   pub share : Share
   pub there : worker.share ≡ Some share
-  pub of : AreSeatsOf claims pool 0 share.seats
+  pub of : IsClaimSeatOf claims share.seats.claims
+  pub left : share.seats.claims.left ≡ 0
   pub done : IsDone edges at global share
   pub work : worker.work ≡ length at
 
--- what some workers hand back: seats with which some root was claimed, or none was left, what their trees put over this global table, and their benches
+-- what some workers hand back: a seat with which some root was claimed, or none was left, what the trees of all that were claimed put over this global table, and their benches
 pub record IsHarvest (edges : List Edge) (at : List ℕ) (global : List (List Entry)) (harvest : Harvest) : Type 0 where
-  pub begun : HasBegun harvest.seats
-  pub whole : HavePut edges at global harvest.seats harvest.kept.items
+  pub begun : HasBegun harvest.seat
+  pub whole : HavePut edges at global harvest.seat.got harvest.fresh.items
   pub benches : All (IsBenchFor (length at)) harvest.benches.items

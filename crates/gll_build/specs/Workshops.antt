@@ -1,5 +1,5 @@
 -- What a build takes once, and what a superstep gives.
-use Rattle.std.specs.Prelude.{◌≡◌, ℕ, ◌<◌, ◌≤◌, List, All, length}
+use Rattle.std.specs.Prelude.{◌≡◌, ℕ, ◌<◌, ◌≤◌, List, [], All, length}
 use Rattle.walk_laws.specs.declared.graph.Edge.{Edge}
 use Rattle.walk_laws.specs.declared.entry.Entry.{Entry}
 use Rattle.hub_index.specs.Sunk.{entries_of_node}
@@ -11,12 +11,13 @@ use Rattle.gll_build.specs.declared.step.Progress.{Progress}
 use Rattle.gll_build.specs.declared.step.Workshop.{Workshop}
 use Rattle.gll_build.specs.Shares.{AreUncovered, IsBenchFor}
 
--- benches for 1 to 64 workers, and a cleaner, all for n nodes
+-- benches for 1 to 64 workers, and a cleaner, all for n nodes, and an empty list
 pub record IsWorkshopFor (n : ℕ) (workshop : Workshop) : Type 0 where
   pub some : 1 ≤ length workshop.benches.items
   pub few : length workshop.benches.items ≤ 64
   pub benches : All (IsBenchFor n) workshop.benches.items
   pub cleaner : workshop.cleaner ≡ n
+  pub spare : workshop.spare.items ≡ []
 
 -- what the trees of the roots from the first up to the next one put over this global table, which covers none of it; there is one root at least
 pub record IsGrownFrom (edges : List Edge) (at : List ℕ) (global : List (List Entry)) (first : ℕ) (grown : Grown) : Type 0 where

@@ -5,7 +5,7 @@ ghost use Rattle.label_clean.specs.Below.{IsChlBelow};
 
 use crate::step::{Progress, Workshop, next_step};
 use desk_io::Gate;
-use hub_index::{Index, RowList};
+use hub_index::{Index, RowList, SplitRows};
 use label_clean::laws::the_whole_is_the_labelling;
 use rank_table::Ranking;
 use renumbering::WorkingCopy;
@@ -61,13 +61,13 @@ fn all_steps<R: Threads + Wait + Sync, G: Gate + Sync>(
     prove!(n == ranked);
     let mut workshop = Workshop::new(alloc, n, workers)?;
     let mut progress = Progress {
-        rows: RowList::new(alloc, n)?,
+        rows: SplitRows::new(alloc, n)?,
         next: 0,
     };
     while progress.next < n {
         (progress, workshop) = next_step(rt, alloc, graph, ranking, progress, cut, workshop, gate)?;
     }
-    Ok(progress.rows)
+    progress.rows.into_rows(alloc)
 }
 
 /// One superstep: of a table that is the canonical hub labelling up to the position `first`, the one up to the position of
@@ -99,12 +99,12 @@ pub fn superstep<R: Threads + Wait + Sync, G: Gate + Sync>(
     prove!(n == ranked);
     let workshop = Workshop::new(alloc, n, workers)?;
     let progress = Progress {
-        rows: global,
+        rows: SplitRows::of(alloc, &global)?,
         next: first,
     };
     let (progress, _workshop) = next_step(
         rt, alloc, graph, ranking, progress, cut, workshop, gate,
     )?;
     let Progress { rows, next } = progress;
-    Ok((rows, next))
+    Ok((rows.into_rows(alloc)?, next))
 }

@@ -6,7 +6,7 @@ ghost use Rattle.gll_build.specs.Shares.{HasWorked, IsPoolOf, IsReady};
 
 use crate::workers::Worker;
 use desk_io::Gate;
-use hub_index::RowList;
+use hub_index::SplitRows;
 use label_pool::Pool;
 use pool_view::Fits;
 use rank_table::Ranking;
@@ -27,7 +27,7 @@ pub fn grow_all<R: Threads + Wait + Sync, G: Gate + Sync>(
     ranking: &Ranking,
     claims: &Claims,
     pool: &Pool<Fits>,
-    global: &RowList,
+    global: &SplitRows,
     cut: u32,
     gate: &G,
     workers: &mut [Worker],
@@ -38,7 +38,7 @@ pub fn grow_all<R: Threads + Wait + Sync, G: Gate + Sync>(
     requires global { IsGathered graph.now.edges ranking.now global.now }
     requires ready { All (IsReady claims.now pool.now (length ranking.now)) workers.old }
     ensures size { length workers.new ≡ length workers.old }
-    ensures worked { All (HasWorked claims.now pool.now graph.now.edges ranking.now global.now) workers.new }
+    ensures worked { All (HasWorked claims.now graph.now.edges ranking.now global.now) workers.new }
 {
     let Some((first, others)) = workers.split_first_mut() else {
         return;
@@ -61,7 +61,7 @@ fn grow_beside<R: Threads + Wait + Sync, G: Gate + Sync>(
     ranking: &Ranking,
     claims: &Claims,
     pool: &Pool<Fits>,
-    global: &RowList,
+    global: &SplitRows,
     cut: u32,
     gate: &G,
     first: &mut Worker,
@@ -73,18 +73,18 @@ fn grow_beside<R: Threads + Wait + Sync, G: Gate + Sync>(
     requires global { IsGathered graph.now.edges ranking.now global.now }
     requires first { IsReady claims.now pool.now (length ranking.now) first.old }
     requires others { All (IsReady claims.now pool.now (length ranking.now)) others.old }
-    ensures first { HasWorked claims.now pool.now graph.now.edges ranking.now global.now first.new }
+    ensures first { HasWorked claims.now graph.now.edges ranking.now global.now first.new }
     ensures size { length others.new ≡ length others.old }
-    ensures others { All (HasWorked claims.now pool.now graph.now.edges ranking.now global.now) others.new }
+    ensures others { All (HasWorked claims.now graph.now.edges ranking.now global.now) others.new }
 {
     let mut one = ||
         requires { IsSync R.row × IsSync G.row × (length ranking.now ≡ graph.now.n) × (claims.now.n ≡ graph.now.n) × IsPoolOf graph.now.edges ranking.now pool.now × IsGathered graph.now.edges ranking.now global.now × IsReady claims.now pool.now (length ranking.now) first.now }
-        ensures { HasWorked claims.entry.now pool.entry.now graph.entry.now.edges ranking.entry.now global.entry.now first.exit.now }
+        ensures { HasWorked claims.entry.now graph.entry.now.edges ranking.entry.now global.entry.now first.exit.now }
     { first.grow_trees(rt, alloc, graph, ranking, claims, pool, global, cut, gate) };
     let mut rest = ||
         requires { IsSync R.row × IsSync G.row × (length ranking.now ≡ graph.now.n) × (claims.now.n ≡ graph.now.n) × IsPoolOf graph.now.edges ranking.now pool.now × IsGathered graph.now.edges ranking.now global.now × All (IsReady claims.now pool.now (length ranking.now)) others.now }
         ensures size { length others.exit.now ≡ length others.entry.now }
-        ensures worked { All (HasWorked claims.entry.now pool.entry.now graph.entry.now.edges ranking.entry.now global.entry.now) others.exit.now }
+        ensures worked { All (HasWorked claims.entry.now graph.entry.now.edges ranking.entry.now global.entry.now) others.exit.now }
     {
         grow_all(
             rt, alloc, graph, ranking, claims, pool, global, cut, gate, others,

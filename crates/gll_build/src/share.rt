@@ -1,18 +1,15 @@
 //! One worker of a superstep: the trees of the roots that its seat claims.
-ghost use Rattle.std.specs.Prelude.{◌≡◌, ◌⊎◌, ℕ, ◌≤◌, ◌++◌, true, false, [], None, Ok, All, IsOk, IfOk, IfSome, IfNone, length, nat_eq};
+ghost use Rattle.std.specs.Prelude.{◌≡◌, ◌⊎◌, ℕ, ◌≤◌, true, false, [], IsOk, IfOk, IfSome, IfNone, length, nat_eq};
 ghost use Rattle.std.specs.List.{IsDistinct};
 ghost use Rattle.root_claims.specs.Seats.{IsSeatOf as IsClaimSeatOf};
 ghost use Rattle.pruned_tree.specs.GrownBy.{HasGrown};
-ghost use Rattle.walk_laws.specs.Labelling.{label_row};
 ghost use Rattle.hub_index.specs.PlainRows.{IsGathered};
-ghost use Rattle.hub_index.specs.Sunk.{entries_of_node};
-ghost use Rattle.hub_index.specs.Views.{IsNode};
 ghost use Rattle.pool_view.specs.Fitting.{edges_of, order_of};
 ghost use Rattle.pool_view.specs.Viewing.{puts_row, view_kept};
 ghost use Rattle.gll_build.specs.Shares.{AreSeatsOf, AreNew, IsDone, IsPoolOf, StayUncovered, nothing_of};
 
 use desk_io::Gate;
-use hub_index::{NodeEntry, RowList};
+use hub_index::{NodeEntry, SplitRows};
 use label_pool::{Pool, PoolSeat};
 use pool_view::{Fits, OwnRows, PoolView};
 use pruned_tree::{Work, grow};
@@ -22,7 +19,7 @@ use std::alloc::{AllocError, Global};
 use std::sync::Wait;
 use walk_laws::Graph;
 
-/// The seats of a worker, or of several: at the claims and at the pool.
+/// The seats of a worker: at the claims and at the pool.
 #[derive(Drop)]
 pub struct Seats {
     pub claims: ClaimSeat,
@@ -30,18 +27,18 @@ pub struct Seats {
 }
 
 /// What a worker takes into a superstep and hands back: its seats, the rows of its own, which are empty before and after it,
-/// and the entries that it kept for itself. The rows are gone where memory ran out, and what it kept is of no use then.
+/// the list of what it put, which is empty before it, and whether memory sufficed. Where it didn't, the list is of no use.
 #[derive(Drop)]
 pub struct Share {
     pub seats: Seats,
-    pub own: Result<OwnRows, AllocError>,
-    pub kept: Vec<NodeEntry>,
+    pub own: OwnRows,
+    pub list: Vec<NodeEntry>,
+    pub memory: Result<(), AllocError>,
 }
 
 /// One worker of a superstep: it claims a root and grows its tree, until it has put at least `cut` entries or no root is
-/// left. Then it moves what it kept for itself from its own rows to a list. Its gate is told of each root when its tree
-/// begins, and when it ends with the number of entries put. Where memory runs out others may go on. Its seats come back in
-/// any case.
+/// left. Its gate is told of each root when its tree begins, and when it ends with the number of entries put. Where memory
+/// runs out others may go on. Its seats come back in any case.
 pub fn grow_share<R: Wait, G: Gate>(
     rt: &R,
     alloc: Global,
@@ -49,7 +46,7 @@ pub fn grow_share<R: Wait, G: Gate>(
     ranking: &Ranking,
     claims: &Claims,
     pool: &Pool<Fits>,
-    global: &RowList,
+    global: &SplitRows,
     cut: u32,
     share: Share,
     work: &mut Work,
@@ -62,23 +59,24 @@ pub fn grow_share<R: Wait, G: Gate>(
     requires global { IsGathered graph.now.edges ranking.now global.now }
     requires seats { AreSeatsOf claims.now pool.now 0 share.seats }
     requires new { AreNew share.seats }
-    requires own { share.own ≡ Ok (nothing_of (length ranking.now)) }
-    requires kept { share.kept.items ≡ [] }
+    requires own { share.own ≡ nothing_of (length ranking.now) }
+    requires list { share.list.items ≡ [] }
     ensures work { work.new ≡ work.old }
-    ensures seats { AreSeatsOf claims.now pool.now 0 result.seats }
+    ensures seat { IsClaimSeatOf claims.now result.seats.claims }
+    ensures left { result.seats.claims.left ≡ 0 }
     ensures done { IsDone graph.now.edges ranking.now global.now result }
 {
     let Share {
         seats,
         own,
-        mut kept,
+        list,
+        memory: _,
     } = share;
-    let Ok(own) = own else { unreachable!() };
     let Seats {
         claims: mut claim_seat,
         pool: pool_seat,
     } = seats;
-    let mut view = PoolView::new(rt, pool, global, pool_seat, own);
+    let mut view = PoolView::new(rt, pool, global, pool_seat, own, list);
     let memory = grow_trees(
         rt,
         alloc,
@@ -91,32 +89,16 @@ pub fn grow_share<R: Wait, G: Gate>(
         work,
         gate,
     );
-    let (pool_seat, own) = view.into_parts();
-    let own = emptied(memory, own, &mut kept);
+    let (pool_seat, own, list) = view.into_parts();
     Share {
         seats: Seats {
             claims: claim_seat,
             pool: pool_seat,
         },
-        own,
-        kept,
+        own: own.emptied(),
+        list,
+        memory,
     }
-}
-
-/// Moves what the trees put in the own rows after other entries, and gives the rows back, which are empty then. The only
-/// error is that memory ran out, here or for the trees.
-fn emptied(
-    memory: Result<(), AllocError>,
-    own: OwnRows,
-    kept: &mut Vec<NodeEntry>,
-) -> Result<OwnRows, AllocError>
-    ensures memory { IfOk result (λ _. IsOk memory) }
-    ensures empty { IfOk result (λ empty. empty ≡ nothing_of (length own)) }
-    ensures entries { IfOk result (λ _. (v : ℕ) → IsNode (length own) v → entries_of_node kept.new.items v ≡ entries_of_node kept.old.items v ++ label_row own v) }
-    ensures nodes { All (λ e. IsNode (length own) e.node) kept.old.items → All (λ e. IsNode (length own) e.node) kept.new.items }
-{
-    memory?;
-    own.empty_into(kept)
 }
 
 /// Claims roots and grows their trees, until at least `cut` entries are put or no root is left. The only error is that memory

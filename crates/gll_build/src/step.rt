@@ -1,5 +1,5 @@
 //! One superstep, with what a build takes once.
-ghost use Rattle.std.specs.Prelude.{◌≡◌, ◌*◌, ◌^◌, ◌<◌, ◌≤◌, All, IfOk, length, min, vec_len};
+ghost use Rattle.std.specs.Prelude.{◌≡◌, ◌*◌, ◌^◌, ◌<◌, ◌≤◌, [], All, IfOk, length, min, vec_len};
 ghost use Rattle.hub_index.specs.PlainRows.{IsGathered};
 ghost use Rattle.gll_build.specs.Shares.{IsBenchFor};
 ghost use Rattle.gll_build.specs.Workshops.{IsGrownFrom, IsProgress, IsWorkshopFor};
@@ -8,7 +8,7 @@ use crate::growing::grow_all;
 use crate::share::Seats;
 use crate::workers::{Bench, Harvest, benches_for, bring_in, seated};
 use desk_io::Gate;
-use hub_index::{NodeEntry, RowList};
+use hub_index::{NodeEntry, SplitRows};
 use label_clean::Cleaner;
 use label_pool::Pool;
 use pool_view::Fits;
@@ -22,17 +22,19 @@ use walk_laws::Graph;
 /// The most cells that the pool of a superstep has.
 const MOST_CELLS: u64 = 1_048_576;
 
-/// What a build takes once, and hands from superstep to superstep: a bench for each worker, and what cleaning takes.
+/// What a build takes once, and hands from superstep to superstep: a bench for each worker, what cleaning takes, and a list,
+/// which is empty between two supersteps.
 #[derive(Drop)]
 pub struct Workshop {
     pub benches: Vec<Bench>,
     pub cleaner: Cleaner,
+    pub spare: Vec<NodeEntry>,
 }
 
 /// Where a build has come: the rows, which are the labelling up to the position of the next root, and that position.
 #[derive(Drop)]
 pub struct Progress {
-    pub rows: RowList,
+    pub rows: SplitRows,
     pub next: u32,
 }
 
@@ -52,12 +54,16 @@ impl Workshop {
     {
         let benches = benches_for(alloc, n, workers)?;
         let cleaner = Cleaner::new(alloc, n)?;
-        Ok(Workshop { benches, cleaner })
+        Ok(Workshop {
+            benches,
+            cleaner,
+            spare: Vec::new(alloc),
+        })
     }
 }
 
 /// One superstep: the workers grow the trees of the next roots, and the new entries are cleaned and join the rows. It costs
-/// its entries, and one pass over the heads of its pool. The only error is that memory ran out.
+/// its entries, and one pass over the heads of its pool, which are made empty. The only error is that memory ran out.
 pub fn next_step<R: Threads + Wait + Sync, G: Gate + Sync>(
     rt: &R,
     alloc: Global,
@@ -80,28 +86,42 @@ pub fn next_step<R: Threads + Wait + Sync, G: Gate + Sync>(
     let ranked = ranking.n();
     prove!(progress.next < ranked);
     let Progress { rows, next: first } = progress;
-    let Workshop { benches, cleaner } = workshop;
-    let grown = grow_roots(rt, alloc, graph, ranking, &rows, first, cut, benches, gate)?;
+    let Workshop {
+        benches,
+        cleaner,
+        spare,
+    } = workshop;
+    let grown = grow_roots(
+        rt, alloc, graph, ranking, &rows, first, cut, benches, spare, gate,
+    )?;
     let Grown {
-        fresh,
+        mut fresh,
         next,
         benches,
     } = grown;
     let gone = cleaner.go_on(ranking, rows, first, fresh.as_slice())?;
     let (rows, cleaner) = gone;
-    Ok((Progress { rows, next }, Workshop { benches, cleaner }))
+    fresh.clear();
+    let workshop = Workshop {
+        benches,
+        cleaner,
+        spare: fresh,
+    };
+    Ok((Progress { rows, next }, workshop))
 }
 
-/// Lets the workers grow the trees of the next roots over the global rows. The only error is that memory ran out.
+/// Lets the workers grow the trees of the next roots over the global rows. What they put comes in one list, and one that is
+/// empty takes its place. The only error is that memory ran out.
 fn grow_roots<R: Threads + Wait + Sync, G: Gate + Sync>(
     rt: &R,
     alloc: Global,
     graph: &Graph,
     ranking: &Ranking,
-    global: &RowList,
+    global: &SplitRows,
     first: u32,
     cut: u32,
     benches: Vec<Bench>,
+    spare: Vec<NodeEntry>,
     gate: &G,
 ) -> Result<Grown, AllocError>
     requires nodes { length ranking.now ≡ graph.now.n }
@@ -111,6 +131,7 @@ fn grow_roots<R: Threads + Wait + Sync, G: Gate + Sync>(
     requires some { 1 ≤ vec_len benches }
     requires few { vec_len benches ≤ 64 }
     requires benches { All (IsBenchFor (length ranking.now)) benches.items }
+    requires spare { spare.items ≡ [] }
     ensures grown { IfOk result (IsGrownFrom graph.now.edges ranking.now global.now first) }
     ensures size { IfOk result (λ grown. vec_len grown.benches ≡ vec_len benches) }
     ensures benches { IfOk result (λ grown. All (IsBenchFor (length ranking.now)) grown.benches.items) }
@@ -139,15 +160,13 @@ fn grow_roots<R: Threads + Wait + Sync, G: Gate + Sync>(
         gate,
         workers.as_mut_slice(),
     );
-    let harvest = bring_in(alloc, graph, ranking, &claims, &pool, global, workers)?;
+    let harvest = bring_in(alloc, graph, ranking, &claims, global, spare, workers)?;
     let Harvest {
-        seats,
-        mut kept,
+        seat,
+        fresh,
         benches,
     } = harvest;
-    let mut fresh = pool.close_listed(seats.pool)?;
-    fresh.append(&mut kept)?;
-    let next = claims.close(seats.claims);
+    let next = claims.close(seat);
     Ok(Grown {
         fresh,
         next,

@@ -1,26 +1,27 @@
 //! The workers of a superstep: what each takes, made once for a build, their shares of a superstep, and what they hand back.
-ghost use Rattle.std.specs.Prelude.{◌≡◌, ℕ, ◌+◌, ◌-◌, ◌<◌, ◌≤◌, ◌++◌, ◌||◌, All, IfOk, length, nat_eq, vec_len};
-ghost use Rattle.std.specs.List.{IsDistinct};
+ghost use Rattle.std.specs.Prelude.{◌≡◌, ℕ, ◌+◌, ◌-◌, ◌<◌, ◌≤◌, [], All, IfOk, length, vec_len};
 ghost use Rattle.hub_index.specs.PlainRows.{IsGathered};
-ghost use Rattle.gll_build.specs.Shares.{AreNew, AreSeatsOf, HasWorked, IsBenchFor, IsDone, IsHarvest, IsPoolOf, IsReady};
+ghost use Rattle.root_claims.specs.Seats.{IsSeatOf as IsClaimSeatOf};
+ghost use Rattle.gll_build.specs.Shares.{AreNew, AreSeatsOf, HasBegun, HasWorked, HavePut, IsBenchFor, IsHarvest, IsPoolOf, IsReady, nothing_of};
 
 use crate::share::{Seats, Share, grow_share};
 use desk_io::Gate;
-use hub_index::{NodeEntry, RowList};
+use hub_index::{NodeEntry, SplitRows};
 use label_pool::Pool;
 use pool_view::{Fits, OwnRows};
 use pruned_tree::Work;
 use rank_table::Ranking;
-use root_claims::Claims;
+use root_claims::{ClaimSeat, Claims};
 use std::alloc::{AllocError, Global};
 use std::sync::Wait;
 use walk_laws::Graph;
 
-/// What a worker takes for a whole build: the memory in which it grows trees, and rows of its own, which are empty between
-/// two supersteps.
+/// What a worker takes for a whole build: the memory in which it grows trees, and rows of its own and a list, which are empty
+/// between two supersteps.
 #[derive(Drop)]
 pub struct Bench {
     pub own: OwnRows,
+    pub list: Vec<NodeEntry>,
     pub work: Work,
 }
 
@@ -31,12 +32,12 @@ pub struct Worker {
     pub work: Work,
 }
 
-/// What workers hand back, where memory sufficed for all: their seats as one, the entries that they kept for themselves, and
+/// What workers hand back, where memory sufficed for all: their seats at the claims as one, the entries that they put, and
 /// their benches.
 #[derive(Drop)]
 pub struct Harvest {
-    pub seats: Seats,
-    pub kept: Vec<NodeEntry>,
+    pub seat: ClaimSeat,
+    pub fresh: Vec<NodeEntry>,
     pub benches: Vec<Bench>,
 }
 
@@ -48,8 +49,9 @@ pub fn benches_for(alloc: Global, n: u32, workers: u32) -> Result<Vec<Bench>, Al
     let mut benches = Vec::with_capacity(alloc, workers as usize)?;
     for _ in 0..workers {
         let own = OwnRows::new(alloc, n)?;
+        let list = Vec::new(alloc);
         let work = Work::new(alloc, n)?;
-        benches.push(Bench { own, work })?;
+        benches.push(Bench { own, list, work })?;
     }
     Ok(benches)
 }
@@ -64,7 +66,7 @@ impl Worker {
         ranking: &Ranking,
         claims: &Claims,
         pool: &Pool<Fits>,
-        global: &RowList,
+        global: &SplitRows,
         cut: u32,
         gate: &G,
     )
@@ -73,7 +75,7 @@ impl Worker {
         requires pool { IsPoolOf graph.now.edges ranking.now pool.now }
         requires global { IsGathered graph.now.edges ranking.now global.now }
         requires ready { IsReady claims.now pool.now (length ranking.now) self.old }
-        ensures { HasWorked claims.now pool.now graph.now.edges ranking.now global.now self.new }
+        ensures { HasWorked claims.now graph.now.edges ranking.now global.now self.new }
     {
         if let Some(share) = self.share.take() {
             self.share = Some(grow_share(
@@ -117,31 +119,25 @@ pub fn seated(
     let mut workers = Vec::with_capacity(alloc, benches.len() + 1)?;
     while let Some(bench) = benches.pop() {
         let seats = split_off(claims, pool, &mut first);
-        workers.push(worker_at(alloc, n, claims, pool, bench, seats))?;
+        workers.push(worker_at(n, claims, pool, bench, seats))?;
     }
-    workers.push(worker_at(alloc, n, claims, pool, last, first))?;
+    workers.push(worker_at(n, claims, pool, last, first))?;
     Ok(workers)
 }
 
 /// A worker at a bench for `n` nodes, with these seats.
-fn worker_at(
-    alloc: Global,
-    n: u32,
-    claims: &Claims,
-    pool: &Pool<Fits>,
-    bench: Bench,
-    seats: Seats,
-) -> Worker
+fn worker_at(n: u32, claims: &Claims, pool: &Pool<Fits>, bench: Bench, seats: Seats) -> Worker
     requires bench { IsBenchFor n bench }
     requires seats { AreSeatsOf claims.now pool.now 0 seats }
     requires new { AreNew seats }
     ensures { IsReady claims.now pool.now n result }
 {
-    let Bench { own, work } = bench;
+    let Bench { own, list, work } = bench;
     let share = Share {
         seats,
-        own: Ok(own),
-        kept: Vec::new(alloc),
+        own,
+        list,
+        memory: Ok(()),
     };
     Worker {
         share: Some(share),
@@ -163,19 +159,22 @@ fn split_off(claims: &Claims, pool: &Pool<Fits>, seats: &mut Seats) -> Seats
     }
 }
 
-/// What all workers hand back. The only error is that memory ran out, here or for one of them.
+/// What all workers hand back. The list of one of them becomes that of all, and another list, which is empty, takes its
+/// place. The only error is that memory ran out, here or for one of them.
 pub fn bring_in(
     alloc: Global,
     graph: &Graph,
     ranking: &Ranking,
     claims: &Claims,
-    pool: &Pool<Fits>,
-    global: &RowList,
+    global: &SplitRows,
+    spare: Vec<NodeEntry>,
     workers: Vec<Worker>,
 ) -> Result<Harvest, AllocError>
     requires some { 1 ≤ vec_len workers }
-    requires worked { All (HasWorked claims.now pool.now graph.now.edges ranking.now global.now) workers.items }
-    ensures seats { IfOk result (λ harvest. AreSeatsOf claims.now pool.now (vec_len workers - 1) harvest.seats) }
+    requires spare { spare.items ≡ [] }
+    requires worked { All (HasWorked claims.now graph.now.edges ranking.now global.now) workers.items }
+    ensures seat { IfOk result (λ harvest. IsClaimSeatOf claims.now harvest.seat) }
+    ensures left { IfOk result (λ harvest. harvest.seat.left ≡ vec_len workers - 1) }
     ensures benches { IfOk result (λ harvest. vec_len harvest.benches ≡ vec_len workers) }
     ensures harvest { IfOk result (λ harvest. IsHarvest graph.now.edges ranking.now global.now harvest) }
 {
@@ -183,117 +182,106 @@ pub fn bring_in(
     let Some(last) = workers.pop() else {
         unreachable!()
     };
-    let mut whole = first_of(alloc, graph, ranking, claims, pool, global, last)?;
+    let mut whole = first_of(alloc, graph, ranking, claims, global, spare, last)?;
     while let Some(worker) = workers.pop() {
-        whole = with_worker(graph, ranking, claims, pool, global, whole, worker)?;
+        whole = with_worker(graph, ranking, claims, global, whole, worker)?;
     }
     Ok(whole)
 }
 
-/// The share and the memory of a worker that has grown all its trees.
+/// What a worker that has grown all its trees hands back: its seat at the claims, the list of what it put, its rows, which are
+/// empty, and the memory in which it grew. The only error is that memory ran out for it.
 fn parts_of(
     graph: &Graph,
     ranking: &Ranking,
     claims: &Claims,
-    pool: &Pool<Fits>,
-    global: &RowList,
+    global: &SplitRows,
     worker: Worker,
-) -> (Share, Work)
-    requires { HasWorked claims.now pool.now graph.now.edges ranking.now global.now worker }
-    ensures seats { AreSeatsOf claims.now pool.now 0 result.0.seats }
-    ensures done { IsDone graph.now.edges ranking.now global.now result.0 }
-    ensures work { result.1 ≡ length ranking.now }
+) -> Result<(ClaimSeat, Vec<NodeEntry>, OwnRows, Work), AllocError>
+    requires { HasWorked claims.now graph.now.edges ranking.now global.now worker }
+    ensures seat { IfOk result (λ parts. IsClaimSeatOf claims.now parts.0 × (parts.0.left ≡ 0) × HasBegun parts.0) }
+    ensures put { IfOk result (λ parts. HavePut graph.now.edges ranking.now global.now parts.0.got parts.1.items) }
+    ensures own { IfOk result (λ parts. parts.2 ≡ nothing_of (length ranking.now)) }
+    ensures work { IfOk result (λ parts. parts.3 ≡ length ranking.now) }
 {
     let Worker { share, work } = worker;
-    match share {
-        Some(share) => (share, work),
-        None => unreachable!(),
-    }
+    let Some(share) = share else { unreachable!() };
+    let Share {
+        seats,
+        own,
+        list,
+        memory,
+    } = share;
+    memory?;
+    let Seats {
+        claims: seat,
+        pool: _,
+    } = seats;
+    Ok((seat, list, own, work))
 }
 
-/// What one worker hands back. The only error is that memory ran out, here or for the worker.
+/// What one worker hands back, with an empty list in the place of its own. The only error is that memory ran out, here or for
+/// the worker.
 fn first_of(
     alloc: Global,
     graph: &Graph,
     ranking: &Ranking,
     claims: &Claims,
-    pool: &Pool<Fits>,
-    global: &RowList,
+    global: &SplitRows,
+    spare: Vec<NodeEntry>,
     worker: Worker,
 ) -> Result<Harvest, AllocError>
-    requires { HasWorked claims.now pool.now graph.now.edges ranking.now global.now worker }
-    ensures seats { IfOk result (λ harvest. AreSeatsOf claims.now pool.now 0 harvest.seats) }
+    requires spare { spare.items ≡ [] }
+    requires worker { HasWorked claims.now graph.now.edges ranking.now global.now worker }
+    ensures seat { IfOk result (λ harvest. IsClaimSeatOf claims.now harvest.seat) }
+    ensures left { IfOk result (λ harvest. harvest.seat.left ≡ 0) }
     ensures benches { IfOk result (λ harvest. vec_len harvest.benches ≡ 1) }
     ensures harvest { IfOk result (λ harvest. IsHarvest graph.now.edges ranking.now global.now harvest) }
 {
-    let (share, work) = parts_of(graph, ranking, claims, pool, global, worker);
-    let Share { seats, own, kept } = share;
-    let own = own?;
+    let (seat, fresh, own, work) = parts_of(graph, ranking, claims, global, worker)?;
     let mut benches = Vec::new(alloc);
-    benches.push(Bench { own, work })?;
+    benches.push(Bench {
+        own,
+        list: spare,
+        work,
+    })?;
     Ok(Harvest {
-        seats,
-        kept,
+        seat,
+        fresh,
         benches,
     })
 }
 
-/// What some workers hand back, and another one. The only error is that memory ran out, here or for that one.
+/// What some workers hand back, and another one, whose list is emptied into theirs. The only error is that memory ran out,
+/// here or for that one.
 fn with_worker(
     graph: &Graph,
     ranking: &Ranking,
     claims: &Claims,
-    pool: &Pool<Fits>,
-    global: &RowList,
+    global: &SplitRows,
     whole: Harvest,
     worker: Worker,
 ) -> Result<Harvest, AllocError>
-    requires whole { (left : ℕ) × AreSeatsOf claims.now pool.now left whole.seats }
+    requires seat { IsClaimSeatOf claims.now whole.seat }
     requires harvest { IsHarvest graph.now.edges ranking.now global.now whole }
-    requires worker { HasWorked claims.now pool.now graph.now.edges ranking.now global.now worker }
-    ensures seats { IfOk result (λ harvest. (left : ℕ) → AreSeatsOf claims.now pool.now left whole.seats → AreSeatsOf claims.now pool.now (left + 1) harvest.seats) }
+    requires worker { HasWorked claims.now graph.now.edges ranking.now global.now worker }
+    ensures seat { IfOk result (λ harvest. IsClaimSeatOf claims.now harvest.seat) }
+    ensures left { IfOk result (λ harvest. harvest.seat.left ≡ whole.seat.left + 1) }
     ensures benches { IfOk result (λ harvest. vec_len harvest.benches ≡ vec_len whole.benches + 1) }
     ensures harvest { IfOk result (λ harvest. IsHarvest graph.now.edges ranking.now global.now harvest) }
 {
-    let (share, work) = parts_of(graph, ranking, claims, pool, global, worker);
-    let Share {
-        seats: other,
-        own,
-        kept: mut more,
-    } = share;
+    let (other, mut list, own, work) = parts_of(graph, ranking, claims, global, worker)?;
     let Harvest {
-        seats,
-        mut kept,
+        mut seat,
+        mut fresh,
         mut benches,
     } = whole;
-    let seats = together(claims, pool, seats, other);
-    kept.append(&mut more)?;
-    benches.push(Bench { own: own?, work })?;
+    claims.join(&mut seat, other);
+    fresh.append(&mut list)?;
+    benches.push(Bench { own, list, work })?;
     Ok(Harvest {
-        seats,
-        kept,
+        seat,
+        fresh,
         benches,
     })
-}
-
-/// The seats of some workers and of another one.
-fn together(claims: &Claims, pool: &Pool<Fits>, seats: Seats, other: Seats) -> Seats
-    requires seats { (left : ℕ) × AreSeatsOf claims.now pool.now left seats }
-    requires other { AreSeatsOf claims.now pool.now 0 other }
-    ensures seats { (left : ℕ) → AreSeatsOf claims.now pool.now left seats → AreSeatsOf claims.now pool.now (left + 1) result }
-    ensures over { result.claims.over ≡ (seats.claims.over || other.claims.over) }
-    ensures got { result.claims.got ≡ seats.claims.got ++ other.claims.got }
-    ensures once { IsDistinct nat_eq result.claims.got }
-    ensures puts { result.pool.puts ≡ seats.pool.puts ++ other.pool.puts }
-{
-    let Seats {
-        claims: mut claim_seat,
-        pool: mut pool_seat,
-    } = seats;
-    claims.join(&mut claim_seat, other.claims);
-    pool.join(&mut pool_seat, other.pool);
-    Seats {
-        claims: claim_seat,
-        pool: pool_seat,
-    }
 }

@@ -10,4 +10,3 @@ mod Steps
 mod Tails
 mod Walked
 mod Words
-pub mod Listed

@@ -1,7 +1,6 @@
 -- Chains of cells with their entries, newest first, and what seats found and put at nodes.
 use Rattle.std.specs.Prelude.{◌≡◌, ℕ, ◌+◌, ◌^◌, ◌<◌, ◌≤◌, Option, Some, None, List, [], ◌∷◌, ◌++◌, All, Contains, map, filter, length, nat_eq, slice_index, if◌then◌else◌}
 use Rattle.walk_laws.specs.declared.entry.Entry.{Entry}
-use Rattle.hub_index.specs.declared.entry_sink.NodeEntry.{NodeEntry}
 use Rattle.label_pool.specs.declared.rule.Linked.{Linked}
 use Rattle.label_pool.specs.declared.rule.Look.{Look}
 use Rattle.label_pool.specs.declared.rule.Put.{Put}
@@ -42,10 +41,6 @@ pub record IsWritten (n cells : ℕ) (words : List ℕ) (v : ℕ) (chain : List 
 -- the entries of a chain, newest first
 abbrev pub entries_of : List Linked → List Entry
 entries_of = map (λ l. l.entry)
-
--- entries with their node, which is the same
-abbrev pub entries_at_node : ℕ → List Entry → List NodeEntry
-entries_at_node v = map (λ e. record { node = v; pos = e.pos; dist = e.dist })
 
 -- the one chain is the end of the other
 pub record IsTailOf (tail whole : List Linked) : Type 0 where

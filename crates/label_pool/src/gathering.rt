@@ -1,16 +1,15 @@
 //! The entries of closed words, chain by chain.
-ghost use Rattle.std.specs.Prelude.{◌≡◌, ℕ, ◌^◌, ◌≤◌, ◌++◌, List, All, IfOk, OnOk, length};
+ghost use Rattle.std.specs.Prelude.{◌≡◌, ℕ, ◌^◌, ◌≤◌, List, IfOk, length};
 ghost use Rattle.std.specs.Slots.{IsFull, slots_items, slots_len};
 ghost use Rattle.walk_laws.specs.Labelling.{label_row};
-ghost use Rattle.hub_index.specs.Sunk.{entries_of_node};
 ghost use Rattle.hub_index.specs.Views.{IsNode};
 ghost use Rattle.label_pool.specs.declared.rule.Linked.{Linked};
-ghost use Rattle.label_pool.specs.Chains.{IsWritten, entries_of, entries_at_node};
+ghost use Rattle.label_pool.specs.Chains.{IsWritten, entries_of};
 ghost use Rattle.label_pool.specs.Layout.{word_count};
 
 use crate::layout::{cell_in, cell_named, dist_word, head_word, next_word, pos_in};
 use atomic_table::Closed;
-use hub_index::{NodeEntry, RowList};
+use hub_index::RowList;
 use std::alloc::{AllocError, Global};
 use walk_laws::Entry;
 
@@ -33,59 +32,6 @@ pub fn gathered(
         rows.push(entries_in(alloc, closed, n, cells, place + 1)?)?;
     }
     Ok(RowList::from_rows(rows))
-}
-
-/// The entries of all chains with their nodes, node by node, each chain newest first. It costs the entries, and one pass over
-/// the heads. The only error is that memory ran out.
-pub fn listed(
-    alloc: Global,
-    closed: &Closed<(), Global>,
-    n: u32,
-    cells: u32,
-) -> Result<Vec<NodeEntry>, AllocError>
-    requires full { IsFull closed.now.words }
-    requires size { slots_len closed.now.words ≡ word_count n cells }
-    requires limits { (n ≤ 2 ^ 30) × (cells ≤ 2 ^ 31) }
-    requires chains { (v : ℕ) → IsNode n v → (chain : List Linked) × IsWritten n cells (slots_items closed.now.words) v chain }
-    ensures nodes { IfOk result (λ list. All (λ e. IsNode n e.node) list.items) }
-    ensures entries { IfOk result (λ list. (v : ℕ) (chain : List Linked) → IsNode n v → IsWritten n cells (slots_items closed.now.words) v chain → entries_of_node list.items v ≡ entries_of chain) }
-{
-    let mut list = Vec::new(alloc);
-    for place in 0..n {
-        list_chain(closed, n, cells, place + 1, &mut list)?;
-    }
-    Ok(list)
-}
-
-/// Puts the entries of the chain of the node `v`, a number from 1, after others, newest first. The only error is that memory
-/// ran out.
-fn list_chain(
-    closed: &Closed<(), Global>,
-    n: u32,
-    cells: u32,
-    v: u32,
-    list: &mut Vec<NodeEntry>,
-) -> Result<(), AllocError>
-    requires full { IsFull closed.now.words }
-    requires size { slots_len closed.now.words ≡ word_count n cells }
-    requires limits { (n ≤ 2 ^ 30) × (cells ≤ 2 ^ 31) }
-    requires node { IsNode n v }
-    requires chain { (chain : List Linked) × IsWritten n cells (slots_items closed.now.words) v chain }
-    ensures { OnOk result ((chain : List Linked) → IsWritten n cells (slots_items closed.now.words) v chain → list.new.items ≡ list.old.items ++ entries_at_node v (entries_of chain)) }
-{
-    let mut here = cell_named(closed.word(head_word(v)));
-    for _step in 0..cells {
-        let Some(cell) = here else { break };
-        let next = closed.word(next_word(n, cell));
-        let dist = closed.word(dist_word(n, cell));
-        list.push(NodeEntry {
-            node: v,
-            pos: pos_in(next),
-            dist,
-        })?;
-        here = cell_in(next);
-    }
-    Ok(())
 }
 
 /// How many cells the chain of the node `v` has, a number from 1.

@@ -1,12 +1,11 @@
 ghost use Rattle.std.specs.Prelude.{◌≡◌, ℕ, ◌+◌, ◌^◌, ◌<◌, ◌≤◌, [], ◌++◌, Option, Some, None, List, All, IsPermutation, IfOk, length};
 ghost use Rattle.walk_laws.specs.Labelling.{label_row};
-ghost use Rattle.hub_index.specs.Sunk.{entries_of_node};
 ghost use Rattle.hub_index.specs.Views.{IsNode};
 ghost use Rattle.label_pool.specs.declared.rule.Linked.{Linked};
 ghost use Rattle.label_pool.specs.Chains.{IsRest, entries_at};
 ghost use Rattle.label_pool.specs.Seats.{IsSeatOf, IsMet, HasPut, HasFound, IfPut, IfFull, first_some};
 
-use crate::gathering::{gathered, listed};
+use crate::gathering::gathered;
 use crate::layout::{COUNTER, cell_named, count_words, head_word};
 use crate::linking::{fill, link};
 use crate::pool_put::PoolPut;
@@ -14,7 +13,7 @@ use crate::rule::{About, Draws, Finds, Handing, Law, LinkFact, View};
 use crate::seat::PoolSeat;
 use crate::visit::Visit;
 use atomic_table::Table;
-use hub_index::{NodeEntry, RowList};
+use hub_index::RowList;
 use std::alloc::{AllocError, Global};
 use std::marker::Model;
 use std::sync::Wait;
@@ -194,28 +193,5 @@ impl<F: LinkFact> Pool<F> {
         let rows = gathered(alloc, &closed, n, cells);
         closed.free();
         rows
-    }
-
-    /// The entries that the seats put, with their nodes, each once and nothing else, by the last seat, into which all others
-    /// were joined. It makes no row; it costs the entries, and one pass over the nodes. The only error is that memory ran out,
-    /// and then the cells are given up.
-    pub fn close_listed(self, seat: PoolSeat<F>) -> Result<Vec<NodeEntry>, AllocError>
-        requires seat { IsSeatOf self seat }
-        requires last { seat.left + 1 ≡ self.seats }
-        ensures nodes { IfOk result (λ list. All (λ e. IsNode self.n e.node) list.items) }
-        ensures puts { IfOk result (λ list. (v : ℕ) → IsNode self.n v → IsPermutation (entries_at seat.puts v) (entries_of_node list.items v)) }
-        ensures fact { IfOk result (λ list. (v : ℕ) → IsNode self.n v → All (IsMet F.fact self.fact v) (entries_of_node list.items v)) }
-    {
-        let Pool {
-            table,
-            alloc,
-            n,
-            cells,
-        } = self;
-        let PoolSeat { seat, left: _ } = seat;
-        let closed = table.close_with(seat);
-        let list = listed(alloc, &closed, n, cells);
-        closed.free();
-        list
     }
 }

@@ -1,10 +1,10 @@
 -- A visit of the chain of a node, and what follows of it for a view.
-use Rattle.std.proofs.Common.{◌≡◌, inl, inr, ℕ, ◌<◌, ◌≤◌, Bool, Option, List, [], ◌∷◌, ◌++◌, All, Contains, length, replicate, refl, sym, ap, subst, ◌∙◌}
-use Rattle.std.specs.Prelude.{Some, None}
+use Rattle.std.proofs.Common.{◌≡◌, ◌⊎◌, inl, inr, ℕ, ◌<◌, Bool, Option, List, [], ◌∷◌, ◌++◌, All, Contains, length, replicate, refl, sym, ap, subst, ◌∙◌}
+use Rattle.std.specs.Prelude.{None}
 use Rattle.std.proofs.lemmas.List.Elements.{All-contains}
 use Rattle.walk_laws.specs.declared.entry.Entry.{Entry}
 use Rattle.walk_laws.specs.Labelling.{label_row}
-use Rattle.hub_index.specs.RootDistances.{IsCover, HoldsRow}
+use Rattle.hub_index.specs.RootDistances.{noted, IsCover, HoldsRow}
 use Rattle.hub_index.specs.Views.{IsNode, IsFound, IsAnswerOf, with_put}
 use Rattle.hub_index.specs.declared.row_view.Offer.{Offer}
 use Rattle.hub_index.specs.declared.row_view.Offer.TheVariants.{Put as IsPut, Covered, NoMemory}
@@ -13,10 +13,9 @@ use Rattle.label_pool.specs.declared.rule.Linked.{Linked}
 use Rattle.label_pool.specs.Chains.{entries_of}
 use Rattle.label_pool.specs.Seats.{PoolId, Seated, HasFound}
 use Rattle.pool_view.specs.Fitting.{Fitting, MayStand, edges_of, order_of}
-use Rattle.pool_view.specs.Noted.{noted}
-use Rattle.pool_view.specs.Viewing.{Viewing, IsViewing, IsOpen, HasVisited, HasGained, IsPast, IsAfter, IsOfferedToAll, fact_of, seen_row, whole_row}
+use Rattle.pool_view.specs.Viewing.{Viewing, IsViewing, IsOpen, HasVisited, HasGained, IsPast, IsAfter, IsOfferedToAll, fact_of, listed, seen_row, whole_row}
 use Rattle.pool_view.proofs.KeptViews.{viewing-looked, visited-seen, pooled-seen, stays_open}
-use Rattle.pool_view.proofs.NotedTables.{HoldsRow-noted, HoldsRow-same}
+use Rattle.pool_view.proofs.NotedTables.{HoldsRow-same, HoldsRow-three}
 use Rattle.pool_view.proofs.Offered.{owned-seen}
 use Rattle.pool_view.proofs.WholeRows.{chain-stands, whole-all, whole-found, noting-whole, whole-noting}
 
@@ -60,7 +59,7 @@ module _ (before : Viewing) (v : ℕ) (seat : Seated Fitting) (found : List Link
       let order = order_of before.seat.pool.fact in
       let inside : (row : List Entry) → All (fact_of before v) row → All (λ e. e.pos < n) row = λ row stands. subst (λ k. All (λ e. e.pos < k) row) (sym size) (positions-found edges order v row stands) in
       HoldsRow-same _ ((entries_of found ++ label_row before.own v) ++ label_row before.global v) (whole_row before found v) (noting-whole before found v) (whole-noting before found v)
-      (HoldsRow-noted n (entries_of found) (label_row before.own v) (label_row before.global v) (inside (entries_of found) (chain-stands before found v is.visit.met)) (inside (label_row before.own v) (is.viewing.own.fit v is.node.from_one is.node.up_to_n)) (inside (label_row before.global v) (is.viewing.global.fit v is.node.from_one is.node.up_to_n)))
+      (HoldsRow-three n (entries_of found) (label_row before.own v) (label_row before.global v) (inside (entries_of found) (chain-stands before found v is.visit.met)) (inside (label_row before.own v) (is.viewing.own.fit v is.node.from_one is.node.up_to_n)) (inside (label_row before.global v) (is.viewing.global.fit v is.node.from_one is.node.up_to_n)))
 
   module _ (table : List (Option ℕ)) (e : Entry) (uncovered : All (λ c. ¬ IsCover table e.pos e.dist c) (label_row before.global v)) where
     -- an entry of the row covers
@@ -81,8 +80,8 @@ module _ (before : Viewing) (v : ℕ) (seat : Seated Fitting) (found : List Link
       none c there = All-contains (λ x. ¬ IsCover table e.pos e.dist x) (whole_row before found v) c (whole-all before found v (λ x. ¬ IsCover table e.pos e.dist x) uncovered in_chain in_own) there
 
       gained : (after : Viewing) → HasGained After v e after → seen_row after v ≡ seen_row After v ++ e ∷ []
-      gained after (inl put) = pooled-seen After after v e viewing_now put
-      gained after (inr put) = owned-seen After after v e is.node.from_one put
+      gained after (inl put) = pooled-seen (record After { list = listed After.list v e }) after v e (viewing_now.seen v) put
+      gained after (inr put) = owned-seen (record After { list = listed After.list v e }) after v e is.node.from_one put
 
       pub offered_put : (after : Viewing) → HasGained After v e after → IsOfferedToAll table before v e IsPut after
       offered_put after gains = record {
@@ -96,14 +95,18 @@ module _ (before : Viewing) (v : ℕ) (seat : Seated Fitting) (found : List Link
         seen = gained after gains ∙ ap (λ es. es ++ e ∷ []) seen_now;
       }
 
-      pub offered_none : (after : Viewing) → IsPast After after → IsOfferedToAll table before v e NoMemory after
-      offered_none after past = record {
+      unchanged : (after : Viewing) → (after ≡ After) ⊎ IsPast After after → seen_row after v ≡ seen_row After v
+      unchanged after (inl same) = ap (λ w. seen_row w v) same
+      unchanged after (inr past) = ap (λ w. seen_row w v) past.1
+
+      pub offered_none : (after : Viewing) → (after ≡ After) ⊎ IsPast After after → IsOfferedToAll table before v e NoMemory after
+      offered_none after refused = record {
         uncovered = uncovered;
         found = found;
         visited = After;
         visit = visited;
         row = row_found;
         answer_is = none;
-        after_is = past;
-        seen = ap (λ w. seen_row w v) past.1 ∙ seen_now;
+        after_is = refused;
+        seen = unchanged after refused ∙ seen_now;
       }

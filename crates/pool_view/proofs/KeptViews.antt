@@ -1,19 +1,17 @@
 -- What a visit and a put keep of a view.
-use Rattle.std.proofs.Common.{◌≡◌, ◌≢◌, inl, inr, ℕ, Bool, true, false, List, [], ◌∷◌, ◌++◌, All, length, reverse, refl, sym, ap, subst, ◌∙◌}
-use Rattle.std.specs.Prelude.{Some, None}
+use Rattle.std.proofs.Common.{◌≡◌, inl, inr, ℕ, Bool, true, false, ◌-◌, List, [], ◌∷◌, ◌++◌, length, reverse, take, sym, ap, subst, ◌∙◌, arith}
+use Rattle.std.specs.Prelude.{Some, Result, Ok, Err, OnErr, is_err}
 use Rattle.std.proofs.lemmas.Bool.{cases_eq}
-use Rattle.std.proofs.lemmas.List.{append_assoc, append-nil, reverse-append}
+use Rattle.std.proofs.lemmas.List.{append_assoc, append-nil, length_push, reverse-append}
+use Rattle.std.proofs.Math.Seq.{take-append_seam}
 use Rattle.walk_laws.specs.declared.entry.Entry.{Entry}
 use Rattle.walk_laws.specs.Labelling.{label_row}
-use Rattle.hub_index.specs.HubIndex.{with_entry}
-use Rattle.hub_index.specs.Views.{IsNode}
-use Rattle.hub_index.proofs.RowsGathered.{IsGathered-gains}
+use Rattle.hub_index.specs.declared.entry_sink.NodeEntry.{NodeEntry}
 use Rattle.label_pool.specs.declared.rule.Linked.{Linked}
-use Rattle.label_pool.specs.Chains.{entries_of}
 use Rattle.label_pool.specs.Seats.{Seated, HasPut, HasFound}
-use Rattle.pool_view.specs.Fitting.{Fitting, MayStand, edges_of, order_of}
+use Rattle.pool_view.specs.Fitting.{Fitting, MayStand}
 use Rattle.pool_view.specs.Seen.{IsSeen, seen_chain}
-use Rattle.pool_view.specs.Viewing.{Viewing, IsViewing, IsOpen, HasVisited, IsInPool, fact_of, seen_row, whole_row}
+use Rattle.pool_view.specs.Viewing.{Viewing, IsViewing, IsOpen, IsPast, HasVisited, IsInPool, fact_of, seen_row, whole_row}
 use Rattle.pool_view.proofs.SeenChains.{look_at, IsSeen-looked, IsSeen-looked_else, IsSeen-put, IsSeen-put_else, seen-looked, seen-put}
 use Rattle.pool_view.proofs.Offered.{looked, pooled, visited-is, pooled-is}
 use Rattle.pool_view.proofs.WholeRows.{chain-stands}
@@ -33,6 +31,7 @@ viewing-looked before seat v found viewing visit =
             subst (λ x. IsSeen (fact_of before x) (looks ++ look_at v found ∷ []) (look_at v found ∷ marks) x) here there
         | inr other ↦ IsSeen-looked_else looks marks v u other found (fact_of before u) (viewing.seen u)
       ];
+      nodes = viewing.nodes;
     } in
     subst (λ s. IsViewing (record before { seat = s })) (sym visit.after_is) then
 
@@ -52,37 +51,33 @@ viewing-put before seat v e viewing put stands =
             subst (λ x. IsSeen (fact_of before x) looks (look_at v (l ∷ put.older) ∷ marks) x) here there
         | inr other ↦ IsSeen-put_else looks marks v u other (l ∷ put.older) (fact_of before u) (viewing.seen u)
       ];
+      nodes = viewing.nodes;
     } in
     subst (λ s. IsViewing (record before { seat = s })) (sym put.after_is) then
 
--- a put in the own rows, by a seat that is past the last cell
-pub viewing-own : (before : Viewing) (v cell : ℕ) (e : Entry) → IsViewing before → IsNode (length (order_of before.seat.pool.fact)) v → fact_of before v e
-    → IsViewing (record before { seat = record before.seat { past = Some cell }; own = with_entry before.own v e })
-viewing-own before v cell e viewing node stands = record {
-  pool = viewing.pool;
-  global = viewing.global;
-  own = IsGathered-gains (edges_of before.seat.pool.fact) (order_of before.seat.pool.fact) before.own v e viewing.own node stands;
-  seen = viewing.seen;
-}
+-- what was listed last is taken off the list, after a call that found no memory
+unlisted : (list : List NodeEntry) (x : NodeEntry) → take (length (list ++ x ∷ []) - 1) (list ++ x ∷ []) ≡ list
+unlisted list x =
+    let before : length (list ++ x ∷ []) - 1 ≡ length list = let long = length_push list x in omega (arith, long) in
+    ap (λ n. take n (list ++ x ∷ [])) before ∙ take-append_seam list (x ∷ [])
 
-pub viewing-past : (before : Viewing) (cell : ℕ) → IsViewing before → IsViewing (record before { seat = record before.seat { past = Some cell } })
-viewing-past before cell viewing = record { pool = viewing.pool; global = viewing.global; own = viewing.own; seen = viewing.seen }
+pub past-unlisted : (before after : Viewing) (x : NodeEntry) (pushed popped : List NodeEntry) → pushed ≡ before.list ++ x ∷ [] → popped ≡ take (length after.list - 1) after.list → IsPast (record before { list = pushed }) after → IsPast before (record after { list = popped })
+past-unlisted before after x pushed popped is_pushed is_popped past =
+    let list : popped ≡ before.list =
+    is_popped
+    ∙ ap (λ (w : Viewing). take (length w.list - 1) w.list) past.1
+    ∙ ap (λ xs. take (length xs - 1) xs) is_pushed
+    ∙ unlisted before.list x in
+    (past.0, ap (λ (w : Viewing). record w { list = popped }) past.1 ∙ ap (λ xs. record before { seat = record before.seat { past = Some past.0 }; list = xs }) list)
 
--- a seat that is past the cells by the same number
-pub past-same : (seat : Seated Fitting) (cell : ℕ) → seat.past ≡ Some cell → seat ≡ record seat { past = Some cell }
-past-same seat cell is = ap (λ p. record seat { past = p }) is
+-- what is told of a refusal
+pub if-failed : {T E : Type 0} (r : Result T E) (P : Type 0) → is_err r ≡ true → OnErr r P → P
+if-failed (Ok x) P failed told = absurd cc
+if-failed (Err e) P failed told = told
 
 pub stays_open : (past : Bool) (before : Viewing) (seat : Seated Fitting) → seat.past ≡ before.seat.past → IsOpen past before → IsOpen past (record before { seat = seat })
 stays_open false before seat same opened = (same ∙ opened.0, opened.1)
 stays_open true before seat same opened = (opened.0, same ∙ opened.1)
-
-pub none_past : (past : Bool) (before : Viewing) → past ≡ false → IsOpen past before → IsOpen false before
-none_past false before is opened = opened
-none_past true before is opened = absurd cc
-
-pub is_past : (past : Bool) (before : Viewing) → past ≡ true → IsOpen past before → IsOpen true before
-is_past false before is opened = absurd cc
-is_past true before is opened = opened
 
 -- what is seen after a visit is what it found
 pub visited-seen : (before after : Viewing) (v : ℕ) (found : List Linked) → IsViewing before → HasVisited before v found after → seen_row after v ≡ whole_row before found v
@@ -91,13 +86,13 @@ visited-seen before after v found viewing visit =
     ∙ ap (λ es. label_row before.global v ++ reverse es ++ label_row before.own v) (seen-looked (fact_of before v) before.seat.looks before.seat.marks v (viewing.seen v) found visit.0.goes_on)
 
 -- and after a put in the pool that with the entry after it
-pub pooled-seen : (before after : Viewing) (v : ℕ) (e : Entry) → IsViewing before → (put : IsInPool before v e after) → seen_row after v ≡ seen_row before v ++ e ∷ []
-pooled-seen before after v e viewing put =
+pub pooled-seen : (before after : Viewing) (v : ℕ) (e : Entry) → IsSeen (fact_of before v) before.seat.looks before.seat.marks v → (put : IsInPool before v e after) → seen_row after v ≡ seen_row before v ++ e ∷ []
+pooled-seen before after v e seen put =
     let G = label_row before.global v in
     let N = seen_chain before.seat.looks before.seat.marks v in
     let own_none : (es : List Entry) → es ++ label_row before.own v ≡ es = λ es. ap (λ xs. es ++ xs) put.none_own ∙ append-nil es in
     ap (λ w. seen_row w v) (pooled-is before after v e put)
-    ∙ ap (λ es. G ++ reverse es ++ label_row before.own v) (seen-put (fact_of before v) before.seat.looks before.seat.marks v (viewing.seen v) (record { cell = put.put.cell; entry = e }) put.put.older put.put.goes_on)
+    ∙ ap (λ es. G ++ reverse es ++ label_row before.own v) (seen-put (fact_of before v) before.seat.looks before.seat.marks v seen (record { cell = put.put.cell; entry = e }) put.put.older put.put.goes_on)
     ∙ own_none (G ++ reverse (e ∷ N))
     ∙ ap (λ es. G ++ es) (reverse-append (e ∷ []) N)
     ∙ sym (append_assoc G (reverse N) (e ∷ []))

@@ -1,11 +1,11 @@
 -- The nodes whose rows aren't empty, after one more entry.
-use Rattle.std.proofs.Common.{◌≡◌, ◌≢◌, ◌↔◌, inl, inr, Bool, true, eqb-true, ℕ, suc, ◌-◌, ◌<◌, ◌≤◌, false, List, [], ◌∷◌, ◌++◌, All, Contains, length, replicate, get_or, ne_eqb, refl, sym, ap, subst, ◌∙◌, arith, rules}
+use Rattle.std.proofs.Common.{◌≡◌, ◌≢◌, inl, inr, Bool, true, eqb-true, ℕ, suc, ◌-◌, ◌≤◌, false, List, [], ◌∷◌, ◌++◌, All, Contains, length, replicate, ne_eqb, refl, sym, subst, ◌∙◌, arith, rules}
 use Rattle.std.specs.Prelude.{nat_eq}
 use Rattle.std.specs.List.{IsDistinct}
 use Rattle.std.proofs.Math.ListN.{length-set}
 use Rattle.std.proofs.lemmas.Bool.{cases_eq}
 use Rattle.std.proofs.lemmas.List.{get_or-replicate, length-replicate}
-use Rattle.std.proofs.lemmas.List.Elements.{All-nil, All-push, All-from_recursion, recursion_from_All, All-contains, Contains-push, Contains-push_cases, Contains-append_left}
+use Rattle.std.proofs.lemmas.List.Elements.{All-nil, All-push, All-from_recursion, recursion_from_All, Contains-push, Contains-push_cases, Contains-append_left}
 use Rattle.std.proofs.lemmas.Map.Keys.{IsDistinct-cons, IsDistinct-head, IsDistinct-tail}
 use Rattle.walk_laws.proofs.Members.{Contains-empty}
 use Rattle.walk_laws.specs.declared.entry.Entry.{Entry}
@@ -86,10 +86,6 @@ module _ (rows : List (List Entry)) (nodes : List ℕ) (v : ℕ) (e : Entry) (fr
       )
     ];
   }
-
-pub no-length : (nodes : List ℕ) → length nodes ≡ 0 → nodes ≡ []
-no-length [] is = refl
-no-length (v ∷ vs) is = absurd (omega (arith, is))
 
 pub empty-length : (row : List Entry) → length row ≡ 0 → row ≡ []
 empty-length [] is = refl

@@ -1,9 +1,9 @@
 -- What was seen of chains, after one more visit and one more put.
-use Rattle.std.proofs.Common.{◌≡◌, ◌≢◌, inl, inr, ℕ, ◌+◌, ◌<◌, ◌≤◌, Bool, true, false, eq-eqb, eqb-true, ne_eqb, List, [], ◌∷◌, ◌++◌, All, length, refl, sym, ap, subst, ◌∙◌, arith}
+use Rattle.std.proofs.Common.{◌≡◌, ◌≢◌, inl, ℕ, ◌<◌, ◌≤◌, Bool, true, false, eq-eqb, eqb-true, ne_eqb, List, [], ◌∷◌, ◌++◌, All, length, refl, sym, ap, subst, ◌∙◌, arith}
 use Rattle.std.specs.Prelude.{reverse, nat_eq, nat_lt, if◌then◌else◌}
 use Rattle.std.proofs.lemmas.Bool.{le-ltb, lt-ltb}
 use Rattle.std.proofs.lemmas.List.{append_assoc, length-append, map-append, reverse-append}
-use Rattle.std.proofs.lemmas.List.Elements.{All-cons, All-nil, All-weaker, All-head, All-tail}
+use Rattle.std.proofs.lemmas.List.Elements.{All-cons, All-weaker, All-head, All-tail}
 use Rattle.walk_laws.specs.declared.entry.Entry.{Entry}
 use Rattle.hub_index.specs.Views.{StandsIn}
 use Rattle.hub_index.proofs.FoundRows.{StandsIn-self, StandsIn-after}
@@ -60,10 +60,6 @@ tail-entries tail whole list t stands =
 
 tail-through : (tail middle whole : List Linked) → IsTailOf tail middle → IsTailOf middle whole → IsTailOf tail whole
 tail-through tail middle whole t u = record { prefix = u.prefix ++ t.prefix; parted = u.parted ∙ ap (λ ls. u.prefix ++ ls) t.parted ∙ sym (append_assoc u.prefix t.prefix tail) }
-
--- nothing was found and put
-pub IsSeen-nothing : (fact : Entry → Type 0) (v : ℕ) → IsSeen fact [] [] v
-IsSeen-nothing fact v = record { longest = All-nil _; tail = record { prefix = []; parted = refl }; stands = tt; met = All-nil fact }
 
 module _ (fact : Entry → Type 0) (looks marks : List Look) (v : ℕ) (seen : IsSeen fact looks marks v) where
   -- a visit: what was seen is then what it found

@@ -1,12 +1,11 @@
 -- A walk along the chain of a node that a visit found, as far as it has come.
-use Rattle.std.proofs.Common.{◌≡◌, ◌≢◌, ℕ, ◌+◌, ◌<◌, ◌≤◌, Option, List, [], ◌∷◌, ◌++◌, All, length, refl, sym, ap, subst, ◌∙◌, arith}
+use Rattle.std.proofs.Common.{◌≡◌, ℕ, ◌+◌, ◌<◌, ◌≤◌, Option, List, [], ◌∷◌, ◌++◌, All, length, refl, sym, ap, subst, ◌∙◌, arith}
 use Rattle.std.specs.Prelude.{Some, None}
 use Rattle.std.proofs.lemmas.List.{append_assoc, append-nil, length-append}
 use Rattle.std.proofs.lemmas.List.Elements.{All-head, All-tail}
 use Rattle.std.proofs.lemmas.Option.{slice_get_within}
 use Rattle.walk_laws.specs.declared.entry.Entry.{Entry}
 use Rattle.label_pool.specs.declared.rule.Linked.{Linked}
-use Rattle.label_pool.specs.declared.rule.Look.{Look}
 use Rattle.label_pool.specs.Chains.{IsRest, IsNext}
 use Rattle.label_pool.specs.Seats.{PoolId, Seated, HasFound, IsMet}
 use Rattle.pool_view.specs.Fitting.{Fitting, MayStand, order_of}

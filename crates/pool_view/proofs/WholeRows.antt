@@ -1,9 +1,8 @@
 -- The whole row of a node: of the global table, the pool and the worker's own.
-use Rattle.std.proofs.Common.{◌≡◌, inl, inr, ℕ, ◌<◌, Option, List, [], ◌∷◌, ◌++◌, All, Contains, length, map, refl, sym, ap, subst, ◌∙◌}
+use Rattle.std.proofs.Common.{inl, inr, ℕ, Option, List, [], ◌∷◌, ◌++◌, All, Contains, length, sym, subst}
 use Rattle.std.specs.Prelude.{Some, None, reverse}
 use Rattle.std.proofs.lemmas.List.{reverse-append, reverse-reverse, append-nil}
 use Rattle.std.proofs.lemmas.List.Elements.{All-append, All-weaker, All-contains, All-contains_itself, All-map, Contains-append_left, Contains-append_right, Contains-append_cases}
-use Rattle.std.proofs.lemmas.Option.{slice_get_within}
 use Rattle.walk_laws.proofs.Members.{Contains-empty}
 use Rattle.walk_laws.specs.declared.entry.Entry.{Entry}
 use Rattle.walk_laws.specs.Joined.{Joined}
@@ -45,10 +44,6 @@ StandsIn-reversed (e ∷ es) (x ∷ row) (inr later) =
 pub met-stands : (of : Option Fitting) (v : ℕ) (e : Entry) → IsMet MayStand of v e → EntryFits (Joined (edges_of of)) (order_of of) v e
 met-stands None v e met = absurd met
 met-stands (Some of) v e met = met
-
-pub stands-met : (of : Option Fitting) (some : Fitting) (v : ℕ) (e : Entry) → of ≡ Some some → EntryFits (Joined (edges_of of)) (order_of of) v e → IsMet MayStand of v e
-stands-met None some v e is stands = absurd cc
-stands-met (Some of) some v e is stands = stands
 
 module _ (view : Viewing) (found : List Linked) (v : ℕ) where
   abbrev Global : List Entry

@@ -1,5 +1,5 @@
 -- The rows of one worker, and which of them have something.
-use Rattle.std.specs.Prelude.{◌≡◌, ◌↔◌, ◌≢◌, ℕ, ◌≤◌, List, [], All, Contains, length, nat_eq}
+use Rattle.std.specs.Prelude.{◌↔◌, ◌≢◌, ℕ, List, [], All, Contains, length, nat_eq}
 use Rattle.std.specs.List.{IsDistinct}
 use Rattle.walk_laws.specs.declared.entry.Entry.{Entry}
 use Rattle.walk_laws.specs.Labelling.{label_row}

@@ -1,26 +1,28 @@
 -- What one worker sees of the rows of a superstep (Planting Trees, PVLDB 2019), and what its calls change.
 use Rattle.std.specs.Prelude.{◌≡◌, ◌⊎◌, ℕ, ◌≤◌, Bool, true, false, List, [], ◌∷◌, ◌++◌, All, Contains, None, Some, Option, length, reverse}
 use Rattle.walk_laws.specs.declared.entry.Entry.{Entry}
-use Rattle.walk_laws.specs.declared.graph.Edge.{Edge}
 use Rattle.walk_laws.specs.Joined.{Joined}
 use Rattle.walk_laws.specs.Labelling.{EntryFits, label_row}
 use Rattle.hub_index.specs.HubIndex.{with_entry}
 use Rattle.hub_index.specs.PlainRows.{IsGathered}
+use Rattle.hub_index.specs.Sunk.{entries_of_node}
+use Rattle.hub_index.specs.declared.entry_sink.NodeEntry.{NodeEntry}
 use Rattle.hub_index.specs.RootDistances.{IsCover}
 use Rattle.hub_index.specs.Views.{IsNode, IsFound, IsAnswerOf, with_put}
 use Rattle.hub_index.specs.declared.row_view.Offer.{Offer}
 use Rattle.hub_index.specs.declared.row_view.Offer.TheVariants.{Put as IsPut, Covered, NoMemory}
 use Rattle.label_pool.specs.declared.rule.Linked.{Linked}
-use Rattle.label_pool.specs.Chains.{entries_of, entries_at}
+use Rattle.label_pool.specs.Chains.{entries_of}
 use Rattle.label_pool.specs.Seats.{PoolId, Seated, HasPut, HasFound}
 use Rattle.pool_view.specs.Fitting.{Fitting, MayStand, edges_of, order_of, IsFittingPool}
 use Rattle.pool_view.specs.Seen.{IsSeen, seen_chain}
 
--- A worker at the rows: its seat at the pool, the rows of the global table, and its own rows
+-- A worker at the rows: its seat at the pool, the rows of the global table, its own rows, and the list of what it put
 pub record Viewing : Type 0 where
   pub seat : Seated Fitting
   pub global : List (List Entry)
   pub own : List (List Entry)
+  pub list : List NodeEntry
 
 -- the whole row of the node v where the pool has this chain there: the global row, the chain with the oldest entry first, and the worker's own row
 abbrev pub whole_row : Viewing → List Linked → ℕ → List Entry
@@ -30,9 +32,9 @@ whole_row view chain v = label_row view.global v ++ reverse (entries_of chain) +
 abbrev pub seen_row : Viewing → ℕ → List Entry
 seen_row view v = label_row view.global v ++ reverse (seen_chain view.seat.looks view.seat.marks v) ++ label_row view.own v
 
--- what was put in the row of v: in the pool, and then in the worker's own row
+-- what the worker put in the row of v: in the pool, and then in its own row
 abbrev pub puts_row : Viewing → ℕ → List Entry
-puts_row view v = entries_at view.seat.puts v ++ label_row view.own v
+puts_row view v = entries_of_node view.list v
 
 -- what no call changes: whose rows these are, how many seats may still be split, and the global table
 pub record ViewKept : Type 0 where
@@ -47,12 +49,13 @@ view_kept view = record { pool = view.seat.pool; left = view.seat.left; global =
 abbrev pub fact_of : Viewing → ℕ → Entry → Type 0
 fact_of view v e = EntryFits (Joined (edges_of view.seat.pool.fact)) (order_of view.seat.pool.fact) v e
 
--- the entries of the global table and of the own rows of a worker may stand there, and what it saw of chains is right
+-- the entries of the global table and of the own rows of a worker may stand there, what it saw of chains is right, and what it put is of nodes
 pub record IsViewing (view : Viewing) : Type 0 where
   pub pool : IsFittingPool view.seat.pool
   pub global : IsGathered (edges_of view.seat.pool.fact) (order_of view.seat.pool.fact) view.global
   pub own : IsGathered (edges_of view.seat.pool.fact) (order_of view.seat.pool.fact) view.own
   pub seen : (v : ℕ) → IsSeen (fact_of view v) view.seat.looks view.seat.marks v
+  pub nodes : All (λ e. IsNode (length (order_of view.seat.pool.fact)) e.node) view.list
 
 -- as long as the seat has not drawn past the last cell there is nothing in its own rows
 abbrev pub IsOpen : Bool → Viewing → Type 0
@@ -80,14 +83,22 @@ pub record IsInOwn (before : Viewing) (v : ℕ) (e : Entry) (after : Viewing) : 
   pub same : after ≡ record before { seat = record before.seat { past = Some cell }; own = with_entry before.own v e }
 
 -- the entry was put in the one or in the other
-abbrev pub HasGained : Viewing → ℕ → Entry → Viewing → Type 0
-HasGained before v e after = IsInPool before v e after ⊎ IsInOwn before v e after
+abbrev pub IsPlaced : Viewing → ℕ → Entry → Viewing → Type 0
+IsPlaced before v e after = IsInPool before v e after ⊎ IsInOwn before v e after
 
--- what an offer changes after its visit: nothing where an entry covers; the entry is put in the pool, or, where that is full, in the worker's own row; where that finds no memory nothing is gained
+-- the list, with the entry of v last
+abbrev pub listed : List NodeEntry → ℕ → Entry → List NodeEntry
+listed list v e = list ++ record { node = v; pos = e.pos; dist = e.dist } ∷ []
+
+-- the entry was put in the one or in the other, and listed
+abbrev pub HasGained : Viewing → ℕ → Entry → Viewing → Type 0
+HasGained before v e after = IsPlaced (record before { list = listed before.list v e }) v e after
+
+-- what an offer changes after its visit: nothing where an entry covers; the entry is put in the pool, or, where that is full, in the worker's own row, and listed; where that finds no memory nothing is gained
 abbrev pub IsAfter : Viewing → ℕ → Entry → Offer → Viewing → Type 0
 IsAfter before v e IsPut after = HasGained before v e after
 IsAfter before v e (Covered pos dist) after = after ≡ before
-IsAfter before v e NoMemory after = IsPast before after
+IsAfter before v e NoMemory after = (after ≡ before) ⊎ IsPast before after
 
 -- an offer that an entry of the global row covers: it is answered by that entry, the row found is the list seen before, and nothing has changed
 pub record IsOfferedToGlobal (table : List (Option ℕ)) (before : Viewing) (v : ℕ) (e : Entry) (answer : Offer) (after : Viewing) : Type 0 where

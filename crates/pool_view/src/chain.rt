@@ -1,12 +1,11 @@
 //! Whole walks of the chain of a node: each ends where the chain does.
 ghost use Rattle.std.specs.Prelude.{◌≡◌, ◌^◌, ◌<◌, ◌≤◌, List, All, Contains, length, IfSome, IfNone};
-ghost use Rattle.hub_index.specs.RootDistances.{IsCover};
+ghost use Rattle.hub_index.specs.RootDistances.{noted, IsCover};
 ghost use Rattle.hub_index.specs.Views.{IsNode};
 ghost use Rattle.label_pool.specs.declared.rule.Linked.{Linked};
 ghost use Rattle.label_pool.specs.Chains.{entries_of};
 ghost use Rattle.label_pool.specs.Seats.{IsSeatOf, HasFound};
 ghost use Rattle.pool_view.specs.Fitting.{MayStand, order_of};
-ghost use Rattle.pool_view.specs.Noted.{noted};
 
 use crate::fits::Fits;
 use hub_index::RootTable;
@@ -58,14 +57,4 @@ pub fn covered_in_chain(
         }
     }
     cover
-}
-
-/// Notes the entries of a row in the table.
-pub fn note_row(row: &[Entry], table: &mut RootTable)
-    requires { All (λ e. e.pos < length table.old) row.now }
-    ensures { table.new ≡ noted table.old row.now }
-{
-    for entry in row {
-        table.note(*entry);
-    }
 }

@@ -2,10 +2,11 @@
 //! workers write, and the worker's own rows, which take what the pool has no cell for.
 //!
 //! A [`PoolView`] is a `hub_index::RowView`, so pruned trees grow over it as they do over plain rows. It is made of a pool
-//! whose entries may stand in the rows of a graph's nodes ([`Fits`]), of a seat at it, of the global table, and of
-//! [`OwnRows`], which a worker keeps from one superstep to the next. It stands on label_pool (the pool and its seats) and
-//! hub_index (rows, tables, what a view promises). Its callers' clauses use `specs/Fitting` (`Fitting`, `IsFittingPool`),
-//! `specs/Viewing` (`Viewing`, `whole_row`, `seen_row`, `puts_row`) and `specs/OwnRows` (`AreNodesOf`).
+//! whose entries may stand in the rows of a graph's nodes ([`Fits`]), of a seat at it, of the global table, of [`OwnRows`],
+//! which a worker keeps from one superstep to the next, and of a list, which gets all that the worker puts. It stands on
+//! label_pool (the pool and its seats) and hub_index (rows, tables, what a view promises). Its callers' clauses use
+//! `specs/Fitting` (`Fitting`, `IsFittingPool`), `specs/Viewing` (`Viewing`, `whole_row`, `seen_row`, `puts_row`) and
+//! `specs/OwnRows` (`AreNodesOf`).
 #![tactic(auto)]
 
 mod chain;

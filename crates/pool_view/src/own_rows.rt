@@ -1,17 +1,15 @@
-ghost use Rattle.std.specs.Prelude.{◌≡◌, ℕ, ◌≤◌, [], ◌++◌, All, length, nat_eq, replicate, IfOk, OnOk, OnErr, if◌then◌else◌};
+ghost use Rattle.std.specs.Prelude.{◌≡◌, ◌≤◌, [], length, replicate, IfOk, OnOk, OnErr};
 ghost use Rattle.walk_laws.specs.Labelling.{label_row};
 ghost use Rattle.hub_index.specs.HubIndex.{with_entry};
-ghost use Rattle.hub_index.specs.Sunk.{entries_of_node};
-ghost use Rattle.hub_index.specs.Views.{IsNode};
 ghost use Rattle.pool_view.specs.OwnRows.{AreNodesOf};
 
-use hub_index::{NodeEntry, RowList};
+use hub_index::RowList;
 use std::alloc::{AllocError, Global};
 use std::marker::Model;
 use walk_laws::Entry;
 
 /// The rows of one worker, which nobody else sees, with the nodes of those that aren't empty. They are made once, and
-/// emptied at the cost of what they have. Contracts see the list of the rows, node 1 first.
+/// emptied at the cost of those that have something. Contracts see the list of the rows, node 1 first.
 #[derive(Debug, Drop)]
 pub struct OwnRows {
     rows: RowList,
@@ -76,39 +74,19 @@ impl OwnRows {
         Ok(())
     }
 
-    /// Moves all entries after others, and gives the rows back, which are empty then. It costs the entries. The only error
-    /// is that memory ran out, and then the rows are given up.
-    pub fn empty_into(self, others: &mut Vec<NodeEntry>) -> Result<OwnRows, AllocError>
-        ensures empty { IfOk result (λ own. own ≡ replicate (length self) []) }
-        ensures entries { IfOk result (λ _. (v : ℕ) → IsNode (length self) v → entries_of_node others.new.items v ≡ entries_of_node others.old.items v ++ label_row self v) }
-        ensures nodes { All (λ e. IsNode (length self) e.node) others.old.items → All (λ e. IsNode (length self) e.node) others.new.items }
+    /// Empties all rows, at the cost of those that have something. It takes no memory.
+    pub fn emptied(self) -> OwnRows
+        ensures { result ≡ replicate (length self) [] }
     {
         let OwnRows { rows, mut nodes } = self;
         let mut rows = rows.into_rows();
         for node in &nodes {
-            let place = *node as usize - 1;
-            list_entries(others, *node, rows[place].as_slice())?;
-            rows[place].clear();
+            rows[*node as usize - 1].clear();
         }
         nodes.clear();
-        Ok(OwnRows {
+        OwnRows {
             rows: RowList::from_rows(rows),
             nodes,
-        })
+        }
     }
-}
-
-/// Puts entries of a node, a number from 1, after others. The only error is that memory ran out.
-fn list_entries(others: &mut Vec<NodeEntry>, node: u32, entries: &[Entry]) -> Result<(), AllocError>
-    ensures entries { OnOk result ((v : ℕ) → entries_of_node others.new.items v ≡ entries_of_node others.old.items v ++ (if nat_eq node v then entries.now else [])) }
-    ensures nodes { (n : ℕ) → IsNode n node → All (λ e. IsNode n e.node) others.old.items → All (λ e. IsNode n e.node) others.new.items }
-{
-    for entry in entries {
-        others.push(NodeEntry {
-            node,
-            pos: entry.pos,
-            dist: entry.dist,
-        })?;
-    }
-    Ok(())
 }

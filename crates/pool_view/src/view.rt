@@ -1,4 +1,4 @@
-ghost use Rattle.std.specs.Prelude.{◌≡◌, ◌⊎◌, None, List, [], length, replicate, OnOk, OnErr};
+ghost use Rattle.std.specs.Prelude.{◌≡◌, ◌⊎◌, None, All, List, [], length, replicate, OnOk, OnErr};
 ghost use Rattle.hub_index.specs.PlainRows.{IsGathered};
 ghost use Rattle.hub_index.specs.RootDistances.{HoldsRow};
 ghost use Rattle.hub_index.specs.Views.{IsNode, IsFound};
@@ -6,12 +6,12 @@ ghost use Rattle.hub_index.specs.declared.row_view.Offer.TheVariants.{Covered};
 ghost use Rattle.label_pool.specs.declared.rule.Linked.{Linked};
 ghost use Rattle.label_pool.specs.Seats.{IsSeatOf};
 ghost use Rattle.pool_view.specs.Fitting.{IsFittingPool, edges_of, order_of};
-ghost use Rattle.pool_view.specs.Viewing.{HasGained, HasVisited, IsPast, IsOfferedToAll, IsOfferedToGlobal, fact_of, seen_row, whole_row};
+ghost use Rattle.pool_view.specs.Viewing.{HasGained, HasVisited, IsPast, IsPlaced, IsOfferedToAll, IsOfferedToGlobal, fact_of, seen_row, whole_row};
 
-use crate::chain::{covered_in_chain, note_chain, note_row};
+use crate::chain::{covered_in_chain, note_chain};
 use crate::fits::Fits;
 use crate::own_rows::OwnRows;
-use hub_index::{Offer, RootTable, RowList, RowView, covered};
+use hub_index::{NodeEntry, Offer, RootTable, RowView, SplitRows, covered};
 use label_pool::{Pool, PoolPut, PoolSeat};
 use std::alloc::AllocError;
 use std::marker::Model;
@@ -20,14 +20,18 @@ use walk_laws::Entry;
 
 /// The rows of a superstep as one worker sees and grows them. The row of a node is its row of the global table, then what
 /// all workers put in the pool, the oldest first, then what the worker keeps itself since the pool has no cell for it.
-/// Contracts see its seat at the pool, the global rows and its own rows.
+/// Entries of the global table take 8 bytes where their distances fit in 4: each of a row up to the first that doesn't.
+/// All that the worker puts is listed, so that nobody has to go through the pool's cells for it. Contracts see its seat at
+/// the pool, the global rows, its own rows, and what is listed.
 #[derive(Drop)]
 pub struct PoolView<'a, R: Wait> {
     rt: &'a R,
     pool: &'a Pool<Fits>,
-    global: &'a RowList,
+    global: &'a SplitRows,
     seat: PoolSeat<Fits>,
     own: OwnRows,
+    /// All that the worker put, in that order: in the pool, and, once that was full, in its own rows.
+    list: Vec<NodeEntry>,
     /// Whether the seat drew past the last cell. Until then its own rows are empty.
     past: bool,
 }
@@ -39,20 +43,21 @@ impl<'a, R: Wait> Model for PoolView<'a, R> {
 
     ghost Value = { Viewing };
 
-    ghost view = { λ v. record { seat = v.seat; global = v.global.now; own = v.own } };
+    ghost view = { λ v. record { seat = v.seat; global = v.global.now; own = v.own; list = v.list.items } };
 
-    ghost invariant = { λ v. IsSeatOf v.pool.now v.seat × IsViewing (record { seat = v.seat; global = v.global.now; own = v.own }) × IsOpen v.past (record { seat = v.seat; global = v.global.now; own = v.own }) };
+    ghost invariant = { λ v. IsSeatOf v.pool.now v.seat × IsViewing (record { seat = v.seat; global = v.global.now; own = v.own; list = v.list.items }) × IsOpen v.past (record { seat = v.seat; global = v.global.now; own = v.own; list = v.list.items }) };
 }
 
 impl<'a, R: Wait> PoolView<'a, R> {
-    /// A view by a seat that has visited no chain and put nothing by itself, with own rows that are empty. By `rt` its puts
-    /// wait for one another.
+    /// A view by a seat that has visited no chain and put nothing by itself, with own rows and a list that are empty. By `rt`
+    /// its puts wait for one another.
     pub fn new(
         rt: &'a R,
         pool: &'a Pool<Fits>,
-        global: &'a RowList,
+        global: &'a SplitRows,
         seat: PoolSeat<Fits>,
         own: OwnRows,
+        list: Vec<NodeEntry>,
     ) -> PoolView<'a, R>
         requires pool { IsFittingPool pool.now }
         requires seat { IsSeatOf pool.now seat }
@@ -60,9 +65,11 @@ impl<'a, R: Wait> PoolView<'a, R> {
         requires fresh { (seat.looks ≡ []) × (seat.marks ≡ []) }
         requires global { IsGathered (edges_of pool.now.fact) (order_of pool.now.fact) global.now }
         requires own { own ≡ replicate (length global.now) [] }
+        requires list { list.items ≡ [] }
         ensures seat { result.seat ≡ seat }
         ensures global { result.global ≡ global.now }
         ensures own { result.own ≡ own }
+        ensures list { result.list ≡ [] }
     {
         PoolView {
             rt,
@@ -70,15 +77,18 @@ impl<'a, R: Wait> PoolView<'a, R> {
             global,
             seat,
             own,
+            list,
             past: false,
         }
     }
 
-    /// The seat, and the own rows with what the pool had no cell for.
-    pub fn into_parts(self) -> (PoolSeat<Fits>, OwnRows)
+    /// The seat, the own rows with what the pool had no cell for, and the list of all that was put, in that order.
+    pub fn into_parts(self) -> (PoolSeat<Fits>, OwnRows, Vec<NodeEntry>)
         ensures seat { result.0 ≡ self.entry.seat }
         ensures own { result.1 ≡ self.entry.own }
-        ensures fit { IsGathered (edges_of self.entry.seat.pool.fact) (order_of self.entry.seat.pool.fact) self.entry.own }
+        ensures list { result.2.items ≡ self.entry.list }
+        ensures size { length self.entry.own ≡ length (order_of self.entry.seat.pool.fact) }
+        ensures nodes { All (λ e. IsNode (length (order_of self.entry.seat.pool.fact)) e.node) self.entry.list }
     {
         let PoolView {
             rt: _,
@@ -86,17 +96,38 @@ impl<'a, R: Wait> PoolView<'a, R> {
             global: _,
             seat,
             own,
+            list,
             past: _,
         } = self;
-        (seat, own)
+        (seat, own, list)
     }
 
-    /// Puts the entry at the node `v`, a number from 1: in the pool, unless the seat has drawn past the last cell or does so
-    /// now; then in the own row. The only error is that memory ran out for that, and nothing is put.
+    /// Puts the entry at the node `v`, a number from 1, and lists it. The only error is that memory ran out for that, and
+    /// nothing is put.
     fn put(&mut self, v: u32, entry: Entry) -> Result<(), AllocError>
         requires node { IsNode (length (order_of self.old.seat.pool.fact)) v }
         requires fits { fact_of self.old v entry }
         ensures ok { OnOk result (HasGained self.old v entry self.new) }
+        ensures err { OnErr result ((self.new ≡ self.old) ⊎ IsPast self.old self.new) }
+    {
+        self.list.push(NodeEntry {
+            node: v,
+            pos: entry.pos,
+            dist: entry.dist,
+        })?;
+        if self.place(v, entry).is_err() {
+            self.list.pop();
+            return Err(AllocError);
+        }
+        Ok(())
+    }
+
+    /// Puts the entry, which is listed, in the pool, unless the seat has drawn past the last cell or does so now; then in the
+    /// own row of `v`. The only error is that memory ran out for that, and nothing is put.
+    fn place(&mut self, v: u32, entry: Entry) -> Result<(), AllocError>
+        requires node { IsNode (length (order_of self.old.seat.pool.fact)) v }
+        requires fits { fact_of self.old v entry }
+        ensures ok { OnOk result (IsPlaced self.old v entry self.new) }
         ensures err { OnErr result (IsPast self.old self.new) }
     {
         if self.past {
@@ -114,7 +145,7 @@ impl<'a, R: Wait> PoolView<'a, R> {
 
 /// A root is loaded from its whole row, by one visit. An offer is tested by the global row first, and goes to the pool only
 /// where no entry of that covers it: then it is one visit, and it is tested by the whole row. What is put goes into the
-/// pool, or, where the seat drew past the last cell, from then on into the worker's own rows.
+/// pool, or, where the seat drew past the last cell, from then on into the worker's own rows, and is listed in both cases.
 impl<'a, R: Wait> RowView for PoolView<'a, R> {
     ghost use Rattle.pool_view.specs.Fitting.{edges_of, order_of};
     ghost use Rattle.pool_view.specs.Viewing.{ViewKept, view_kept, seen_row, puts_row, fact_of};
@@ -144,8 +175,8 @@ impl<'a, R: Wait> RowView for PoolView<'a, R> {
     {
         table.clear();
         note_chain(self.pool, &mut self.seat, h, table);
-        note_row(self.own.row(h), table);
-        note_row(self.global.row(h), table);
+        table.note_row(self.own.row(h));
+        self.global.note(h, table);
     }
 
     fn offer(&mut self, v: u32, entry: Entry, table: &RootTable) -> Offer
@@ -154,7 +185,7 @@ impl<'a, R: Wait> RowView for PoolView<'a, R> {
         requires fits { fact_of self.old v entry }
         ensures offered { IsOfferedToGlobal table.now self.old v entry result self.new ⊎ IsOfferedToAll table.now self.old v entry result self.new }
     {
-        if let Some(cover) = covered(self.global.row(v), table, entry.pos, entry.dist) {
+        if let Some(cover) = self.global.cover(v, table, entry.pos, entry.dist) {
             return covered_by(cover);
         }
         if let Some(cover) = covered_in_chain(self.pool, &mut self.seat, v, table, entry) {

@@ -1,4 +1,4 @@
-use Rattle.std.proofs.Common.{rules, ◌≡◌, ℕ, ◌∷◌, All, length, subst, arith}
+use Rattle.std.proofs.Common.{rules, All, length, subst}
 use Rattle.std.proofs.lemmas.List.Elements.{All-cons, All-head, All-tail}
 use Rattle.gll_build.specs.Shares.{HasWorked, IsReady}
 use Rattle.gll_build.specs.declared.workers.Worker.{Worker}
@@ -11,7 +11,7 @@ grow_all-grow_trees-requires-clause-ready g t c =
 
 pub grow_all-returns-then-is_empty-clause-worked : goal.grow_all-returns-then-is_empty-clause-worked
 grow_all-returns-then-is_empty-clause-worked g t c =
-    let Worked : Worker → Type 0 = HasWorked c.args.claims.now c.args.pool.now c.args.graph.now.edges c.args.ranking.now c.args.global.now in
+    let Worked : Worker → Type 0 = HasWorked c.args.claims.now c.args.graph.now.edges c.args.ranking.now c.args.global.now in
     All-cons Worked c.grow_trees.new.self c.in-Some.others.now c.grow_trees.ensures (λ k d lt. search rules)
 
 pub grow_all-grow_beside-requires-clause-first : goal.grow_all-grow_beside-requires-clause-first
@@ -26,10 +26,10 @@ grow_all-grow_beside-requires-clause-others g t c κs within =
 
 pub grow_all-returns-clause-worked : goal.grow_all-returns-clause-worked
 grow_all-returns-clause-worked g t c =
-    let Worked : Worker → Type 0 = HasWorked c.args.claims.now c.args.pool.now c.args.graph.now.edges c.args.ranking.now c.args.global.now in
+    let Worked : Worker → Type 0 = HasWorked c.args.claims.now c.args.graph.now.edges c.args.ranking.now c.args.global.now in
     All-cons Worked c.grow_beside.new.first c.grow_beside.new.others c.grow_beside.ensures.first c.grow_beside.ensures.others
 
 pub grow_beside-returns-clause-others : goal.grow_beside-returns-clause-others
 grow_beside-returns-clause-others g t c =
-    let Worked : Worker → Type 0 = HasWorked c.args.claims.now c.args.pool.now c.args.graph.now.edges c.args.ranking.now c.args.global.now in
+    let Worked : Worker → Type 0 = HasWorked c.args.claims.now c.args.graph.now.edges c.args.ranking.now c.args.global.now in
     subst (All Worked) (search rules) c.join_mut.ensures.1.met.1.1

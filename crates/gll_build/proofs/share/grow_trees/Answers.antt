@@ -1,10 +1,9 @@
-use Rattle.std.proofs.Common.{◌≡◌, ℕ, true, false, [], length, refl, sym, ap, subst, ◌∙◌}
+use Rattle.std.proofs.Common.{◌≡◌, true, [], refl, sym, ap, ◌∙◌}
 use mathlib.Core.Bool.{true≢false}
 use Rattle.std.proofs.lemmas.List.{append-nil}
-use Rattle.pruned_tree.specs.GrownBy.{HasGrown, IsGrownBy}
 use Rattle.pruned_tree.proofs.GrownPuts.{IsGrownBy-none, HasGrown-then}
 use Rattle.pool_view.specs.Fitting.{edges_of, order_of}
-use Rattle.pool_view.specs.Viewing.{ViewKept, puts_row, view_kept}
+use Rattle.pool_view.specs.Viewing.{ViewKept, puts_row}
 use Rattle.gll_build.proofs.UncoveredPuts.{StayUncovered-none, StayUncovered-then}
 use Rattle.gll_build.proofs.share.grow_trees.Goals as goal
 

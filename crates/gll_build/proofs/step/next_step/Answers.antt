@@ -1,7 +1,6 @@
-use Rattle.std.proofs.Common.{◌≡◌, ℕ, ◌<◌, ◌≤◌, All, length, sym, ap, subst, ◌∙◌, arith}
+use Rattle.std.proofs.Common.{ℕ, length, sym, subst, arith}
 use Rattle.hub_index.specs.Sunk.{entries_of_node}
 use Rattle.hub_index.specs.Views.{IsNode}
-use Rattle.label_clean.specs.Below.{IsChlBelow}
 use Rattle.label_clean.specs.Between.{HoldsBetween, IsLaterRow}
 use Rattle.gll_build.specs.Shares.{AreUncovered}
 use Rattle.gll_build.proofs.Harvests.{IsGathered-below, earlier-below, later-between}

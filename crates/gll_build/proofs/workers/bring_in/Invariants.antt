@@ -1,14 +1,16 @@
-use Rattle.std.proofs.Common.{◌≡◌, ℕ, ◌+◌, ◌-◌, All, vec_len}
-use Rattle.gll_build.specs.Shares.{AreSeatsOf, HasWorked, IsHarvest}
+use Rattle.std.proofs.Common.{◌≡◌, ◌+◌, All, vec_len}
+use Rattle.root_claims.specs.Seats.{IsSeatOf as IsClaimSeatOf}
+use Rattle.gll_build.specs.Shares.{HasWorked, IsHarvest}
 use Rattle.gll_build.proofs.workers.bring_in.Given as goal
 
 -- what the workers that were taken so far handed back is one, and the others have worked
 abbrev pub invariant-loop-worker : goal.invariant-loop-worker
 invariant-loop-worker l = record {
-  seats : (left : ℕ) × (left + 1 + vec_len l.workers ≡ vec_len l.fn.workers) × AreSeatsOf l.claims l.pool left l.whole.seats;
+  seat : IsClaimSeatOf l.claims l.whole.seat;
+  left : l.whole.seat.left + 1 + vec_len l.workers ≡ vec_len l.fn.workers;
   size : vec_len l.whole.benches + vec_len l.workers ≡ vec_len l.fn.workers;
   harvest : IsHarvest l.graph.edges l.ranking l.global l.whole;
-  worked : All (HasWorked l.claims l.pool l.graph.edges l.ranking l.global) l.workers.items;
+  worked : All (HasWorked l.claims l.graph.edges l.ranking l.global) l.workers.items;
 }
 
 abbrev pub decreases-loop-worker : goal.decreases-loop-worker

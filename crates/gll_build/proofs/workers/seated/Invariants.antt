@@ -1,4 +1,4 @@
-use Rattle.std.proofs.Common.{◌≡◌, ℕ, ◌+◌, All, vec_len}
+use Rattle.std.proofs.Common.{◌≡◌, ◌+◌, All, vec_len}
 use Rattle.gll_build.specs.Shares.{AreNew, AreSeatsOf, IsBenchFor, IsReady}
 use Rattle.gll_build.proofs.workers.seated.Given as goal
 

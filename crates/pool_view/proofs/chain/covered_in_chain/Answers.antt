@@ -1,4 +1,4 @@
-use Rattle.std.proofs.Common.{◌≡◌, true, false, None, Some, sym, ap, subst, ◌∙◌, rules}
+use Rattle.std.proofs.Common.{subst}
 use Rattle.hub_index.specs.RootDistances.{IsCover}
 use Rattle.pool_view.proofs.Covers.{IsTold, told-now, told-still, some-before}
 use Rattle.pool_view.proofs.Walks.{walking-next, walking-end}

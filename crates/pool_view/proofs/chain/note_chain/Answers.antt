@@ -1,14 +1,12 @@
-use Rattle.std.proofs.Common.{◌≡◌, ◌<◌, List, [], ◌∷◌, ◌++◌, All, length, ap, sym, subst, ◌∙◌, arith}
+use Rattle.std.proofs.Common.{◌≡◌, [], ◌∷◌, All, length, ap, sym, subst, ◌∙◌, arith}
 use Rattle.std.proofs.lemmas.List.{map-append}
-use Rattle.std.proofs.lemmas.List.Elements.{All-head}
-use Rattle.hub_index.specs.RootDistances.{with_noted}
+use Rattle.hub_index.specs.RootDistances.{noted, with_noted}
+use Rattle.hub_index.proofs.NotedRows.{length-noted, noted-append}
 use Rattle.label_pool.specs.declared.rule.Linked.{Linked}
 use Rattle.label_pool.specs.Chains.{entries_of}
 use Rattle.label_pool.specs.Seats.{IsMet}
 use Rattle.pool_view.specs.Fitting.{MayStand}
-use Rattle.pool_view.specs.Noted.{noted}
-use Rattle.pool_view.proofs.NotedTables.{length-noted, noted-append}
-use Rattle.pool_view.proofs.Walks.{IsWalking, given-cell, walking-next, walking-end, met_at, met-within}
+use Rattle.pool_view.proofs.Walks.{given-cell, walking-next, walking-end, met_at, met-within}
 use Rattle.pool_view.proofs.chain.note_chain.Goals as goal
 
 pub note-requires : goal.note-requires

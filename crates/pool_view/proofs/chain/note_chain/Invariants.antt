@@ -1,6 +1,6 @@
 use Rattle.std.proofs.Common.{◌≡◌}
+use Rattle.hub_index.specs.RootDistances.{noted}
 use Rattle.label_pool.specs.Chains.{entries_of}
-use Rattle.pool_view.specs.Noted.{noted}
 use Rattle.pool_view.proofs.Walks.{IsWalking}
 use Rattle.pool_view.proofs.chain.note_chain.Given as goal
 

@@ -1,4 +1,4 @@
-use Rattle.std.proofs.Common.{ℕ, List, [], replicate, sym, subst}
+use Rattle.std.proofs.Common.{ℕ, List, sym, subst}
 use Rattle.walk_laws.specs.declared.entry.Entry.{Entry}
 use Rattle.pool_view.specs.OwnRows.{AreNodesOf}
 use Rattle.pool_view.proofs.NodesOf.{nodes-none}

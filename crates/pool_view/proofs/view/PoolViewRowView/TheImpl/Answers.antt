@@ -46,14 +46,14 @@ offer-tells g c =
         others_puts = λ u _ other. ap (λ w. puts_row w u) o.same;
       }
       | inr o ↦
-          let kept = after-kept o.visited now c.args.v c.args.entry c.result o.after_is ∙ visited-kept old o.visited c.args.v o.found o.visit in
+          let kept = after-kept o.visited now c.args.v c.args.entry c.requires.node.from_one c.result o.after_is ∙ visited-kept old o.visited c.args.v o.found o.visit in
           record {
             edges = ap (λ (k : ViewKept). edges_of k.pool.fact) kept;
             order = ap (λ (k : ViewKept). order_of k.pool.fact) kept;
             kept = kept;
             found = (whole_row old o.found c.args.v, o.row, o.answer_is, IsSeenAfter-with_put (whole_row old o.found c.args.v) c.args.entry c.result (seen_row now c.args.v) o.seen);
-            puts = after-puts o.visited now c.args.v c.args.entry c.result c.requires.node.from_one o.after_is ∙ ap (λ es. with_put es c.args.entry c.result) (visited-puts old o.visited c.args.v o.found o.visit c.args.v);
-            others_seen = λ u from_one other. (after-else o.visited now c.args.v u c.args.entry c.result c.requires.node.from_one from_one (λ is. other (sym is)) o.after_is).0 ∙ visited-else old o.visited c.args.v o.found o.visit u (λ is. other (sym is));
-            others_puts = λ u from_one other. (after-else o.visited now c.args.v u c.args.entry c.result c.requires.node.from_one from_one (λ is. other (sym is)) o.after_is).1 ∙ visited-puts old o.visited c.args.v o.found o.visit u;
+            puts = after-puts o.visited now c.args.v c.args.entry c.requires.node.from_one c.result o.after_is ∙ ap (λ es. with_put es c.args.entry c.result) (visited-puts old o.visited c.args.v o.found o.visit c.args.v);
+            others_seen = λ u from_one other. (after-else o.visited now c.args.v c.args.entry c.requires.node.from_one c.result o.after_is u from_one (λ is. other (sym is))).0 ∙ visited-else old o.visited c.args.v o.found o.visit u (λ is. other (sym is));
+            others_puts = λ u from_one other. (after-else o.visited now c.args.v c.args.entry c.requires.node.from_one c.result o.after_is u from_one (λ is. other (sym is))).1 ∙ visited-puts old o.visited c.args.v o.found o.visit u;
           }
     ]

@@ -3,23 +3,22 @@ use Rattle.std.specs.Prelude.{None}
 use Rattle.std.proofs.lemmas.List.{length-replicate}
 use Rattle.walk_laws.specs.declared.entry.Entry.{Entry}
 use Rattle.walk_laws.specs.Labelling.{label_row}
-use Rattle.hub_index.specs.RootDistances.{HoldsRow}
+use Rattle.hub_index.specs.RootDistances.{noted, HoldsRow}
 use Rattle.hub_index.specs.Views.{IsNode, IsFound}
+use Rattle.hub_index.proofs.NotedRows.{length-noted}
 use Rattle.hub_index.proofs.RowsGathered.{positions-found}
 use Rattle.label_pool.specs.declared.rule.Linked.{Linked}
 use Rattle.label_pool.specs.Chains.{entries_of}
 use Rattle.pool_view.specs.Fitting.{edges_of, order_of}
-use Rattle.pool_view.specs.Noted.{noted}
 use Rattle.pool_view.specs.Viewing.{Viewing, HasVisited, fact_of, seen_row, whole_row}
 use Rattle.pool_view.proofs.Answered.{IsVisit, visit-of, visited, row_found, seen_now, viewing_now, pool_kept, open_kept, row_held}
-use Rattle.pool_view.proofs.NotedTables.{length-noted}
 use Rattle.pool_view.proofs.view.PoolViewRowView.load_root.Given as given
 use Rattle.pool_view.proofs.view.PoolViewRowView.load_root.Goals as goal
 use Rattle.pool_view.proofs.view.PoolViewRowView.load_root.Goals.{After-row}
 
 -- the view as it was
 abbrev viewed : (g : given.Over) → After-row g → Viewing
-viewed g c = record { seat = c.self.inside.seat; global = c.self.inside.global.now; own = c.self.inside.own }
+viewed g c = record { seat = c.self.inside.seat; global = c.self.inside.global.now; own = c.self.inside.own; list = c.self.inside.list.items }
 
 visit_is : (g : given.Over) (c : After-row g) → IsVisit (viewed g c) c.args.h c.note_chain.new.seat c.note_chain.ensures.chain.0
 visit_is g c = record {
@@ -45,12 +44,12 @@ note_row-requires g c =
     let is = visit_is g up in
     inside g up c.row.result.now (length c.note_chain.new.table) (chain_size g up) (subst (All (fact_of (viewed g up) c.args.h)) (sym c.row.ensures) (is.viewing.own.fit c.args.h is.node.from_one is.node.up_to_n))
 
-pub note_row-requires-2 : goal.note_row-requires-2
-note_row-requires-2 g c =
-    let up = (goal.at.note_row-requires-2 g c).After-row in
+pub note-requires-clause-positions : goal.note-requires-clause-positions
+note-requires-clause-positions g c =
+    let up = (goal.at.note-requires-clause-positions g c).After-row in
     let is = visit_is g up in
-    inside g up c.row-2.result.now (length c.note_row.new.table) (ap length c.note_row.ensures ∙ length-noted c.note_chain.new.table c.row.result.now ∙ chain_size g up)
-    (subst (All (fact_of (viewed g up) c.args.h)) (sym c.row-2.ensures) (is.viewing.global.fit c.args.h is.node.from_one is.node.up_to_n))
+    inside g up (label_row c.self.inside.global.now c.args.h) (length c.note_row.new.self) (ap length c.note_row.ensures ∙ length-noted c.note_chain.new.table c.row.result.now ∙ chain_size g up)
+    (is.viewing.global.fit c.args.h is.node.from_one is.node.up_to_n)
 
 pub invariant_of-self : goal.invariant_of-self
 invariant_of-self g c =
@@ -69,13 +68,13 @@ returns-clause-visit g c =
     let found = c.note_chain.ensures.chain.0 in
     let seat = c.note_chain.new.seat in
     let h = c.args.h in
-    let now : Viewing = record { seat = seat; global = c.self.inside.global.now; own = c.self.inside.own } in
+    let now : Viewing = record { seat = seat; global = c.self.inside.global.now; own = c.self.inside.own; list = c.self.inside.list.items } in
     let none = replicate {A = Option ℕ} (length c.args.table.now) None in
-    let table : c.note_row-2.new.table ≡ noted (noted (noted none (entries_of found)) (label_row c.self.inside.own h)) (label_row c.self.inside.global.now h) =
-    c.note_row-2.ensures ∙ ap (λ t. noted t c.row-2.result.now) (c.note_row.ensures ∙ ap (λ t. noted t c.row.result.now) (c.note_chain.ensures.chain.2 ∙ ap (λ t. noted t (entries_of found)) c.clear.ensures))
-    ∙ ap (λ row. noted (noted (noted none (entries_of found)) row) c.row-2.result.now) c.row.ensures
-    ∙ ap (noted (noted (noted none (entries_of found)) (label_row c.self.inside.own h))) c.row-2.ensures in
-    let Told : Viewing → Type 0 = λ w. (found : List Linked) × HasVisited w h found now × IsFound (fact_of w h) (seen_row w h) (whole_row w found h) × HoldsRow c.note_row-2.new.table (whole_row w found h) × (seen_row now h ≡ whole_row w found h) in
+    let global = label_row c.self.inside.global.now h in
+    let table : c.note.new.table ≡ noted (noted (noted none (entries_of found)) (label_row c.self.inside.own h)) global =
+    c.note.ensures ∙ ap (λ t. noted t global) (c.note_row.ensures ∙ ap (λ t. noted t c.row.result.now) (c.note_chain.ensures.chain.2 ∙ ap (λ t. noted t (entries_of found)) c.clear.ensures))
+    ∙ ap (λ row. noted (noted (noted none (entries_of found)) row) global) c.row.ensures in
+    let Told : Viewing → Type 0 = λ w. (found : List Linked) × HasVisited w h found now × IsFound (fact_of w h) (seen_row w h) (whole_row w found h) × HoldsRow c.note.new.table (whole_row w found h) × (seen_row now h ≡ whole_row w found h) in
     subst Told c.self.view_is (
       found,
       visited (viewed g up) h seat found is,
@@ -87,4 +86,4 @@ returns-clause-visit g c =
 pub returns-clause-size : goal.returns-clause-size
 returns-clause-size g c =
     let up = (goal.at.returns-clause-size g c).After-row in
-    ap length c.note_row-2.ensures ∙ length-noted c.note_row.new.table c.row-2.result.now ∙ ap length c.note_row.ensures ∙ length-noted c.note_chain.new.table c.row.result.now ∙ chain_size g up
+    ap length c.note.ensures ∙ length-noted c.note_row.new.self (label_row c.self.inside.global.now c.args.h) ∙ ap length c.note_row.ensures ∙ length-noted c.note_chain.new.table c.row.result.now ∙ chain_size g up

@@ -1,6 +1,7 @@
-use Rattle.std.proofs.Common.{◌≡◌, ◌≤◌, inl, inr, Contains, length, refl, sym, ap, subst, ◌∙◌, All, List, ℕ, Option, arith}
+use Rattle.std.proofs.Common.{◌≡◌, ◌≤◌, inl, inr, Contains, length, refl, sym, subst, All, List, ℕ, arith}
 use Rattle.std.specs.Prelude.{slice_get, Some}
 use Rattle.std.proofs.lemmas.Option.{slice_get_within, get_or_from_slice_get}
+use Rattle.std.proofs.lemmas.List.Elements.{All-weaker, All-contains_itself}
 use Rattle.walk_laws.specs.declared.entry.Entry.{Entry}
 use Rattle.walk_laws.specs.Labelling.{label_row}
 use Rattle.hub_index.specs.RootDistances.{IsCover}
@@ -9,18 +10,18 @@ use Rattle.hub_index.specs.declared.row_view.Offer.TheVariants.{Put as IsPut, No
 use Rattle.label_pool.specs.declared.rule.Linked.{Linked}
 use Rattle.label_pool.specs.Seats.{Seated, HasFound}
 use Rattle.pool_view.specs.Fitting.{Fitting, MayStand, order_of}
-use Rattle.pool_view.specs.Viewing.{Viewing, IsOfferedToGlobal, IsOfferedToAll, fact_of}
+use Rattle.pool_view.specs.Viewing.{Viewing, IsOfferedToGlobal, IsOfferedToAll}
 use Rattle.pool_view.proofs.Answered.{IsVisit, visit-of, viewing_now, pool_kept, open_kept, offered_covered, offered_put, offered_none}
 use Rattle.pool_view.proofs.WholeRows.{seen-found, of_chain, of_own}
 use Rattle.pool_view.proofs.view.PoolViewRowView.offer.Given as given
 use Rattle.pool_view.proofs.view.PoolViewRowView.offer.Goals as goal
-use Rattle.pool_view.proofs.view.PoolViewRowView.offer.Goals.{After-row}
+use Rattle.pool_view.proofs.view.PoolViewRowView.offer.Goals.{After-cover}
 
 -- the view as it was
-abbrev viewed : (g : given.Over) → After-row g → Viewing
-viewed g c = record { seat = c.self.inside.seat; global = c.self.inside.global.now; own = c.self.inside.own }
+abbrev viewed : (g : given.Over) → After-cover g → Viewing
+viewed g c = record { seat = c.self.inside.seat; global = c.self.inside.global.now; own = c.self.inside.own; list = c.self.inside.list.items }
 
-node_is : (g : given.Over) (c : After-row g) → IsNode (length (order_of c.self.inside.seat.pool.fact)) c.args.v
+node_is : (g : given.Over) (c : After-cover g) → IsNode (length (order_of c.self.inside.seat.pool.fact)) c.args.v
 node_is g c = subst (λ (w : Viewing). IsNode (length (order_of w.seat.pool.fact)) c.args.v) (sym c.self.view_is) c.requires.node
 
 -- an entry at a place of a row is one of it
@@ -29,94 +30,99 @@ at_place row k e is = (k, slice_get_within row k e is, get_or_from_slice_get row
 
 pub returns-in-Some : goal.returns-in-Some
 returns-in-Some g c =
-    let up = (goal.at.returns-in-Some g c).After-row in
-    let first = c.in-Some.ensures.first in
+    let up = (goal.at.returns-in-Some g c).After-cover in
     let told : IsOfferedToGlobal c.args.table.now (viewed g up) c.args.v c.args.entry c.covered_by.result (viewed g up) = record {
       cover = c.in-Some.cover;
-      there = subst (λ row. Contains row c.in-Some.cover) c.row.ensures (at_place c.row.result.now first.0 c.in-Some.cover first.1);
-      covers = first.2;
+      there = c.in-Some.ensures.some.0;
+      covers = c.in-Some.ensures.some.1;
       answer_is = c.covered_by.ensures;
       row = seen-found (viewed g up) c.args.v c.self.invariant.1 (node_is g up);
       same = refl;
     } in
     record { offered = inl (subst (λ w. IsOfferedToGlobal c.args.table.now w c.args.v c.args.entry c.covered_by.result w) c.self.view_is told) }
 
-position : (g : given.Over) (c : After-row g) → c.args.entry.pos ≤ length c.args.table.now
+-- where none of the global row covers
+uncovered : (g : given.Over) (c : After-cover g) → ((e : Entry) → Contains (label_row c.self.inside.global.now c.args.v) e → ¬ IsCover c.args.table.now c.args.entry.pos c.args.entry.dist e) → All (λ e. ¬ IsCover c.args.table.now c.args.entry.pos c.args.entry.dist e) (label_row c.self.inside.global.now c.args.v)
+uncovered g c none =
+    let row = label_row c.self.inside.global.now c.args.v in
+    All-weaker (Contains row) (λ e. ¬ IsCover c.args.table.now c.args.entry.pos c.args.entry.dist e) none row (All-contains_itself row)
+
+position : (g : given.Over) (c : After-cover g) → c.args.entry.pos ≤ length c.args.table.now
 position g c = let inside = slice_get_within (order_of c.args.self.now.seat.pool.fact) c.args.entry.pos c.requires.fits.walk.0 c.requires.fits.walk.1 in omega (arith, inside, c.requires.size)
 
 pub covered_in_chain-requires-clause-pos : goal.covered_in_chain-requires-clause-pos
-covered_in_chain-requires-clause-pos g c = position g (goal.at.covered_in_chain-requires-clause-pos g c).After-row
+covered_in_chain-requires-clause-pos g c = position g (goal.at.covered_in_chain-requires-clause-pos g c).After-cover
 
-pub covered-requires-2 : goal.covered-requires-2
-covered-requires-2 g c = position g (goal.at.covered-requires-2 g c).After-row
+pub covered-requires : goal.covered-requires
+covered-requires g c = position g (goal.at.covered-requires g c).After-cover
 
 -- a visit of the view's seat
-visit_by : (g : given.Over) (c : After-row g) (seat : Seated Fitting) (found : List Linked) → HasFound MayStand c.self.inside.pool.now c.self.inside.seat c.args.v found seat → IsVisit (viewed g c) c.args.v seat found
+visit_by : (g : given.Over) (c : After-cover g) (seat : Seated Fitting) (found : List Linked) → HasFound MayStand c.self.inside.pool.now c.self.inside.seat c.args.v found seat → IsVisit (viewed g c) c.args.v seat found
 visit_by g c seat found visit = record { viewing = c.self.invariant.1; node = node_is g c; visit = visit-of c.self.inside.pool.now (viewed g c) c.args.v seat found c.self.invariant.0 visit }
 
 pub invariant_of-self : goal.invariant_of-self
 invariant_of-self g c =
-    let up = (goal.at.invariant_of-self g c).After-row in
+    let up = (goal.at.invariant_of-self g c).After-cover in
     let chain = c.in-Some-covered_in_chain.ensures.chain in
     let is = visit_by g up c.covered_in_chain.new.seat chain.0 chain.1 in
     (pool_kept (viewed g up) c.args.v c.covered_in_chain.new.seat chain.0 is c.self.inside.pool.now c.self.invariant.0, viewing_now (viewed g up) c.args.v c.covered_in_chain.new.seat chain.0 is, open_kept (viewed g up) c.args.v c.covered_in_chain.new.seat chain.0 is c.self.inside.past c.self.invariant.2)
 
 pub returns-in-Some-covered_in_chain : goal.returns-in-Some-covered_in_chain
 returns-in-Some-covered_in_chain g c =
-    let up = (goal.at.returns-in-Some-covered_in_chain g c).After-row in
+    let up = (goal.at.returns-in-Some-covered_in_chain g c).After-cover in
     let chain = c.in-Some-covered_in_chain.ensures.chain in
     let seat = c.covered_in_chain.new.seat in
     let is = visit_by g up seat chain.0 chain.1 in
-    let now : Viewing = record { seat = seat; global = c.self.inside.global.now; own = c.self.inside.own } in
+    let now : Viewing = record { seat = seat; global = c.self.inside.global.now; own = c.self.inside.own; list = c.self.inside.list.items } in
     let cover = c.in-Some-covered_in_chain.cover in
-    let told = offered_covered (viewed g up) c.args.v seat chain.0 is c.args.table.now c.args.entry (subst (All (λ x. ¬ IsCover c.args.table.now c.args.entry.pos c.args.entry.dist x)) c.row.ensures c.in_default.ensures.none)
+    let told = offered_covered (viewed g up) c.args.v seat chain.0 is c.args.table.now c.args.entry (uncovered g up c.in_default.ensures.none)
     cover (of_chain (viewed g up) chain.0 c.args.v cover chain.2.0) chain.2.1 c.covered_by-in-Some-covered_in_chain.result c.covered_by-in-Some-covered_in_chain.ensures in
     record { offered = inr (subst (λ w. IsOfferedToAll c.args.table.now w c.args.v c.args.entry c.covered_by-in-Some-covered_in_chain.result now) c.self.view_is told) }
 
 pub invariant_of-self-in-Some-covered : goal.invariant_of-self-in-Some-covered
 invariant_of-self-in-Some-covered g c =
-    let up = (goal.at.invariant_of-self-in-Some-covered g c).After-row in
+    let up = (goal.at.invariant_of-self-in-Some-covered g c).After-cover in
     let chain = c.in_default-covered_in_chain.ensures.chain in
     let is = visit_by g up c.covered_in_chain.new.seat chain.0 chain.1 in
     (pool_kept (viewed g up) c.args.v c.covered_in_chain.new.seat chain.0 is c.self.inside.pool.now c.self.invariant.0, viewing_now (viewed g up) c.args.v c.covered_in_chain.new.seat chain.0 is, open_kept (viewed g up) c.args.v c.covered_in_chain.new.seat chain.0 is c.self.inside.past c.self.invariant.2)
 
 pub returns-in-Some-covered : goal.returns-in-Some-covered
 returns-in-Some-covered g c =
-    let up = (goal.at.returns-in-Some-covered g c).After-row in
+    let up = (goal.at.returns-in-Some-covered g c).After-cover in
     let chain = c.in_default-covered_in_chain.ensures.chain in
     let seat = c.covered_in_chain.new.seat in
     let is = visit_by g up seat chain.0 chain.1 in
-    let now : Viewing = record { seat = seat; global = c.self.inside.global.now; own = c.self.inside.own } in
+    let now : Viewing = record { seat = seat; global = c.self.inside.global.now; own = c.self.inside.own; list = c.self.inside.list.items } in
     let first = c.in-Some-covered.ensures.first in
     let cover = c.in-Some-covered.cover in
-    let there = subst (λ row. Contains row cover) c.row-2.ensures (at_place c.row-2.result.now first.0 cover first.1) in
-    let told = offered_covered (viewed g up) c.args.v seat chain.0 is c.args.table.now c.args.entry (subst (All (λ x. ¬ IsCover c.args.table.now c.args.entry.pos c.args.entry.dist x)) c.row.ensures c.in_default.ensures.none)
+    let there = subst (λ row. Contains row cover) c.row.ensures (at_place c.row.result.now first.0 cover first.1) in
+    let told = offered_covered (viewed g up) c.args.v seat chain.0 is c.args.table.now c.args.entry (uncovered g up c.in_default.ensures.none)
     cover (of_own (viewed g up) chain.0 c.args.v cover there) first.2 c.covered_by-in-Some-covered.result c.covered_by-in-Some-covered.ensures in
     record { offered = inr (subst (λ w. IsOfferedToAll c.args.table.now w c.args.v c.args.entry c.covered_by-in-Some-covered.result now) c.self.view_is told) }
 
 pub invariant_of-self-2 : goal.invariant_of-self-2
 invariant_of-self-2 g c =
-    let up = (goal.at.invariant_of-self-2 g c).After-row in
+    let up = (goal.at.invariant_of-self-2 g c).After-cover in
     let chain = c.in_default-covered_in_chain.ensures.chain in
     let is = visit_by g up c.covered_in_chain.new.seat chain.0 chain.1 in
     (pool_kept (viewed g up) c.args.v c.covered_in_chain.new.seat chain.0 is c.self.inside.pool.now c.self.invariant.0, viewing_now (viewed g up) c.args.v c.covered_in_chain.new.seat chain.0 is, open_kept (viewed g up) c.args.v c.covered_in_chain.new.seat chain.0 is c.self.inside.past c.self.invariant.2)
 
 pub returns-in-Ok : goal.returns-in-Ok
 returns-in-Ok g c =
-    let up = (goal.at.returns-in-Ok g c).After-row in
+    let up = (goal.at.returns-in-Ok g c).After-cover in
     let chain = c.in_default-covered_in_chain.ensures.chain in
     let seat = c.covered_in_chain.new.seat in
     let is = visit_by g up seat chain.0 chain.1 in
-    let told = offered_put (viewed g up) c.args.v seat chain.0 is c.args.table.now c.args.entry (subst (All (λ x. ¬ IsCover c.args.table.now c.args.entry.pos c.args.entry.dist x)) c.row.ensures c.in_default.ensures.none)
-    chain.3 (subst (All (λ x. ¬ IsCover c.args.table.now c.args.entry.pos c.args.entry.dist x)) c.row-2.ensures c.in_default-covered.ensures.none) c.put.new.self c.in-Ok.ensures.ok in
+    let told = offered_put (viewed g up) c.args.v seat chain.0 is c.args.table.now c.args.entry (uncovered g up c.in_default.ensures.none)
+    chain.3 (subst (All (λ x. ¬ IsCover c.args.table.now c.args.entry.pos c.args.entry.dist x)) c.row.ensures c.in_default-covered.ensures.none) c.put.new.self c.in-Ok.ensures.ok in
     record { offered = inr (subst (λ w. IsOfferedToAll c.args.table.now w c.args.v c.args.entry IsPut c.put.new.self) c.self.view_is told) }
 
 pub returns-in-Err : goal.returns-in-Err
 returns-in-Err g c =
-    let up = (goal.at.returns-in-Err g c).After-row in
+    let up = (goal.at.returns-in-Err g c).After-cover in
     let chain = c.in_default-covered_in_chain.ensures.chain in
     let seat = c.covered_in_chain.new.seat in
     let is = visit_by g up seat chain.0 chain.1 in
-    let told = offered_none (viewed g up) c.args.v seat chain.0 is c.args.table.now c.args.entry (subst (All (λ x. ¬ IsCover c.args.table.now c.args.entry.pos c.args.entry.dist x)) c.row.ensures c.in_default.ensures.none)
-    chain.3 (subst (All (λ x. ¬ IsCover c.args.table.now c.args.entry.pos c.args.entry.dist x)) c.row-2.ensures c.in_default-covered.ensures.none) c.put.new.self c.in-Err.ensures.err in
+    let told = offered_none (viewed g up) c.args.v seat chain.0 is c.args.table.now c.args.entry (uncovered g up c.in_default.ensures.none)
+    chain.3 (subst (All (λ x. ¬ IsCover c.args.table.now c.args.entry.pos c.args.entry.dist x)) c.row.ensures c.in_default-covered.ensures.none) c.put.new.self c.in-Err.ensures.err in
     record { offered = inr (subst (λ w. IsOfferedToAll c.args.table.now w c.args.v c.args.entry NoMemory c.put.new.self) c.self.view_is told) }
