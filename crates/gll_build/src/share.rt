@@ -38,7 +38,7 @@ pub struct Share {
 
 /// One worker of a superstep: it claims a root and grows its tree, until it has put at least `cut` entries or no root is
 /// left. Its gate is told of each root when its tree begins, and when it ends with the number of entries put. Where memory
-/// runs out others may go on. Its seats come back in any case.
+/// runs out others may go on. Its seat at the claims comes back in any case, with all roots that it claimed.
 pub fn grow_share<R: Wait, G: Gate>(
     rt: &R,
     alloc: Global,

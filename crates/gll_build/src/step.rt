@@ -50,7 +50,8 @@ impl Workshop {
     /// A workshop for so many workers over the nodes 1..n. The only error is that memory ran out.
     pub fn new(alloc: Global, n: u32, workers: u32) -> Result<Workshop, AllocError>
         requires workers { (1 ≤ workers) × (workers ≤ 64) }
-        ensures { IfOk result (IsWorkshopFor n) }
+        ensures workshop { IfOk result (IsWorkshopFor n) }
+        ensures size { IfOk result (λ workshop. vec_len workshop.benches ≡ workers) }
     {
         let benches = benches_for(alloc, n, workers)?;
         let cleaner = Cleaner::new(alloc, n)?;
@@ -82,6 +83,7 @@ pub fn next_step<R: Threads + Wait + Sync, G: Gate + Sync>(
     ensures progress { IfOk result (λ done. IsProgress graph.now.edges ranking.now done.0) }
     ensures more { IfOk result (λ done. progress.next < done.0.next) }
     ensures workshop { IfOk result (λ done. IsWorkshopFor (length ranking.now) done.1) }
+    ensures size { IfOk result (λ done. vec_len done.1.benches ≡ vec_len workshop.benches) }
 {
     let ranked = ranking.n();
     prove!(progress.next < ranked);

@@ -48,13 +48,6 @@ impl OwnRows {
         self.rows.row(v)
     }
 
-    /// The nodes whose rows aren't empty, numbers from 1, each once, in the order in which they got their first entries.
-    pub fn nodes(&self) -> &[u32]
-        ensures { AreNodesOf self.now result.now }
-    {
-        &self.nodes
-    }
-
     /// Puts the entry last in the row of the node `v`, a number from 1. The only error is that memory ran out, and then
     /// nothing has changed.
     pub fn push(&mut self, v: u32, entry: Entry) -> Result<(), AllocError>
