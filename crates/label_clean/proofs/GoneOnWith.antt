@@ -19,7 +19,7 @@ use Rattle.label_clean.specs.Between.{HoldsBetween, IsEarlierRow, IsLaterRow}
 use Rattle.label_clean.specs.Needless.{IsNeedless, IsSurvivingRow}
 use Rattle.label_clean.specs.RawRows.{HasEachOnce}
 use Rattle.label_clean.specs.Taken.{HasTaken, IsNeedlessAmong, IsStaying}
-use Rattle.label_clean.proofs.Chained.{first_apart}
+use Rattle.label_clean.proofs.Backwards.{first_apart}
 use Rattle.label_clean.proofs.Cleaned.{hub_node, hub_place}
 use Rattle.label_clean.proofs.Covering.{covered, entry, pos_of, IsCovered-more}
 use Rattle.label_clean.proofs.GoneOn.{IsRowBelow-gone_on}

@@ -8,7 +8,7 @@ pub mod TestRows
 pub mod GoneOn
 pub mod RowItems
 pub mod KeptRows
-pub mod Chained
+pub mod Backwards
 pub mod GoneOnWith
 pub mod TakenRows
 pub mod Meetings

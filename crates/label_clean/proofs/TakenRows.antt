@@ -1,7 +1,6 @@
 -- Rows that take in the entries of their nodes, one node after another.
 use Rattle.std.proofs.Common.{◌≡◌, ◌≢◌, ℕ, ◌+◌, ◌-◌, ◌<◌, ◌≤◌, inl, inr, List, [], ◌∷◌, ◌++◌, Contains, length, get_or, set, reverse, refl, sym, ap, subst, ◌∙◌, append_assoc, arith}
-use Rattle.std.proofs.lemmas.Bool.{cases_lt, cases_eq}
-use Rattle.std.proofs.Math.ListN.{length-set}
+use Rattle.std.proofs.lemmas.Bool.{cases_eq}
 use Rattle.std.proofs.lemmas.List.{append-nil, get_or_default, get_or-set_same, get_or-set_other, reverse-reverse, set-set}
 use Rattle.walk_laws.specs.declared.entry.Entry.{Entry}
 use Rattle.walk_laws.specs.Labelling.{label_row}
@@ -10,11 +9,11 @@ use Rattle.hub_index.specs.declared.entry_sink.NodeEntry.{NodeEntry}
 use Rattle.hub_index.specs.HubIndex.{with_entry}
 use Rattle.hub_index.specs.Sunk.{entries_of_node, entry_of}
 use Rattle.hub_index.specs.Views.{IsNode}
-use Rattle.label_clean.specs.declared.chains.Chains.{Chains}
-use Rattle.label_clean.specs.Chains.{AreChained, AreEmpty, head_of}
+use Rattle.entry_chains.specs.declared.chains.Chains.{Chains}
+use Rattle.entry_chains.specs.Chains.{AreChained, head_of}
 use Rattle.label_clean.specs.Sorted.{IsSortedRow}
 use Rattle.label_clean.specs.Taken.{HasTaken, IsNeedlessAmong}
-use Rattle.label_clean.proofs.Chained.{backwards, no_more, one_more, whole_chain}
+use Rattle.entry_chains.proofs.Chained.{Contains-backwards, no_more, one_more, only_here, whole_chain}
 use Rattle.label_clean.proofs.Covering.{entry, pos_of}
 use Rattle.label_clean.proofs.Meetings.{never_falls}
 use Rattle.label_clean.proofs.KeptEntries.{IsKept, IsKept-none, IsKept-rising, IsKept-with}
@@ -81,7 +80,7 @@ module _ (at : List ℕ) (entries : List NodeEntry) (chains : Chains) (before : 
   none_of : (v : ℕ) → IsNode (length chains.heads.items) v → head_of chains v ≤ 0 → (e : Entry) → ¬ Contains (entries_of_node entries v) e
   none_of v v_in low e there =
       let none = no_more entries chains.nexts.items (head_of chains v) (reverse (entries_of_node entries v)) (whole_chain entries chains chained v v_in) low in
-      Contains-empty e (subst (λ es. Contains es e) none (((backwards (entries_of_node entries v)).each e).0 there))
+      Contains-empty e (subst (λ es. Contains es e) none ((Contains-backwards (entries_of_node entries v) e).0 there))
 
   pub HasCome-none : (rows : List (List Entry)) (v : ℕ) → IsNode (length chains.heads.items) v → rows ≡ before → HasCome at entries chains before rows 0 v
   HasCome-none rows v v_in same = record {
@@ -93,18 +92,11 @@ module _ (at : List ℕ) (entries : List NodeEntry) (chains : Chains) (before : 
     abbrev node : ℕ
     node = (get_or entries k d).node
 
-    -- the last entry of no other node stands there
-    only_here : (v : ℕ) → IsNode (length chains.heads.items) v → head_of chains v ≡ k + 1 → v ≡ node
-    only_here v v_in is =
-        let known = chained.head v d v_in (omega (arith, is)) in
-        let place : head_of chains v - 1 ≡ k = omega (arith, is) in
-        sym known.1 ∙ ap (λ i. (get_or entries i d).node) place
-
     -- where it isn't the last one of its node, the rows stay as they are
     pub HasCome-stays : (rows : List (List Entry)) → head_of chains node ≢ k + 1 → ((v : ℕ) → IsNode (length chains.heads.items) v → HasCome at entries chains before rows k v) → (v : ℕ) → IsNode (length chains.heads.items) v → HasCome at entries chains before rows (k + 1) v
     HasCome-stays rows other so_far v v_in = record {
       taken = λ low. elim (cases_eq (head_of chains v) (k + 1)) [
-        | inl is ↦ absurd (other (ap (head_of chains) (sym (only_here v v_in is)) ∙ is))
+        | inl is ↦ absurd (other (ap (head_of chains) (sym (only_here entries (length entries) chains chained k d v v_in is)) ∙ is))
         | inr apart ↦ (so_far v v_in).taken (omega (arith, low, apart))
       ];
       left = λ past. (so_far v v_in).left (omega (arith, past));
@@ -124,7 +116,7 @@ module _ (at : List ℕ) (entries : List NodeEntry) (chains : Chains) (before : 
           let stays = placed_other rows now node v row v_in.from_one here.from_one other now_is in
           record {
             taken = λ low. subst (HasTaken at (entries_of_node entries) v (label_row before v)) (sym stays) (elim (cases_eq (head_of chains v) (k + 1)) [
-              | inl last ↦ absurd (other (only_here v v_in last))
+              | inl last ↦ absurd (other (only_here entries (length entries) chains chained k d v v_in last))
               | inr apart ↦ (so_far v v_in).taken (omega (arith, low, apart))
             ]);
             left = λ past. stays ∙ (so_far v v_in).left (omega (arith, past));
@@ -150,51 +142,3 @@ HasTaken-one at entries chains k v d before chained v_in is last =
     let P = IsNeedlessAmong at (entries_of_node entries) v in
     HasTaken-kept at (entries_of_node entries) v (e ∷ []) sorted before (before ++ e ∷ []) (e ∷ [])
     (IsKept-with P (e ∷ []) [] 0 e (omega arith) (IsKept-none P) sorted.rising (first_stays at (entries_of_node entries) v (e ∷ []) sorted e (omega arith))) refl
-
--- chains are emptied, entry by entry: what is left of a chain has its head from the place on
-pub record AreEmptied (entries : List NodeEntry) (before : Chains) (k : ℕ) (chains : Chains) : Type 0 where
-  pub size : length chains.heads.items ≡ length before.heads.items
-  pub left : (v : ℕ) → IsNode (length before.heads.items) v → 1 ≤ head_of chains v → (k < head_of chains v) × (head_of chains v ≡ head_of before v)
-
-module _ (entries : List NodeEntry) (before : Chains) (chained : AreChained entries (length entries) before) where
-  pub AreEmptied-none : (chains : Chains) → chains ≡ before → AreEmptied entries before 0 chains
-  AreEmptied-none chains same = record {
-    size = ap (λ (c : Chains). length c.heads.items) same;
-    left = λ v v_in some. (omega (arith, some), ap (λ c. head_of c v) same);
-  }
-
-  pub AreEmptied-more : (k : ℕ) (d : NodeEntry) (chains after : Chains) → k < length entries → IsNode (length before.heads.items) (get_or entries k d).node → AreEmptied entries before k chains → after.heads.items ≡ set chains.heads.items ((get_or entries k d).node - 1) 0 → AreEmptied entries before (k + 1) after
-  AreEmptied-more k d chains after within node_in so_far are = record { size = ap length are ∙ length-set chains.heads.items (node - 1) 0 ∙ so_far.size; left = left }
-    where
-      node : ℕ
-      node = (get_or entries k d).node
-
-      left : (v : ℕ) → IsNode (length before.heads.items) v → 1 ≤ head_of after v → (k + 1 < head_of after v) × (head_of after v ≡ head_of before v)
-      left v v_in some = elim (cases_eq v node) [
-        | inl same ↦
-            let gone : head_of after v ≡ 0 = ap (λ hs. get_or hs (v - 1) 0) are ∙ ap (λ u. get_or (set chains.heads.items (node - 1) 0) (u - 1) 0) same ∙ get_or-set_same chains.heads.items (node - 1) 0 0 (omega (arith, node_in.from_one, node_in.up_to_n, so_far.size)) in
-            absurd (omega (arith, gone, some))
-        | inr other ↦
-            let stays : head_of after v ≡ head_of chains v = ap (λ hs. get_or hs (v - 1) 0) are ∙ get_or-set_other chains.heads.items (node - 1) (v - 1) 0 0 (λ same. other (omega (arith, same, v_in.from_one, node_in.from_one))) in
-            let known = so_far.left v v_in (omega (arith, stays, some)) in
-            elim (cases_eq (head_of before v) (k + 1)) [
-              | inl is ↦ absurd (other (only_here [] entries before [] chained k d within v v_in is))
-              | inr apart ↦ (omega (arith, stays, known.0, known.1, apart), stays ∙ known.1)
-            ]
-      ]
-
-  -- in the end all are empty
-  pub AreEmpty-emptied : (k : ℕ) (chains : Chains) → length entries ≤ k → AreEmptied entries before k chains → AreEmpty (length before.heads.items) chains
-  AreEmpty-emptied k chains over all = record {
-    size = all.size;
-    none = λ i i_in. elim (cases_lt (get_or chains.heads.items i 0) 1) [
-      | inl zero ↦ omega (arith, zero)
-      | inr some ↦
-          let v_in : IsNode (length before.heads.items) (i + 1) = record { from_one = omega arith; up_to_n = omega (arith, i_in) } in
-          let place : i + 1 - 1 ≡ i = omega arith in
-          let head : head_of chains (i + 1) ≡ get_or chains.heads.items i 0 = ap (λ j. get_or chains.heads.items j 0) place in
-          let known = all.left (i + 1) v_in (omega (arith, head, some)) in
-          let d : NodeEntry = record { node = 0; pos = 0; dist = 0 } in
-          absurd (omega (arith, over, known.0, known.1, (chained.head (i + 1) d v_in (omega (arith, known.0, known.1))).0))
-    ];
-  }

@@ -8,8 +8,8 @@ ghost use Rattle.label_clean.specs.Below.{IsChlBelow};
 ghost use Rattle.label_clean.specs.Between.{HoldsBetween, IsEarlierRow, IsLaterRow};
 ghost use Rattle.label_clean.specs.Needless.{IsNeedless};
 
-use crate::chains::Chains;
 use crate::taking::take_in;
+use entry_chains::Chains;
 use hub_index::{NodeEntry, SplitRows};
 use rank_table::Ranking;
 use std::alloc::{AllocError, Global};
@@ -27,7 +27,7 @@ pub struct Cleaner {
 
 impl Model for Cleaner {
     ghost use Rattle.std.specs.Prelude.{ℕ};
-    ghost use Rattle.label_clean.specs.Chains.{AreEmpty};
+    ghost use Rattle.entry_chains.specs.Chains.{AreEmpty};
 
     ghost Value = { ℕ };
 

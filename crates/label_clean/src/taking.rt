@@ -4,12 +4,13 @@ ghost use Rattle.std.specs.List.Sorted.{IsStrictlyIncreasing};
 ghost use Rattle.walk_laws.specs.Labelling.{label_row};
 ghost use Rattle.hub_index.specs.Sunk.{entries_of_node};
 ghost use Rattle.hub_index.specs.Views.{IsNode};
-ghost use Rattle.label_clean.specs.Chains.{AreChained};
+ghost use Rattle.entry_chains.specs.Chains.{AreChained};
 ghost use Rattle.label_clean.specs.RawRows.{HasEachOnce};
 ghost use Rattle.label_clean.specs.Sorted.{IsSortedRow};
 ghost use Rattle.label_clean.specs.Taken.{HasTaken, IsNeedlessAmong};
 
-use crate::chains::Chains;
+use crate::chained_rows::{cover, row_of};
+use entry_chains::Chains;
 use hub_index::{NodeEntry, SplitRows};
 use rank_table::Ranking;
 use std::alloc::AllocError;
@@ -44,7 +45,7 @@ pub fn take_in(
             rows.push(node, entries[k].entry())?;
             continue;
         }
-        chains.row_of(entries, node, row)?;
+        row_of(chains, entries, node, row)?;
         add_kept(ranking, entries, chains, row.as_slice(), node, rows)?;
     }
     Ok(())
@@ -92,5 +93,5 @@ fn is_needless(
     ensures { (v : ℕ) → IsSortedRow (entries_of_node entries.now v) row.now → IsTrue result ↔ IsNeedlessAmong ranking.now (entries_of_node entries.now) v entry }
 {
     let hub = ranking.at(entry.pos);
-    chains.cover(entries, hub, row, entry.pos, entry.dist)
+    cover(chains, entries, hub, row, entry.pos, entry.dist)
 }

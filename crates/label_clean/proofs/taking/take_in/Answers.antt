@@ -7,9 +7,9 @@ use Rattle.hub_index.specs.declared.entry_sink.NodeEntry.{NodeEntry}
 use Rattle.hub_index.specs.HubIndex.{with_entry}
 use Rattle.hub_index.specs.Sunk.{entries_of_node, entry_of}
 use Rattle.hub_index.specs.Views.{IsNode}
-use Rattle.label_clean.specs.Chains.{head_of}
+use Rattle.entry_chains.specs.Chains.{head_of}
 use Rattle.label_clean.specs.Sorted.{IsSortedRow}
-use Rattle.label_clean.proofs.Chained.{head_within}
+use Rattle.entry_chains.proofs.Chained.{head_within}
 use Rattle.label_clean.proofs.RowFacts.{All-sorted}
 use Rattle.label_clean.proofs.TakenRows.{HasCome-none, HasCome-stays, HasCome-more, HasTaken-one}
 use Rattle.label_clean.proofs.taking.take_in.Goals as goal

@@ -1,18 +1,11 @@
 //! Chains through a list of entries of many nodes, one for each node.
-ghost use Rattle.std.specs.Prelude.{◌≡◌, ◌↔◌, ℕ, ◌+◌, ◌<◌, ◌≤◌, List, All, get_or, length, map, IfOk, OnOk, IsTrue};
-ghost use Rattle.std.specs.List.Sorted.{IsStrictlyIncreasing};
+ghost use Rattle.std.specs.Prelude.{◌≡◌, ℕ, ◌+◌, ◌<◌, List, All, get_or, length, IfOk, OnOk, OnErr};
 ghost use Rattle.hub_index.specs.declared.entry_sink.NodeEntry.{NodeEntry as ANodeEntry};
-ghost use Rattle.hub_index.specs.Sunk.{entries_of_node};
 ghost use Rattle.hub_index.specs.Views.{IsNode};
-ghost use Rattle.label_clean.specs.Chains.{AreChained, AreEmpty};
-ghost use Rattle.label_clean.specs.Needless.{IsCovered};
-ghost use Rattle.label_clean.specs.RawRows.{HasEachOnce};
-ghost use Rattle.label_clean.specs.Sorted.{IsSortedRow};
+ghost use Rattle.entry_chains.specs.Chains.{AreChained, AreEmpty};
 
-use crate::cover::covers;
 use hub_index::NodeEntry;
 use std::alloc::{AllocError, Global};
-use walk_laws::Entry;
 
 /// Chains through a list of entries of the nodes 1..n. A link is 0 at the end of a chain, and else one more than the place of
 /// an entry in the list, from 0.
@@ -51,18 +44,19 @@ impl Chains {
     }
 
     /// Puts the next entry of the list, which is of this node, a number from 1, at the head of its chain. The only error is
-    /// that memory ran out.
-    fn put(&mut self, node: u32) -> Result<(), AllocError>
+    /// that memory ran out, and then nothing has changed; so many entries that a link can't tell their places count as that.
+    pub fn put(&mut self, node: u32) -> Result<(), AllocError>
         requires { IsNode (length self.old.heads.items) node }
         ensures size { length self.new.heads.items ≡ length self.old.heads.items }
         ensures put { OnOk result ((entries : List ANodeEntry) (many : ℕ) (d : ANodeEntry) → many < length entries → (get_or entries many d).node ≡ node
             → AreChained entries many self.old → AreChained entries (many + 1) self.new) }
+        ensures err { OnErr result ((self.new.heads.items ≡ self.old.heads.items) × (self.new.nexts.items ≡ self.old.nexts.items)) }
     {
         let place = node as usize - 1;
-        self.nexts.push(self.heads[place])?;
-        let Ok(link) = u32::try_from(self.nexts.len()) else {
+        let Ok(link) = u32::try_from(self.nexts.len() + 1) else {
             return Err(AllocError);
         };
+        self.nexts.push(self.heads[place])?;
         self.heads[place] = link;
         Ok(())
     }
@@ -76,46 +70,5 @@ impl Chains {
         for entry in entries {
             self.heads[entry.node as usize - 1] = 0;
         }
-    }
-
-    /// The entries of the node `v`, a number from 1, by rising position, in the place of what the row had. The only error is
-    /// that memory ran out.
-    pub fn row_of(
-        &self,
-        entries: &[NodeEntry],
-        v: u32,
-        row: &mut Vec<Entry>,
-    ) -> Result<(), AllocError>
-        requires chained { AreChained entries.now (length entries.now) self.now }
-        requires node { IsNode (length self.now.heads.items) v }
-        requires once { HasEachOnce (entries_of_node entries.now v) }
-        ensures { OnOk result (IsSortedRow (entries_of_node entries.now v) row.new.items) }
-    {
-        row.clear();
-        let mut link = self.heads[v as usize - 1];
-        while link > 0 {
-            row.push(entries[link as usize - 1].entry())?;
-            link = self.nexts[link as usize - 1];
-        }
-        row.sort_unstable_by_key(|e| e.pos);
-        Ok(())
-    }
-
-    /// Whether the entries of the node `v`, a number from 1, and a row by rising position cover an entry at the position
-    /// `pos`, from 0, with the distance `dist`.
-    pub fn cover(&self, entries: &[NodeEntry], v: u32, row: &[Entry], pos: u32, dist: u64) -> bool
-        requires chained { AreChained entries.now (length entries.now) self.now }
-        requires node { IsNode (length self.now.heads.items) v }
-        requires rising { IsStrictlyIncreasing (map (λ e. e.pos) row.now) }
-        ensures { IsTrue result ↔ IsCovered (entries_of_node entries.now v) row.now pos dist }
-    {
-        let mut link = self.heads[v as usize - 1];
-        while link > 0 {
-            if covers(entries[link as usize - 1].entry(), row, pos, dist) {
-                return true;
-            }
-            link = self.nexts[link as usize - 1];
-        }
-        false
     }
 }

@@ -1,23 +1,17 @@
 -- Chains through a list of entries, and what a walk of one finds.
-use Rattle.std.proofs.Common.{◌≡◌, ◌≢◌, ◌↔◌, ℕ, ◌+◌, ◌-◌, ◌<◌, ◌≤◌, eqb, inl, inr, List, [], ◌∷◌, ◌++◌, Contains, length, map, get_or, set, take, reverse, sym, ap, subst, ◌∙◌, refl, add-one, arith}
-use Rattle.std.specs.List.Sorted.{IsNonDecreasingBy, IsPermutation}
+use Rattle.std.proofs.Common.{◌≡◌, ◌≢◌, ◌↔◌, ℕ, ◌+◌, ◌-◌, ◌<◌, ◌≤◌, inl, inr, List, [], ◌∷◌, ◌++◌, Contains, length, get_or, set, take, reverse, sym, ap, subst, ◌∙◌, refl, arith}
 use Rattle.std.proofs.Math.ListN.{length-set}
 use Rattle.std.proofs.lemmas.Bool.{cases_lt, cases_eq}
 use Rattle.std.proofs.lemmas.List.{append-nil, get_or_append_left, get_or_default, get_or_push, get_or-set_same, get_or-set_other, length-append, reverse-append, take_all}
-use Rattle.std.proofs.lemmas.List.Sorted.{Contains-permutation, IsPermutation-map, IsPermutation-reverse, IsPermutation-sym}
-use Rattle.std.proofs.lemmas.Map.Keys.{IsDistinct-IsPermutation}
+use Rattle.std.proofs.lemmas.List.Sorted.{Contains-permutation, IsPermutation-reverse, IsPermutation-sym}
 use Rattle.walk_laws.specs.declared.entry.Entry.{Entry}
 use Rattle.walk_laws.proofs.Members.{Contains-next, Contains-cons_cases}
 use Rattle.hub_index.specs.declared.entry_sink.NodeEntry.{NodeEntry}
 use Rattle.hub_index.specs.Sunk.{entries_of_node, entry_if, entry_of}
 use Rattle.hub_index.specs.Views.{IsNode}
 use Rattle.hub_index.proofs.GatheredRows.{entries_of_node-more, entry_if-other, entry_if-same}
-use Rattle.label_clean.specs.declared.chains.Chains.{Chains}
-use Rattle.label_clean.specs.Chains.{AreChained, AreEmpty, IsChain, IsLink, head_of}
-use Rattle.label_clean.specs.RawRows.{HasEachOnce}
-use Rattle.label_clean.specs.Sorted.{IsSortedRow}
-use Rattle.label_clean.proofs.Covering.{pos_of}
-use Rattle.label_clean.proofs.RowFacts.{IsSortedRow-from_sort, eqb_flips, one_place}
+use Rattle.entry_chains.specs.declared.chains.Chains.{Chains}
+use Rattle.entry_chains.specs.Chains.{AreChained, AreEmpty, IsChain, IsLink, head_of}
 
 module _ (entries : List NodeEntry) (nexts : List ℕ) where
   -- a chain goes on where links are put after the others
@@ -127,30 +121,13 @@ AreChained-none entries chains empty none = record {
   head = λ v x v_in some. let is = empty.none (v - 1) (omega (arith, v_in.from_one, v_in.up_to_n)) in absurd (omega (arith, is, some));
 }
 
--- the entries of a node, from the last one on
-pub record IsBackwards (entries : List Entry) (back : List Entry) : Type 0 where
-  pub each : (e : Entry) → Contains entries e ↔ Contains back e
-  pub once : HasEachOnce entries → HasEachOnce back
-
-pub backwards : (entries : List Entry) → IsBackwards entries (reverse entries)
-backwards entries =
-    let moved = IsPermutation-reverse entries in
-    record {
-      each = λ e. (λ h. Contains-permutation entries (reverse entries) e moved h, λ h. Contains-permutation (reverse entries) entries e (IsPermutation-sym entries (reverse entries) moved) h);
-      once = IsDistinct-IsPermutation eqb eqb_flips (map pos_of entries) (map pos_of (reverse entries)) (IsPermutation-map pos_of entries (reverse entries) moved);
-    }
-
--- a first entry has another position than those after it
-pub first_apart : (e f : Entry) (es : List Entry) → HasEachOnce (e ∷ es) → Contains es f → e.pos ≢ f.pos
-first_apart e f es once (k, within, is) same =
-    let there : get_or (e ∷ es) (k + 1) f ≡ f = rw add-one is in
-    one_place (e ∷ es) 0 (k + 1) e f once (omega arith) (omega (arith, within)) refl there same
-
--- entries that are sorted from the last one on
-pub IsSortedRow-backwards : (entries row : List Entry) → HasEachOnce entries → IsPermutation (reverse entries) row → IsNonDecreasingBy pos_of row → IsSortedRow entries row
-IsSortedRow-backwards entries row once moved up =
-    let all = IsSortedRow-from_sort (reverse entries) row ((backwards entries).once once) moved up in
-    record { rising = all.rising; each = λ e. (λ h. ((backwards entries).each e).1 ((all.each e).0 h), λ h. (all.each e).1 (((backwards entries).each e).0 h)) }
+-- the entries are the same ones from the last one on
+pub Contains-backwards : (entries : List Entry) (e : Entry) → Contains entries e ↔ Contains (reverse entries) e
+Contains-backwards entries e =
+    let moved = IsPermutation-reverse entries in (
+      λ h. Contains-permutation entries (reverse entries) e moved h,
+      λ h. Contains-permutation (reverse entries) entries e (IsPermutation-sym entries (reverse entries) moved) h,
+    )
 
 -- none of the entries is of a kind, but for the rest that is to come
 pub record IsSeeking (P : Entry → Type 0) (entries rest : List Entry) : Type 0 where
@@ -158,7 +135,7 @@ pub record IsSeeking (P : Entry → Type 0) (entries rest : List Entry) : Type 0
   pub left : (e : Entry) → Contains entries e → P e → Contains rest e
 
 pub IsSeeking-none : (P : Entry → Type 0) (entries : List Entry) → IsSeeking P entries (reverse entries)
-IsSeeking-none P entries = record { some = λ e h. ((backwards entries).each e).1 h; left = λ e h good. ((backwards entries).each e).0 h }
+IsSeeking-none P entries = record { some = λ e h. (Contains-backwards entries e).1 h; left = λ e h good. (Contains-backwards entries e).0 h }
 
 pub IsSeeking-more : (P : Entry → Type 0) (entries : List Entry) (e : Entry) (es : List Entry) → IsSeeking P entries (e ∷ es) → ¬ P e → IsSeeking P entries es
 IsSeeking-more P entries e es so_far bad = record {
@@ -176,3 +153,58 @@ head_within entries many chains chained v v_in = elim (cases_lt (head_of chains 
   | inl none ↦ omega (arith, none)
   | inr some ↦ (chained.head v (record { node = 0; pos = 0; dist = 0 }) v_in some).0
 ]
+
+-- the last entry of no other node stands at the place of a node's last one
+pub only_here : (entries : List NodeEntry) (many : ℕ) (chains : Chains) → AreChained entries many chains → (k : ℕ) (d : NodeEntry) (v : ℕ) → IsNode (length chains.heads.items) v → head_of chains v ≡ k + 1 → v ≡ (get_or entries k d).node
+only_here entries many chains chained k d v v_in is =
+    let known = chained.head v d v_in (omega (arith, is)) in
+    let place : head_of chains v - 1 ≡ k = omega (arith, is) in
+    sym known.1 ∙ ap (λ i. (get_or entries i d).node) place
+
+-- chains are emptied, entry by entry: what is left of a chain has its head from the place on
+pub record AreEmptied (entries : List NodeEntry) (before : Chains) (k : ℕ) (chains : Chains) : Type 0 where
+  pub size : length chains.heads.items ≡ length before.heads.items
+  pub left : (v : ℕ) → IsNode (length before.heads.items) v → 1 ≤ head_of chains v → (k < head_of chains v) × (head_of chains v ≡ head_of before v)
+
+module _ (entries : List NodeEntry) (before : Chains) (chained : AreChained entries (length entries) before) where
+  pub AreEmptied-none : (chains : Chains) → chains ≡ before → AreEmptied entries before 0 chains
+  AreEmptied-none chains same = record {
+    size = ap (λ (c : Chains). length c.heads.items) same;
+    left = λ v v_in some. (omega (arith, some), ap (λ c. head_of c v) same);
+  }
+
+  pub AreEmptied-more : (k : ℕ) (d : NodeEntry) (chains after : Chains) → k < length entries → IsNode (length before.heads.items) (get_or entries k d).node → AreEmptied entries before k chains → after.heads.items ≡ set chains.heads.items ((get_or entries k d).node - 1) 0 → AreEmptied entries before (k + 1) after
+  AreEmptied-more k d chains after within node_in so_far are = record { size = ap length are ∙ length-set chains.heads.items (node - 1) 0 ∙ so_far.size; left = left }
+    where
+      node : ℕ
+      node = (get_or entries k d).node
+
+      left : (v : ℕ) → IsNode (length before.heads.items) v → 1 ≤ head_of after v → (k + 1 < head_of after v) × (head_of after v ≡ head_of before v)
+      left v v_in some = elim (cases_eq v node) [
+        | inl same ↦
+            let gone : head_of after v ≡ 0 = ap (λ hs. get_or hs (v - 1) 0) are ∙ ap (λ u. get_or (set chains.heads.items (node - 1) 0) (u - 1) 0) same ∙ get_or-set_same chains.heads.items (node - 1) 0 0 (omega (arith, node_in.from_one, node_in.up_to_n, so_far.size)) in
+            absurd (omega (arith, gone, some))
+        | inr other ↦
+            let stays : head_of after v ≡ head_of chains v = ap (λ hs. get_or hs (v - 1) 0) are ∙ get_or-set_other chains.heads.items (node - 1) (v - 1) 0 0 (λ same. other (omega (arith, same, v_in.from_one, node_in.from_one))) in
+            let known = so_far.left v v_in (omega (arith, stays, some)) in
+            elim (cases_eq (head_of before v) (k + 1)) [
+              | inl is ↦ absurd (other (only_here entries (length entries) before chained k d v v_in is))
+              | inr apart ↦ (omega (arith, stays, known.0, known.1, apart), stays ∙ known.1)
+            ]
+      ]
+
+  -- in the end all are empty
+  pub AreEmpty-emptied : (k : ℕ) (chains : Chains) → length entries ≤ k → AreEmptied entries before k chains → AreEmpty (length before.heads.items) chains
+  AreEmpty-emptied k chains over all = record {
+    size = all.size;
+    none = λ i i_in. elim (cases_lt (get_or chains.heads.items i 0) 1) [
+      | inl zero ↦ omega (arith, zero)
+      | inr some ↦
+          let v_in : IsNode (length before.heads.items) (i + 1) = record { from_one = omega arith; up_to_n = omega (arith, i_in) } in
+          let place : i + 1 - 1 ≡ i = omega arith in
+          let head : head_of chains (i + 1) ≡ get_or chains.heads.items i 0 = ap (λ j. get_or chains.heads.items j 0) place in
+          let known = all.left (i + 1) v_in (omega (arith, head, some)) in
+          let d : NodeEntry = record { node = 0; pos = 0; dist = 0 } in
+          absurd (omega (arith, over, known.0, known.1, (chained.head (i + 1) d v_in (omega (arith, known.0, known.1))).0))
+    ];
+  }

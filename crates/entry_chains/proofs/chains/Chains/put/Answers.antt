@@ -1,7 +1,7 @@
 use Rattle.std.proofs.Common.{◌-◌, [], ◌∷◌, ◌++◌, length, set, ap, ◌∙◌, arith}
 use Rattle.std.proofs.lemmas.List.{get_or_read, length-append}
-use Rattle.label_clean.proofs.Chained.{AreChained-put}
-use Rattle.label_clean.proofs.chains.Chains.put.Goals as goal
+use Rattle.entry_chains.proofs.Chained.{AreChained-put}
+use Rattle.entry_chains.proofs.chains.Chains.put.Goals as goal
 
 pub returns-clause-put : goal.returns-clause-put
 returns-clause-put c entries many d within is chained =

@@ -1,5 +1,5 @@
-use Rattle.label_clean.proofs.TakenRows.{AreEmptied}
-use Rattle.label_clean.proofs.chains.Chains.clear.Given as goal
+use Rattle.entry_chains.proofs.Chained.{AreEmptied}
+use Rattle.entry_chains.proofs.chains.Chains.clear.Given as goal
 
 -- the heads of the entries so far are none
 abbrev pub invariant-loop-entry : goal.invariant-loop-entry

@@ -1,6 +1,6 @@
 use Rattle.std.proofs.Common.{◌≡◌, get_or, length, replicate, ap, ◌∙◌, rules}
 use Rattle.std.proofs.lemmas.List.{get_or-replicate, length-replicate}
-use Rattle.label_clean.proofs.chains.Chains.new.Goals as goal
+use Rattle.entry_chains.proofs.chains.Chains.new.Goals as goal
 
 pub returns : goal.returns
 returns c =

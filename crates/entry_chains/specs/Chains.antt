@@ -4,7 +4,7 @@ use Rattle.walk_laws.specs.declared.entry.Entry.{Entry}
 use Rattle.hub_index.specs.declared.entry_sink.NodeEntry.{NodeEntry}
 use Rattle.hub_index.specs.Sunk.{entries_of_node, entry_of}
 use Rattle.hub_index.specs.Views.{IsNode}
-use Rattle.label_clean.specs.declared.chains.Chains.{Chains}
+use Rattle.entry_chains.specs.declared.chains.Chains.{Chains}
 
 -- there are n chains, all empty
 pub record AreEmpty (n : ℕ) (chains : Chains) : Type 0 where

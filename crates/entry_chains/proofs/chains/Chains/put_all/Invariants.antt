@@ -1,6 +1,6 @@
 use Rattle.std.proofs.Common.{◌≡◌, length}
-use Rattle.label_clean.specs.Chains.{AreChained}
-use Rattle.label_clean.proofs.chains.Chains.put_all.Given as goal
+use Rattle.entry_chains.specs.Chains.{AreChained}
+use Rattle.entry_chains.proofs.chains.Chains.put_all.Given as goal
 
 -- the entries so far are chained
 abbrev pub invariant-loop-entry : goal.invariant-loop-entry

@@ -1,7 +1,7 @@
 use Rattle.std.proofs.Common.{refl}
 use Rattle.hub_index.specs.declared.entry_sink.NodeEntry.{NodeEntry}
-use Rattle.label_clean.proofs.TakenRows.{AreEmptied-more, AreEmpty-emptied}
-use Rattle.label_clean.proofs.chains.Chains.clear.Goals as goal
+use Rattle.entry_chains.proofs.Chained.{AreEmptied-more, AreEmpty-emptied}
+use Rattle.entry_chains.proofs.chains.Chains.clear.Goals as goal
 
 abbrev nothing : NodeEntry
 nothing = record { node = 0; pos = 0; dist = 0 }
