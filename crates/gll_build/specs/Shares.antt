@@ -39,13 +39,9 @@ pub record IsPoolOf (edges : List Edge) (order : List ℕ) (pool : PoolId Fittin
   pub edges_are : edges_of pool.fact ≡ edges
   pub order_is : order_of pool.fact ≡ order
 
--- no entries, of n nodes
-abbrev pub nothing_of : ℕ → List (List Entry)
-nothing_of n = replicate n []
-
--- memory for trees over n nodes, empty rows and an empty list
+-- memory for trees over n nodes, own rows for as many, and an empty list
 pub record IsBenchFor (n : ℕ) (bench : Bench) : Type 0 where
-  pub own : bench.own ≡ nothing_of n
+  pub own : bench.own ≡ n
   pub list : bench.list.items ≡ []
   pub work : bench.work ≡ n
 
@@ -55,7 +51,7 @@ pub record IsReady (claims : ClaimsId) (pool : PoolId Fitting) (n : ℕ) (worker
   pub there : worker.share ≡ Some share
   pub of : AreSeatsOf claims pool 0 share.seats
   pub new : AreNew share.seats
-  pub own : share.own ≡ nothing_of n
+  pub own : share.own ≡ n
   pub list : share.list.items ≡ []
   pub work : worker.work ≡ n
 
@@ -84,10 +80,10 @@ pub record HavePut (edges : List Edge) (at : List ℕ) (global : List (List Entr
   pub put : (v : ℕ) → IsNode (length at) v → IsPutBy edges at roots v (entries_of_node list v)
   pub apart : (v : ℕ) → IsNode (length at) v → AreUncovered at global v (entries_of_node list v)
 
--- some root was claimed with the share, or none was left; the rows are empty again; and where memory sufficed the trees of all roots that were claimed are grown over this global table, and the list is what they put
+-- some root was claimed with the share, or none was left; the own rows are for as many nodes as before; and where memory sufficed the trees of all roots that were claimed are grown over this global table, and the list is what they put
 pub record IsDone (edges : List Edge) (at : List ℕ) (global : List (List Entry)) (share : Share) : Type 0 where
   pub begun : HasBegun share.seats.claims
-  pub own : share.own ≡ nothing_of (length at)
+  pub own : share.own ≡ length at
   pub sufficed : IfOk share.memory (λ _. HavePut edges at global share.seats.claims.got share.list.items)
 
 -- a worker that has grown all trees of its share

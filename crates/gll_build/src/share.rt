@@ -6,7 +6,7 @@ ghost use Rattle.pruned_tree.specs.GrownBy.{HasGrown};
 ghost use Rattle.hub_index.specs.PlainRows.{IsGathered};
 ghost use Rattle.pool_view.specs.Fitting.{edges_of, order_of};
 ghost use Rattle.pool_view.specs.Viewing.{puts_row, view_kept};
-ghost use Rattle.gll_build.specs.Shares.{AreSeatsOf, AreNew, IsDone, IsPoolOf, StayUncovered, nothing_of};
+ghost use Rattle.gll_build.specs.Shares.{AreSeatsOf, AreNew, IsDone, IsPoolOf, StayUncovered};
 
 use desk_io::Gate;
 use hub_index::{NodeEntry, SplitRows};
@@ -59,7 +59,7 @@ pub fn grow_share<R: Wait, G: Gate>(
     requires global { IsGathered graph.now.edges ranking.now global.now }
     requires seats { AreSeatsOf claims.now pool.now 0 share.seats }
     requires new { AreNew share.seats }
-    requires own { share.own ≡ nothing_of (length ranking.now) }
+    requires own { share.own ≡ length ranking.now }
     requires list { share.list.items ≡ [] }
     ensures work { work.new ≡ work.old }
     ensures seat { IsClaimSeatOf claims.now result.seats.claims }
@@ -95,7 +95,7 @@ pub fn grow_share<R: Wait, G: Gate>(
             claims: claim_seat,
             pool: pool_seat,
         },
-        own: own.emptied(),
+        own,
         list,
         memory,
     }

@@ -2,7 +2,7 @@
 ghost use Rattle.std.specs.Prelude.{◌≡◌, ℕ, ◌+◌, ◌-◌, ◌<◌, ◌≤◌, [], All, IfOk, length, vec_len};
 ghost use Rattle.hub_index.specs.PlainRows.{IsGathered};
 ghost use Rattle.root_claims.specs.Seats.{IsSeatOf as IsClaimSeatOf};
-ghost use Rattle.gll_build.specs.Shares.{AreNew, AreSeatsOf, HasBegun, HasWorked, HavePut, IsBenchFor, IsHarvest, IsPoolOf, IsReady, nothing_of};
+ghost use Rattle.gll_build.specs.Shares.{AreNew, AreSeatsOf, HasBegun, HasWorked, HavePut, IsBenchFor, IsHarvest, IsPoolOf, IsReady};
 
 use crate::share::{Seats, Share, grow_share};
 use desk_io::Gate;
@@ -201,7 +201,7 @@ fn parts_of(
     requires { HasWorked claims.now graph.now.edges ranking.now global.now worker }
     ensures seat { IfOk result (λ parts. IsClaimSeatOf claims.now parts.0 × (parts.0.left ≡ 0) × HasBegun parts.0) }
     ensures put { IfOk result (λ parts. HavePut graph.now.edges ranking.now global.now parts.0.got parts.1.items) }
-    ensures own { IfOk result (λ parts. parts.2 ≡ nothing_of (length ranking.now)) }
+    ensures own { IfOk result (λ parts. parts.2 ≡ length ranking.now) }
     ensures work { IfOk result (λ parts. parts.3 ≡ length ranking.now) }
 {
     let Worker { share, work } = worker;

@@ -1,6 +1,6 @@
 -- A visit of the chain of a node, and what follows of it for a view.
 use Rattle.std.proofs.Common.{◌≡◌, ◌⊎◌, inl, inr, ℕ, ◌<◌, Bool, Option, List, [], ◌∷◌, ◌++◌, All, Contains, length, replicate, refl, sym, ap, subst, ◌∙◌}
-use Rattle.std.specs.Prelude.{None}
+use Rattle.std.specs.Prelude.{None, reverse}
 use Rattle.std.proofs.lemmas.List.Elements.{All-contains}
 use Rattle.walk_laws.specs.declared.entry.Entry.{Entry}
 use Rattle.walk_laws.specs.Labelling.{label_row}
@@ -13,11 +13,12 @@ use Rattle.label_pool.specs.declared.rule.Linked.{Linked}
 use Rattle.label_pool.specs.Chains.{entries_of}
 use Rattle.label_pool.specs.Seats.{PoolId, Seated, HasFound}
 use Rattle.pool_view.specs.Fitting.{Fitting, MayStand, edges_of, order_of}
-use Rattle.pool_view.specs.Viewing.{Viewing, IsViewing, IsOpen, HasVisited, HasGained, IsPast, IsAfter, IsOfferedToAll, fact_of, listed, seen_row, whole_row}
+use Rattle.pool_view.specs.Putting.{Putting, listed}
+use Rattle.pool_view.specs.Viewing.{Viewing, IsViewing, IsOpen, HasVisited, HasGained, IsPast, IsAfter, IsOfferedToAll, fact_of, seen_row, whole_row}
 use Rattle.pool_view.proofs.KeptViews.{viewing-looked, visited-seen, pooled-seen, stays_open}
 use Rattle.pool_view.proofs.NotedTables.{HoldsRow-same, HoldsRow-three}
 use Rattle.pool_view.proofs.Offered.{owned-seen}
-use Rattle.pool_view.proofs.WholeRows.{chain-stands, whole-all, whole-found, noting-whole, whole-noting}
+use Rattle.pool_view.proofs.WholeRows.{All-reversed, chain-stands, whole-all, whole-found, noting-whole, whole-noting}
 
 -- the seat of the view visited v in its pool, and found this chain
 pub record IsVisit (before : Viewing) (v : ℕ) (seat : Seated Fitting) (found : List Linked) : Type 0 where
@@ -26,8 +27,16 @@ pub record IsVisit (before : Viewing) (v : ℕ) (seat : Seated Fitting) (found :
   pub visit : HasFound MayStand before.seat.pool before.seat v found seat
 
 -- where the pool is told otherwise
-pub visit-of : (pool : PoolId Fitting) (before : Viewing) (v : ℕ) (seat : Seated Fitting) (found : List Linked) → before.seat.pool ≡ pool → HasFound MayStand pool before.seat v found seat → HasFound MayStand before.seat.pool before.seat v found seat
+visit-of : (pool : PoolId Fitting) (before : Viewing) (v : ℕ) (seat : Seated Fitting) (found : List Linked) → before.seat.pool ≡ pool → HasFound MayStand pool before.seat v found seat → HasFound MayStand before.seat.pool before.seat v found seat
 visit-of pool before v seat found is visit = subst (λ p. HasFound MayStand p before.seat v found seat) (sym is) visit
+
+-- a visit of v by the seat of a view, told of the view as it was
+pub visit-by : (pool : PoolId Fitting) (before told : Viewing) → before ≡ told → before.seat.pool ≡ pool → IsViewing before → (v : ℕ) → IsNode (length (order_of told.seat.pool.fact)) v → (seat : Seated Fitting) (found : List Linked) → HasFound MayStand pool before.seat v found seat → IsVisit before v seat found
+visit-by pool before told same of_pool viewing v node seat found visit = record {
+  viewing = viewing;
+  node = subst (λ (w : Viewing). IsNode (length (order_of w.seat.pool.fact)) v) (sym same) node;
+  visit = visit-of pool before v seat found of_pool visit;
+}
 
 module _ (before : Viewing) (v : ℕ) (seat : Seated Fitting) (found : List Linked) (is : IsVisit before v seat found) where
   abbrev pub After : Viewing
@@ -49,17 +58,18 @@ module _ (before : Viewing) (v : ℕ) (seat : Seated Fitting) (found : List Link
   pub pool_kept : (pool : PoolId Fitting) → before.seat.pool ≡ pool → seat.pool ≡ pool
   pool_kept pool of_pool = ap (λ (s : Seated Fitting). s.pool) is.visit.after_is ∙ of_pool
 
-  pub open_kept : (past : Bool) → IsOpen past before → IsOpen past After
-  open_kept past opened = stays_open past before seat (ap (λ (s : Seated Fitting). s.past) is.visit.after_is) opened
+  pub open_kept : (past : Bool) (puts : Putting) → IsOpen past before.seat puts → IsOpen past seat puts
+  open_kept past puts opened = stays_open past before.seat seat puts puts (ap (λ (s : Seated Fitting). s.past) is.visit.after_is) refl opened
 
-  -- the chain, the own row and the global row were noted in an empty table
-  pub row_held : (n : ℕ) → n ≡ length (order_of before.seat.pool.fact) → HoldsRow (noted (noted (noted (replicate n None) (entries_of found)) (label_row before.own v)) (label_row before.global v)) (whole_row before found v)
+  -- the chain, the own row with the newest entry first, and the global row were noted in an empty table
+  pub row_held : (n : ℕ) → n ≡ length (order_of before.seat.pool.fact) → HoldsRow (noted (noted (noted (replicate n None) (entries_of found)) (reverse (label_row before.own v))) (label_row before.global v)) (whole_row before found v)
   row_held n size =
       let edges = edges_of before.seat.pool.fact in
       let order = order_of before.seat.pool.fact in
       let inside : (row : List Entry) → All (fact_of before v) row → All (λ e. e.pos < n) row = λ row stands. subst (λ k. All (λ e. e.pos < k) row) (sym size) (positions-found edges order v row stands) in
-      HoldsRow-same _ ((entries_of found ++ label_row before.own v) ++ label_row before.global v) (whole_row before found v) (noting-whole before found v) (whole-noting before found v)
-      (HoldsRow-three n (entries_of found) (label_row before.own v) (label_row before.global v) (inside (entries_of found) (chain-stands before found v is.visit.met)) (inside (label_row before.own v) (is.viewing.own.fit v is.node.from_one is.node.up_to_n)) (inside (label_row before.global v) (is.viewing.global.fit v is.node.from_one is.node.up_to_n)))
+      let own = label_row before.own v in
+      HoldsRow-same _ ((entries_of found ++ reverse own) ++ label_row before.global v) (whole_row before found v) (noting-whole before found v) (whole-noting before found v)
+      (HoldsRow-three n (entries_of found) (reverse own) (label_row before.global v) (inside (entries_of found) (chain-stands before found v is.visit.met)) (All-reversed (λ e. e.pos < n) own (inside own (is.viewing.own.fit v is.node.from_one is.node.up_to_n))) (inside (label_row before.global v) (is.viewing.global.fit v is.node.from_one is.node.up_to_n)))
 
   module _ (table : List (Option ℕ)) (e : Entry) (uncovered : All (λ c. ¬ IsCover table e.pos e.dist c) (label_row before.global v)) where
     -- an entry of the row covers

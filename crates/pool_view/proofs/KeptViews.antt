@@ -1,17 +1,15 @@
 -- What a visit and a put keep of a view.
-use Rattle.std.proofs.Common.{◌≡◌, inl, inr, ℕ, Bool, true, false, ◌-◌, List, [], ◌∷◌, ◌++◌, length, reverse, take, sym, ap, subst, ◌∙◌, arith}
-use Rattle.std.specs.Prelude.{Some, Result, Ok, Err, OnErr, is_err}
+use Rattle.std.proofs.Common.{◌≡◌, inl, inr, ℕ, Bool, true, false, List, [], ◌∷◌, ◌++◌, reverse, sym, ap, subst, ◌∙◌}
 use Rattle.std.proofs.lemmas.Bool.{cases_eq}
-use Rattle.std.proofs.lemmas.List.{append_assoc, append-nil, length_push, reverse-append}
-use Rattle.std.proofs.Math.Seq.{take-append_seam}
+use Rattle.std.proofs.lemmas.List.{append_assoc, append-nil, reverse-append}
 use Rattle.walk_laws.specs.declared.entry.Entry.{Entry}
 use Rattle.walk_laws.specs.Labelling.{label_row}
-use Rattle.hub_index.specs.declared.entry_sink.NodeEntry.{NodeEntry}
 use Rattle.label_pool.specs.declared.rule.Linked.{Linked}
 use Rattle.label_pool.specs.Seats.{Seated, HasPut, HasFound}
 use Rattle.pool_view.specs.Fitting.{Fitting, MayStand}
+use Rattle.pool_view.specs.Putting.{Putting}
 use Rattle.pool_view.specs.Seen.{IsSeen, seen_chain}
-use Rattle.pool_view.specs.Viewing.{Viewing, IsViewing, IsOpen, IsPast, HasVisited, IsInPool, fact_of, seen_row, whole_row}
+use Rattle.pool_view.specs.Viewing.{Viewing, IsViewing, IsOpen, HasVisited, IsInPool, fact_of, seen_row, whole_row}
 use Rattle.pool_view.proofs.SeenChains.{look_at, IsSeen-looked, IsSeen-looked_else, IsSeen-put, IsSeen-put_else, seen-looked, seen-put}
 use Rattle.pool_view.proofs.Offered.{looked, pooled, visited-is, pooled-is}
 use Rattle.pool_view.proofs.WholeRows.{chain-stands}
@@ -55,29 +53,9 @@ viewing-put before seat v e viewing put stands =
     } in
     subst (λ s. IsViewing (record before { seat = s })) (sym put.after_is) then
 
--- what was listed last is taken off the list, after a call that found no memory
-unlisted : (list : List NodeEntry) (x : NodeEntry) → take (length (list ++ x ∷ []) - 1) (list ++ x ∷ []) ≡ list
-unlisted list x =
-    let before : length (list ++ x ∷ []) - 1 ≡ length list = let long = length_push list x in omega (arith, long) in
-    ap (λ n. take n (list ++ x ∷ [])) before ∙ take-append_seam list (x ∷ [])
-
-pub past-unlisted : (before after : Viewing) (x : NodeEntry) (pushed popped : List NodeEntry) → pushed ≡ before.list ++ x ∷ [] → popped ≡ take (length after.list - 1) after.list → IsPast (record before { list = pushed }) after → IsPast before (record after { list = popped })
-past-unlisted before after x pushed popped is_pushed is_popped past =
-    let list : popped ≡ before.list =
-    is_popped
-    ∙ ap (λ (w : Viewing). take (length w.list - 1) w.list) past.1
-    ∙ ap (λ xs. take (length xs - 1) xs) is_pushed
-    ∙ unlisted before.list x in
-    (past.0, ap (λ (w : Viewing). record w { list = popped }) past.1 ∙ ap (λ xs. record before { seat = record before.seat { past = Some past.0 }; list = xs }) list)
-
--- what is told of a refusal
-pub if-failed : {T E : Type 0} (r : Result T E) (P : Type 0) → is_err r ≡ true → OnErr r P → P
-if-failed (Ok x) P failed told = absurd cc
-if-failed (Err e) P failed told = told
-
-pub stays_open : (past : Bool) (before : Viewing) (seat : Seated Fitting) → seat.past ≡ before.seat.past → IsOpen past before → IsOpen past (record before { seat = seat })
-stays_open false before seat same opened = (same ∙ opened.0, opened.1)
-stays_open true before seat same opened = (opened.0, same ∙ opened.1)
+pub stays_open : (past : Bool) (before seat : Seated Fitting) (puts new : Putting) → seat.past ≡ before.past → new.kept ≡ puts.kept → IsOpen past before puts → IsOpen past seat new
+stays_open false before seat puts new same none opened = (same ∙ opened.0, none ∙ opened.1)
+stays_open true before seat puts new same none opened = (opened.0, same ∙ opened.1)
 
 -- what is seen after a visit is what it found
 pub visited-seen : (before after : Viewing) (v : ℕ) (found : List Linked) → IsViewing before → HasVisited before v found after → seen_row after v ≡ whole_row before found v

@@ -1,10 +1,10 @@
 pub mod Answered
 pub mod Covers
-pub mod Emptied
 pub mod KeptViews
-pub mod NodesOf
 pub mod NotedTables
 pub mod Offered
+pub mod PutRows
+pub mod PutViews
 pub mod SeenChains
 pub mod Walks
 pub mod WholeRows

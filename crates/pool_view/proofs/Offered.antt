@@ -12,8 +12,9 @@ use Rattle.hub_index.specs.Views.{with_put}
 use Rattle.hub_index.proofs.GatheredRows.{entries_of_node-append, entries_of_node-one, entry_if-same, entry_if-other}
 use Rattle.hub_index.proofs.RowsGathered.{row_gains, row_stays}
 use Rattle.label_pool.specs.declared.rule.Linked.{Linked}
+use Rattle.pool_view.specs.Putting.{listed}
 use Rattle.pool_view.specs.Seen.{seen_chain}
-use Rattle.pool_view.specs.Viewing.{Viewing, view_kept, seen_row, puts_row, listed, HasVisited, IsInPool, IsInOwn, IsPlaced, IsAfter}
+use Rattle.pool_view.specs.Viewing.{Viewing, view_kept, seen_row, puts_row, HasVisited, IsInPool, IsInOwn, IsPlaced, IsAfter}
 use Rattle.pool_view.proofs.SeenChains.{look_at, seen-looked_else, seen-put_else}
 
 -- what is listed of a node, with one more entry

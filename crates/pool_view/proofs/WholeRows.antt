@@ -1,14 +1,14 @@
 -- The whole row of a node: of the global table, the pool and the worker's own.
 use Rattle.std.proofs.Common.{inl, inr, ℕ, Option, List, [], ◌∷◌, ◌++◌, All, Contains, length, sym, subst}
 use Rattle.std.specs.Prelude.{Some, None, reverse}
-use Rattle.std.proofs.lemmas.List.{reverse-append, reverse-reverse, append-nil}
+use Rattle.std.proofs.lemmas.List.{reverse-append, append-nil}
 use Rattle.std.proofs.lemmas.List.Elements.{All-append, All-weaker, All-contains, All-contains_itself, All-map, Contains-append_left, Contains-append_right, Contains-append_cases}
-use Rattle.walk_laws.proofs.Members.{Contains-empty}
 use Rattle.walk_laws.specs.declared.entry.Entry.{Entry}
 use Rattle.walk_laws.specs.Joined.{Joined}
 use Rattle.walk_laws.specs.Labelling.{EntryFits, label_row}
 use Rattle.hub_index.specs.Views.{StandsIn, IsFound, IsNode}
 use Rattle.hub_index.proofs.FoundRows.{StandsIn-both, StandsIn-self}
+use Rattle.entry_chains.proofs.Chained.{Contains-backwards}
 use Rattle.label_pool.specs.declared.rule.Linked.{Linked}
 use Rattle.label_pool.specs.Chains.{entries_of, seen_of, IsTailOf}
 use Rattle.label_pool.specs.Seats.{IsMet}
@@ -18,14 +18,10 @@ use Rattle.pool_view.specs.Viewing.{Viewing, IsViewing, fact_of, whole_row, seen
 use Rattle.pool_view.proofs.SeenChains.{tail-entries}
 
 pub Contains-reversed : (xs : List Entry) (e : Entry) → Contains xs e → Contains (reverse xs) e
-Contains-reversed [] e there = absurd (Contains-empty e there)
-Contains-reversed (x ∷ xs) e there = subst (λ ys. Contains ys e) (sym (reverse-append (x ∷ []) xs)) (elim (Contains-append_cases (x ∷ []) xs e there) [
-  | inl here ↦ Contains-append_right (reverse xs) (x ∷ []) e here
-  | inr later ↦ Contains-append_left (reverse xs) (x ∷ []) e (Contains-reversed xs e later)
-])
+Contains-reversed xs e there = (Contains-backwards xs e).0 there
 
 pub Contains-unreversed : (xs : List Entry) (e : Entry) → Contains (reverse xs) e → Contains xs e
-Contains-unreversed xs e there = subst (λ ys. Contains ys e) (reverse-reverse xs) (Contains-reversed (reverse xs) e there)
+Contains-unreversed xs e there = (Contains-backwards xs e).1 there
 
 pub All-reversed : (P : Entry → Type 0) (xs : List Entry) → All P xs → All P (reverse xs)
 All-reversed P xs all = All-weaker (Contains (reverse xs)) P (λ e there. All-contains P xs e all (Contains-unreversed xs e there)) (reverse xs) (All-contains_itself (reverse xs))
@@ -69,15 +65,15 @@ module _ (view : Viewing) (found : List Linked) (v : ℕ) where
   pub whole-all : (P : Entry → Type 0) → All P (label_row view.global v) → All P (entries_of found) → All P (label_row view.own v) → All P (whole_row view found v)
   whole-all P global chain own = All-append P (Global ++ Chain) Own (All-append P Global Chain global (All-reversed P (entries_of found) chain)) own
 
-  -- in the order in which they are noted: the chain, the own row, and the global one
+  -- in the order in which they are noted: the chain, the own row from its end on, and the global one
   abbrev pub Noting : List Entry
-  Noting = (entries_of found ++ label_row view.own v) ++ label_row view.global v
+  Noting = (entries_of found ++ reverse Own) ++ Global
 
   pub noting-whole : (e : Entry) → Contains Noting e → Contains (whole_row view found v) e
-  noting-whole e there = elim (Contains-append_cases (entries_of found ++ Own) Global e there) [
-    | inl others ↦ elim (Contains-append_cases (entries_of found) Own e others) [
+  noting-whole e there = elim (Contains-append_cases (entries_of found ++ reverse Own) Global e there) [
+    | inl others ↦ elim (Contains-append_cases (entries_of found) (reverse Own) e others) [
       | inl chain ↦ of_chain e chain
-      | inr own ↦ of_own e own
+      | inr own ↦ of_own e (Contains-unreversed Own e own)
     ]
     | inr global ↦ of_global e global
   ]
@@ -85,10 +81,10 @@ module _ (view : Viewing) (found : List Linked) (v : ℕ) where
   pub whole-noting : (e : Entry) → Contains (whole_row view found v) e → Contains Noting e
   whole-noting e there = elim (Contains-append_cases (Global ++ Chain) Own e there) [
     | inl others ↦ elim (Contains-append_cases Global Chain e others) [
-      | inl global ↦ Contains-append_right (entries_of found ++ Own) Global e global
-      | inr chain ↦ Contains-append_left (entries_of found ++ Own) Global e (Contains-append_left (entries_of found) Own e (Contains-unreversed (entries_of found) e chain))
+      | inl global ↦ Contains-append_right (entries_of found ++ reverse Own) Global e global
+      | inr chain ↦ Contains-append_left (entries_of found ++ reverse Own) Global e (Contains-append_left (entries_of found) (reverse Own) e (Contains-unreversed (entries_of found) e chain))
     ]
-    | inr own ↦ Contains-append_left (entries_of found ++ Own) Global e (Contains-append_right (entries_of found) Own e own)
+    | inr own ↦ Contains-append_left (entries_of found ++ reverse Own) Global e (Contains-append_right (entries_of found) (reverse Own) e (Contains-reversed Own e own))
   ]
 
   -- each entry of a chain that was found may stand there

@@ -1,4 +1,4 @@
 pub mod Fitting
-pub mod OwnRows
+pub mod Putting
 pub mod Seen
 pub mod Viewing

@@ -1,5 +1,5 @@
 -- What one worker sees of the rows of a superstep (Planting Trees, PVLDB 2019), and what its calls change.
-use Rattle.std.specs.Prelude.{◌≡◌, ◌⊎◌, ℕ, ◌≤◌, Bool, true, false, List, [], ◌∷◌, ◌++◌, All, Contains, None, Some, Option, length, reverse}
+use Rattle.std.specs.Prelude.{◌≡◌, ◌⊎◌, ℕ, ◌≤◌, Bool, true, false, List, [], ◌++◌, All, Contains, None, Some, Option, length, reverse}
 use Rattle.walk_laws.specs.declared.entry.Entry.{Entry}
 use Rattle.walk_laws.specs.Joined.{Joined}
 use Rattle.walk_laws.specs.Labelling.{EntryFits, label_row}
@@ -15,6 +15,7 @@ use Rattle.label_pool.specs.declared.rule.Linked.{Linked}
 use Rattle.label_pool.specs.Chains.{entries_of}
 use Rattle.label_pool.specs.Seats.{PoolId, Seated, HasPut, HasFound}
 use Rattle.pool_view.specs.Fitting.{Fitting, MayStand, edges_of, order_of, IsFittingPool}
+use Rattle.pool_view.specs.Putting.{Putting, listed}
 use Rattle.pool_view.specs.Seen.{IsSeen, seen_chain}
 
 -- A worker at the rows: its seat at the pool, the rows of the global table, its own rows, and the list of what it put
@@ -57,10 +58,10 @@ pub record IsViewing (view : Viewing) : Type 0 where
   pub seen : (v : ℕ) → IsSeen (fact_of view v) view.seat.looks view.seat.marks v
   pub nodes : All (λ e. IsNode (length (order_of view.seat.pool.fact)) e.node) view.list
 
--- as long as the seat has not drawn past the last cell there is nothing in its own rows
-abbrev pub IsOpen : Bool → Viewing → Type 0
-IsOpen false view = (view.seat.past ≡ None) × ((v : ℕ) → IsNode (length view.own) v → label_row view.own v ≡ [])
-IsOpen true view = (cell : ℕ) × (view.seat.past ≡ Some cell)
+-- as long as the seat has not drawn past the last cell nothing is kept
+abbrev pub IsOpen : Bool → Seated Fitting → Putting → Type 0
+IsOpen false seat puts = (seat.past ≡ None) × (puts.kept ≡ [])
+IsOpen true seat puts = (cell : ℕ) × (seat.past ≡ Some cell)
 
 -- a visit of v that finds this chain
 abbrev pub HasVisited : Viewing → ℕ → List Linked → Viewing → Type 0
@@ -85,10 +86,6 @@ pub record IsInOwn (before : Viewing) (v : ℕ) (e : Entry) (after : Viewing) : 
 -- the entry was put in the one or in the other
 abbrev pub IsPlaced : Viewing → ℕ → Entry → Viewing → Type 0
 IsPlaced before v e after = IsInPool before v e after ⊎ IsInOwn before v e after
-
--- the list, with the entry of v last
-abbrev pub listed : List NodeEntry → ℕ → Entry → List NodeEntry
-listed list v e = list ++ record { node = v; pos = e.pos; dist = e.dist } ∷ []
 
 -- the entry was put in the one or in the other, and listed
 abbrev pub HasGained : Viewing → ℕ → Entry → Viewing → Type 0

@@ -4,16 +4,15 @@
 //! A [`PoolView`] is a `hub_index::RowView`, so pruned trees grow over it as they do over plain rows. It is made of a pool
 //! whose entries may stand in the rows of a graph's nodes ([`Fits`]), of a seat at it, of the global table, of [`OwnRows`],
 //! which a worker keeps from one superstep to the next, and of a list, which gets all that the worker puts. It stands on
-//! label_pool (the pool and its seats) and hub_index (rows, tables, what a view promises). Its callers' clauses use
-//! `specs/Fitting` (`Fitting`, `IsFittingPool`), `specs/Viewing` (`Viewing`, `whole_row`, `seen_row`, `puts_row`) and
-//! `specs/OwnRows` (`AreNodesOf`).
+//! label_pool (the pool and its seats), entry_chains (the own rows) and hub_index (rows, tables, what a view promises). Its
+//! callers' clauses use `specs/Fitting` (`Fitting`, `IsFittingPool`), `specs/Viewing` (`Viewing`, `whole_row`, `seen_row`, `puts_row`).
 #![tactic(auto)]
 
 mod chain;
 mod fits;
-mod own_rows;
+mod puts;
 mod view;
 
 pub use fits::Fits;
-pub use own_rows::OwnRows;
+pub use puts::OwnRows;
 pub use view::PoolView;

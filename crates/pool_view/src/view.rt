@@ -6,12 +6,12 @@ ghost use Rattle.hub_index.specs.declared.row_view.Offer.TheVariants.{Covered};
 ghost use Rattle.label_pool.specs.declared.rule.Linked.{Linked};
 ghost use Rattle.label_pool.specs.Seats.{IsSeatOf};
 ghost use Rattle.pool_view.specs.Fitting.{IsFittingPool, edges_of, order_of};
-ghost use Rattle.pool_view.specs.Viewing.{HasGained, HasVisited, IsPast, IsPlaced, IsOfferedToAll, IsOfferedToGlobal, fact_of, seen_row, whole_row};
+ghost use Rattle.pool_view.specs.Viewing.{HasGained, HasVisited, IsPast, IsOfferedToAll, IsOfferedToGlobal, fact_of, seen_row, whole_row};
 
 use crate::chain::{covered_in_chain, note_chain};
 use crate::fits::Fits;
-use crate::own_rows::OwnRows;
-use hub_index::{NodeEntry, Offer, RootTable, RowView, SplitRows, covered};
+use crate::puts::{OwnRows, Puts};
+use hub_index::{NodeEntry, Offer, RootTable, RowView, SplitRows};
 use label_pool::{Pool, PoolPut, PoolSeat};
 use std::alloc::AllocError;
 use std::marker::Model;
@@ -29,9 +29,7 @@ pub struct PoolView<'a, R: Wait> {
     pool: &'a Pool<Fits>,
     global: &'a SplitRows,
     seat: PoolSeat<Fits>,
-    own: OwnRows,
-    /// All that the worker put, in that order: in the pool, and, once that was full, in its own rows.
-    list: Vec<NodeEntry>,
+    puts: Puts,
     /// Whether the seat drew past the last cell. Until then its own rows are empty.
     past: bool,
 }
@@ -39,13 +37,14 @@ pub struct PoolView<'a, R: Wait> {
 impl<'a, R: Wait> Model for PoolView<'a, R> {
     ghost use Rattle.std.specs.Prelude.{◌≡◌};
     ghost use Rattle.label_pool.specs.Seats.{IsSeatOf};
+    ghost use Rattle.pool_view.specs.Putting.{all_put, own_rows};
     ghost use Rattle.pool_view.specs.Viewing.{Viewing, IsViewing, IsOpen};
 
     ghost Value = { Viewing };
 
-    ghost view = { λ v. record { seat = v.seat; global = v.global.now; own = v.own; list = v.list.items } };
+    ghost view = { λ v. record { seat = v.seat; global = v.global.now; own = own_rows v.puts; list = all_put v.puts } };
 
-    ghost invariant = { λ v. IsSeatOf v.pool.now v.seat × IsViewing (record { seat = v.seat; global = v.global.now; own = v.own; list = v.list.items }) × IsOpen v.past (record { seat = v.seat; global = v.global.now; own = v.own; list = v.list.items }) };
+    ghost invariant = { λ v. IsSeatOf v.pool.now v.seat × IsViewing (record { seat = v.seat; global = v.global.now; own = own_rows v.puts; list = all_put v.puts }) × IsOpen v.past v.seat v.puts };
 }
 
 impl<'a, R: Wait> PoolView<'a, R> {
@@ -64,11 +63,11 @@ impl<'a, R: Wait> PoolView<'a, R> {
         requires past { seat.past ≡ None }
         requires fresh { (seat.looks ≡ []) × (seat.marks ≡ []) }
         requires global { IsGathered (edges_of pool.now.fact) (order_of pool.now.fact) global.now }
-        requires own { own ≡ replicate (length global.now) [] }
+        requires own { own ≡ length global.now }
         requires list { list.items ≡ [] }
         ensures seat { result.seat ≡ seat }
         ensures global { result.global ≡ global.now }
-        ensures own { result.own ≡ own }
+        ensures own { result.own ≡ replicate own [] }
         ensures list { result.list ≡ [] }
     {
         PoolView {
@@ -76,18 +75,17 @@ impl<'a, R: Wait> PoolView<'a, R> {
             pool,
             global,
             seat,
-            own,
-            list,
+            puts: Puts::new(own, list),
             past: false,
         }
     }
 
-    /// The seat, the own rows with what the pool had no cell for, and the list of all that was put, in that order.
+    /// The seat, the own rows, which are emptied at the cost of what they have, and the list of all that was put, in that
+    /// order. It takes no memory.
     pub fn into_parts(self) -> (PoolSeat<Fits>, OwnRows, Vec<NodeEntry>)
         ensures seat { result.0 ≡ self.entry.seat }
-        ensures own { result.1 ≡ self.entry.own }
+        ensures own { result.1 ≡ length (order_of self.entry.seat.pool.fact) }
         ensures list { result.2.items ≡ self.entry.list }
-        ensures size { length self.entry.own ≡ length (order_of self.entry.seat.pool.fact) }
         ensures nodes { All (λ e. IsNode (length (order_of self.entry.seat.pool.fact)) e.node) self.entry.list }
     {
         let PoolView {
@@ -95,49 +93,31 @@ impl<'a, R: Wait> PoolView<'a, R> {
             pool: _,
             global: _,
             seat,
-            own,
-            list,
+            puts,
             past: _,
         } = self;
+        let (own, list) = puts.into_parts();
         (seat, own, list)
     }
 
-    /// Puts the entry at the node `v`, a number from 1, and lists it. The only error is that memory ran out for that, and
-    /// nothing is put.
+    /// Puts the entry at the node `v`, a number from 1: in the pool, unless the seat has drawn past the last cell or does so
+    /// now, and then in the own row of `v`. The only error is that memory ran out for that, and nothing is put.
     fn put(&mut self, v: u32, entry: Entry) -> Result<(), AllocError>
         requires node { IsNode (length (order_of self.old.seat.pool.fact)) v }
         requires fits { fact_of self.old v entry }
         ensures ok { OnOk result (HasGained self.old v entry self.new) }
         ensures err { OnErr result ((self.new ≡ self.old) ⊎ IsPast self.old self.new) }
     {
-        self.list.push(NodeEntry {
-            node: v,
-            pos: entry.pos,
-            dist: entry.dist,
-        })?;
-        if self.place(v, entry).is_err() {
-            self.list.pop();
-            return Err(AllocError);
-        }
-        Ok(())
-    }
-
-    /// Puts the entry, which is listed, in the pool, unless the seat has drawn past the last cell or does so now; then in the
-    /// own row of `v`. The only error is that memory ran out for that, and nothing is put.
-    fn place(&mut self, v: u32, entry: Entry) -> Result<(), AllocError>
-        requires node { IsNode (length (order_of self.old.seat.pool.fact)) v }
-        requires fits { fact_of self.old v entry }
-        ensures ok { OnOk result (IsPlaced self.old v entry self.new) }
-        ensures err { OnErr result (IsPast self.old self.new) }
-    {
         if self.past {
-            return self.own.push(v, entry);
+            return self.puts.keep(v, entry);
         }
+        self.puts.list(v, entry)?;
         match self.pool.put(self.rt, &mut self.seat, v, entry) {
             PoolPut::Put => Ok(()),
             PoolPut::Full { .. } => {
+                self.puts.unlist();
                 self.past = true;
-                self.own.push(v, entry)
+                self.puts.keep(v, entry)
             }
         }
     }
@@ -175,7 +155,7 @@ impl<'a, R: Wait> RowView for PoolView<'a, R> {
     {
         table.clear();
         note_chain(self.pool, &mut self.seat, h, table);
-        table.note_row(self.own.row(h));
+        self.puts.note(h, table);
         self.global.note(h, table);
     }
 
@@ -191,7 +171,7 @@ impl<'a, R: Wait> RowView for PoolView<'a, R> {
         if let Some(cover) = covered_in_chain(self.pool, &mut self.seat, v, table, entry) {
             return covered_by(cover);
         }
-        if let Some(cover) = covered(self.own.row(v), table, entry.pos, entry.dist) {
+        if let Some(cover) = self.puts.cover(v, table, entry.pos, entry.dist) {
             return covered_by(cover);
         }
         match self.put(v, entry) {

@@ -6,7 +6,7 @@ use Rattle.hub_index.specs.Views.{IsNode}
 use Rattle.pool_view.specs.Fitting.{order_of}
 use Rattle.pool_view.specs.Viewing.{ViewKept, puts_row}
 use Rattle.gll_build.proofs.DoneShares.{grown_from_nothing, sufficed_by}
-use Rattle.gll_build.specs.Shares.{AreUncovered, nothing_of}
+use Rattle.gll_build.specs.Shares.{AreUncovered}
 use Rattle.gll_build.proofs.UncoveredPuts.{AreUncovered-from_nothing}
 use Rattle.gll_build.proofs.share.grow_share.Goals as goal
 
@@ -31,6 +31,6 @@ returns-clause-done g c =
     subst (All (λ (e : NodeEntry). IsNode (length c.args.ranking.now) e.node)) (sym parts.list) (subst (λ order. All (λ (e : NodeEntry). IsNode (length order) e.node) c.grow_trees-memory.new.view.list) order_is parts.nodes) in
     record {
       begun = c.grow_trees-memory.ensures.begun;
-      own = c.emptied.ensures ∙ ap nothing_of (ap length parts.own ∙ parts.size ∙ ap length order_is);
+      own = parts.own ∙ ap length order_is;
       sufficed = sufficed_by edges at c.args.global.now c.grow_trees-memory.new.seat.got list c.grow_trees-memory.result nodes grown apart;
     }

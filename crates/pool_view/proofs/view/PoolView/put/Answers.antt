@@ -1,13 +1,74 @@
-use Rattle.std.proofs.Common.{◌-◌, inr, take, ap, sym, subst, ◌∙◌}
-use Rattle.pool_view.specs.Viewing.{Viewing, IsPast}
-use Rattle.pool_view.proofs.KeptViews.{if-failed, past-unlisted}
+use Rattle.std.proofs.Common.{◌≡◌, ◌-◌, length, take, sym, ap, subst, ◌∙◌}
+use Rattle.std.specs.Prelude.{OnOk, OnErr}
+use Rattle.hub_index.specs.declared.entry_sink.NodeEntry.{NodeEntry}
+use Rattle.hub_index.specs.Views.{IsNode}
+use Rattle.label_pool.specs.Seats.{Seated}
+use Rattle.pool_view.specs.Fitting.{Fitting, order_of}
+use Rattle.pool_view.specs.Putting.{Putting}
+use Rattle.pool_view.specs.Viewing.{Viewing, HasGained, IsViewing, fact_of}
+use Rattle.pool_view.proofs.KeptViews.{stays_open}
+use Rattle.pool_view.proofs.PutRows.{unlisted}
+use Rattle.pool_view.proofs.PutViews.{gained-kept, is_node, is_past, keeping, not_past, stays_past, view_of, viewing-kept, viewing-pooled}
 use Rattle.pool_view.proofs.view.PoolView.put.Goals as goal
 
-pub returns-then-is_err-clause-err : goal.returns-then-is_err-clause-err
-returns-then-is_err-clause-err g c =
-    let before : Viewing = record { seat = c.self.inside.seat; global = c.self.inside.global.now; own = c.self.inside.own; list = c.self.inside.list.items } in
-    let after : Viewing = record { seat = c.self-2.inside.seat; global = c.self-2.inside.global.now; own = c.self-2.inside.own; list = c.self-2.inside.list.items } in
-    let now : Viewing = record after { list = c.pop.new.self.items } in
-    let past = if-failed c.place.result (IsPast (record before { list = c.push.new.self.items }) c.place.new.self) (sym c.is_err.ensures.value ∙ c.if-is_err.true) c.place.ensures.err in
-    let unlisted = past-unlisted before after _ c.push.new.self.items c.pop.new.self.items c.in_ok-push.ensures.items (c.pop.ensures.rest ∙ ap (λ n. take (n - 1) c.self-2.inside.list.items) c.self-2.inside.list.ok.0) (subst (IsPast (record before { list = c.push.new.self.items })) (sym c.self-2.view_is) past) in
-    inr (subst (λ w. IsPast w now) c.self.view_is unlisted)
+pub keep-requires : goal.keep-requires
+keep-requires g c =
+    let node = subst (λ (w : Viewing). IsNode (length (order_of w.seat.pool.fact)) c.args.v) (sym c.self.view_is) c.requires.node in
+    record { node = is_node c.self.inside.seat c.self.inside.global.now c.self.inside.puts c.self.invariant.1 c.args.v node }
+
+pub invariant_of-self : goal.invariant_of-self
+invariant_of-self g c =
+    let seat = c.self.inside.seat in
+    let puts = c.self.inside.puts in
+    let past = is_past c.self.inside.past seat puts c.if-self.true c.self.invariant.2 in
+    let node = subst (λ (w : Viewing). IsNode (length (order_of w.seat.pool.fact)) c.args.v) (sym c.self.view_is) c.requires.node in
+    let fits = subst (λ w. fact_of w c.args.v c.args.entry) (sym c.self.view_is) c.requires.fits in (
+      c.self.invariant.0,
+      viewing-kept seat c.self.inside.global.now puts c.self.invariant.1 c.args.v c.args.entry node fits c.keep.result c.keep.new.self c.keep.ensures.ok c.keep.ensures.err seat past.0 (ap (λ p. record seat { past = p }) past.1),
+      stays_past c.self.inside.past seat puts c.keep.new.self c.if-self.true c.self.invariant.2,
+    )
+
+pub returns-then-self-clause-ok : goal.returns-then-self-clause-ok
+returns-then-self-clause-ok g c =
+    let seat = c.self.inside.seat in
+    let puts = c.self.inside.puts in
+    let global = c.self.inside.global.now in
+    let past = is_past c.self.inside.past seat puts c.if-self.true c.self.invariant.2 in
+    let node = subst (λ (w : Viewing). IsNode (length (order_of w.seat.pool.fact)) c.args.v) (sym c.self.view_is) c.requires.node in
+    let fits = subst (λ w. fact_of w c.args.v c.args.entry) (sym c.self.view_is) c.requires.fits in
+    subst (λ w. OnOk c.keep.result (HasGained w c.args.v c.args.entry (view_of seat global c.keep.new.self))) c.self.view_is
+    (gained-kept seat global puts c.self.invariant.1 c.args.v c.args.entry node fits c.keep.result c.keep.new.self c.keep.ensures.ok seat past.0 (ap (λ p. record seat { past = p }) past.1))
+
+pub invariant_of-self-in-Put : goal.invariant_of-self-in-Put
+invariant_of-self-in-Put g c =
+    let seat = c.self.inside.seat in
+    let puts = c.self.inside.puts in
+    let global = c.self.inside.global.now in
+    let none = not_past c.self.inside.past seat puts c.if-self.false c.self.invariant.2 in
+    let node = subst (λ (w : Viewing). IsNode (length (order_of w.seat.pool.fact)) c.args.v) (sym c.self.view_is) c.requires.node in
+    let fits = subst (λ w. fact_of w c.args.v c.args.entry) (sym c.self.view_is) c.requires.fits in
+    let p = c.in-Put.ensures.put in (
+      ap (λ (s : Seated Fitting). s.pool) p.after_is ∙ c.self.invariant.0,
+      subst (λ w. IsViewing (view_of c.put.new.seat global w)) (sym c.in_ok-list.ensures.ok) (viewing-pooled seat global puts c.self.invariant.1 c.args.v c.args.entry node fits none.1 c.put.new.seat p),
+      stays_open c.self.inside.past seat c.put.new.seat puts c.list.new.self (ap (λ (s : Seated Fitting). s.past) p.after_is) (ap (λ (w : Putting). w.kept) c.in_ok-list.ensures.ok) c.self.invariant.2,
+    )
+
+pub invariant_of-self-in-Full : goal.invariant_of-self-in-Full
+invariant_of-self-in-Full g c =
+    let seat = c.self.inside.seat in
+    let puts = c.self.inside.puts in
+    let global = c.self.inside.global.now in
+    let x : NodeEntry = record { node = c.args.v; pos = c.args.entry.pos; dist = c.args.entry.dist } in
+    let node = subst (λ (w : Viewing). IsNode (length (order_of w.seat.pool.fact)) c.args.v) (sym c.self.view_is) c.requires.node in
+    let fits = subst (λ w. fact_of w c.args.v c.args.entry) (sym c.self.view_is) c.requires.fits in
+    let back : c.unlist.new.self ≡ puts =
+    c.unlist.ensures ∙ ap (λ (w : Putting). record w { pooled = take (length w.pooled - 1) w.pooled }) c.in_ok-list.ensures.ok ∙ ap (λ list. record puts { pooled = list }) (unlisted puts.pooled x) in
+    let r = c.keep-in-Full.result in
+    let new = c.keep-in-Full.new.self in
+    let ok : OnOk r (new ≡ keeping puts c.args.v c.args.entry) = subst (λ w. OnOk r (new ≡ keeping w c.args.v c.args.entry)) back c.keep-in-Full.ensures.ok in
+    let err : OnErr r (new ≡ puts) = subst (λ (w : Putting). OnErr r (new ≡ w)) back c.keep-in-Full.ensures.err in
+    let full = c.in-Full.ensures.full in (
+      ap (λ (s : Seated Fitting). s.pool) full.2 ∙ c.self.invariant.0,
+      viewing-kept seat global puts c.self.invariant.1 c.args.v c.args.entry node fits r new ok err c.put.new.seat c.in-Full.cell full.2,
+      (c.in-Full.cell, ap (λ (s : Seated Fitting). s.past) full.2),
+    )

@@ -1,0 +1,37 @@
+-- What one worker puts in a superstep, in the pool and in rows of its own.
+use Rattle.std.specs.Prelude.{ℕ, List, [], ◌∷◌, ◌++◌, All, length, replicate}
+use Rattle.walk_laws.specs.declared.entry.Entry.{Entry}
+use Rattle.hub_index.specs.declared.entry_sink.NodeEntry.{NodeEntry}
+use Rattle.hub_index.specs.HubIndex.{with_entry}
+use Rattle.hub_index.specs.Sunk.{entry_of}
+use Rattle.hub_index.specs.Views.{IsNode}
+use Rattle.entry_chains.specs.declared.chains.Chains.{Chains}
+use Rattle.entry_chains.specs.Chains.{AreChained}
+
+-- the number of nodes, what was put in the pool, and what was kept after that
+pub record Putting : Type 0 where
+  pub n : ℕ
+  pub pooled : List NodeEntry
+  pub kept : List NodeEntry
+
+-- the list, with the entry of v last
+abbrev pub listed : List NodeEntry → ℕ → Entry → List NodeEntry
+listed list v e = list ++ record { node = v; pos = e.pos; dist = e.dist } ∷ []
+
+-- the rows, after which the entries of a list were put, one after another
+abbrev pub rows_with : List (List Entry) → List NodeEntry → List (List Entry)
+rows_with rows [] = rows
+rows_with rows (e ∷ es) = rows_with (with_entry rows e.node (entry_of e)) es
+
+-- the own rows: those of what was kept
+abbrev pub own_rows : Putting → List (List Entry)
+own_rows puts = rows_with (replicate puts.n []) puts.kept
+
+-- all that was put, in that order
+abbrev pub all_put : Putting → List NodeEntry
+all_put puts = puts.pooled ++ puts.kept
+
+-- the entries are of nodes, and all of them are chained
+pub record AreKept (entries : List NodeEntry) (chains : Chains) : Type 0 where
+  pub nodes : All (λ e. IsNode (length chains.heads.items) e.node) entries
+  pub chained : AreChained entries (length entries) chains
