@@ -1,45 +1,18 @@
 -- Chains through a list of entries, and what a walk of one finds.
-use Rattle.std.proofs.Common.{◌≡◌, ◌≢◌, ◌↔◌, ℕ, ◌+◌, ◌-◌, ◌<◌, ◌≤◌, inl, inr, List, [], ◌∷◌, ◌++◌, Contains, length, get_or, set, take, reverse, sym, ap, subst, ◌∙◌, refl, arith}
+use Rattle.std.proofs.Common.{◌≡◌, ◌≢◌, ◌↔◌, ℕ, ◌+◌, ◌-◌, ◌<◌, ◌≤◌, inl, inr, List, [], ◌∷◌, ◌++◌, Contains, length, get_or, set, take, reverse, sym, ap, subst, ◌∙◌, arith}
 use Rattle.std.proofs.Math.ListN.{length-set}
 use Rattle.std.proofs.lemmas.Bool.{cases_lt, cases_eq}
-use Rattle.std.proofs.lemmas.List.{append-nil, get_or_append_left, get_or_default, get_or_push, get_or-set_same, get_or-set_other, length-append, reverse-append, take_all}
+use Rattle.std.proofs.lemmas.List.{append-nil, get_or_default, get_or_push, get_or-set_same, get_or-set_other, length-append, reverse-append, take_all}
 use Rattle.std.proofs.lemmas.List.Sorted.{Contains-permutation, IsPermutation-reverse, IsPermutation-sym}
 use Rattle.walk_laws.specs.declared.entry.Entry.{Entry}
-use Rattle.walk_laws.proofs.Members.{Contains-next, Contains-cons_cases}
 use Rattle.hub_index.specs.declared.entry_sink.NodeEntry.{NodeEntry}
 use Rattle.hub_index.specs.Sunk.{entries_of_node, entry_if, entry_of}
 use Rattle.hub_index.specs.Views.{IsNode}
 use Rattle.hub_index.proofs.GatheredRows.{entries_of_node-more, entry_if-other, entry_if-same}
 use Rattle.entry_chains.specs.declared.chains.Chains.{Chains}
-use Rattle.entry_chains.specs.Chains.{AreChained, AreEmpty, IsChain, IsLink, head_of}
-
-module _ (entries : List NodeEntry) (nexts : List ℕ) where
-  -- a chain goes on where links are put after the others
-  pub IsChain-more : (x link : ℕ) (es : List Entry) → IsChain entries nexts link es → IsChain entries (nexts ++ x ∷ []) link es
-  IsChain-more x link [] is = is
-  IsChain-more x link (e ∷ es) is =
-      let here = is.0 in
-      let same : get_or (nexts ++ x ∷ []) (link - 1) 0 ≡ get_or nexts (link - 1) 0 = get_or_append_left nexts (x ∷ []) 0 (link - 1) (omega (arith, here.from_one, here.within)) in (
-        record { from_one = here.from_one; within = omega (arith, here.within, length-append nexts (x ∷ [])); back = omega (arith, same, here.back); entry_is = here.entry_is },
-        subst (λ k. IsChain entries (nexts ++ x ∷ []) k es) (sym same) (IsChain-more x (get_or nexts (link - 1) 0) es is.1),
-      )
-
-  -- what a link that is not the end leads to
-  pub record IsOneMore (link : ℕ) (rest : List Entry) : Type 0 where
-    pub e : Entry
-    pub es : List Entry
-    pub rest_is : rest ≡ e ∷ es
-    pub here : IsLink entries nexts link e
-    pub on : IsChain entries nexts (get_or nexts (link - 1) 0) es
-
-  pub one_more : (link : ℕ) (rest : List Entry) → IsChain entries nexts link rest → 0 < link → IsOneMore link rest
-  one_more link [] is some = absurd (omega (arith, is, some))
-  one_more link (e ∷ es) is some = record { e = e; es = es; rest_is = refl; here = is.0; on = is.1 }
-
-  -- the end leads to nothing
-  pub no_more : (link : ℕ) (rest : List Entry) → IsChain entries nexts link rest → link ≤ 0 → rest ≡ []
-  no_more link [] is none = refl
-  no_more link (e ∷ es) is none = absurd (omega (arith, is.0.from_one, none))
+use Rattle.entry_chains.specs.Chains.{AreChained, AreEmpty, head_of}
+use Rattle.entry_chains.specs.Links.{IsChain}
+use Rattle.entry_chains.proofs.Linked.{IsChain-more}
 
 -- one more entry is chained
 module _ (entries : List NodeEntry) (many : ℕ) (d : NodeEntry) (node : ℕ) (old new : Chains) (within : many < length entries) (is : (get_or entries many d).node ≡ node) (place : IsNode (length old.heads.items) node) (chained : AreChained entries many old) (nexts_are : new.nexts.items ≡ old.nexts.items ++ head_of old node ∷ []) (heads_are : new.heads.items ≡ set old.heads.items (node - 1) (many + 1)) where
@@ -128,20 +101,6 @@ Contains-backwards entries e =
       λ h. Contains-permutation entries (reverse entries) e moved h,
       λ h. Contains-permutation (reverse entries) entries e (IsPermutation-sym entries (reverse entries) moved) h,
     )
-
--- none of the entries is of a kind, but for the rest that is to come
-pub record IsSeeking (P : Entry → Type 0) (entries rest : List Entry) : Type 0 where
-  pub some : (e : Entry) → Contains rest e → Contains entries e
-  pub left : (e : Entry) → Contains entries e → P e → Contains rest e
-
-pub IsSeeking-none : (P : Entry → Type 0) (entries : List Entry) → IsSeeking P entries (reverse entries)
-IsSeeking-none P entries = record { some = λ e h. (Contains-backwards entries e).1 h; left = λ e h good. (Contains-backwards entries e).0 h }
-
-pub IsSeeking-more : (P : Entry → Type 0) (entries : List Entry) (e : Entry) (es : List Entry) → IsSeeking P entries (e ∷ es) → ¬ P e → IsSeeking P entries es
-IsSeeking-more P entries e es so_far bad = record {
-  some = λ f h. so_far.some f (Contains-next e f es h);
-  left = λ f h good. elim (Contains-cons_cases e f es (so_far.left f h good)) [ inl is ↦ absurd (bad (subst P (sym is) good)) | inr later ↦ later ];
-}
 
 -- all entries are chained
 pub whole_chain : (entries : List NodeEntry) (chains : Chains) → AreChained entries (length entries) chains → (v : ℕ) → IsNode (length chains.heads.items) v → IsChain entries chains.nexts.items (head_of chains v) (reverse (entries_of_node entries v))

@@ -1,1 +1,3 @@
 pub mod Chained
+pub mod Linked
+pub mod Walked

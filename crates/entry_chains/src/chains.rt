@@ -1,9 +1,11 @@
 //! Chains through a list of entries of many nodes, one for each node.
-ghost use Rattle.std.specs.Prelude.{◌≡◌, ℕ, ◌+◌, ◌<◌, List, All, get_or, length, IfOk, OnOk, OnErr};
+ghost use Rattle.std.specs.Prelude.{◌≡◌, ℕ, ◌+◌, ◌<◌, List, All, get_or, length, reverse, IfOk, OnOk, OnErr};
 ghost use Rattle.hub_index.specs.declared.entry_sink.NodeEntry.{NodeEntry as ANodeEntry};
+ghost use Rattle.hub_index.specs.Sunk.{entries_of_node};
 ghost use Rattle.hub_index.specs.Views.{IsNode};
 ghost use Rattle.entry_chains.specs.Chains.{AreChained, AreEmpty};
 
+use crate::node_chain::NodeChain;
 use hub_index::NodeEntry;
 use std::alloc::{AllocError, Global};
 
@@ -59,6 +61,19 @@ impl Chains {
         self.nexts.push(self.heads[place])?;
         self.heads[place] = link;
         Ok(())
+    }
+
+    /// The entries of the node `v`, a number from 1, in the list that is chained, from the last one on.
+    pub fn of_node<'a>(&'a self, entries: &'a [NodeEntry], v: u32) -> NodeChain<'a>
+        requires chained { AreChained entries.now (length entries.now) self.now }
+        requires node { IsNode (length self.now.heads.items) v }
+        ensures { result ≡ reverse (entries_of_node entries.now v) }
+    {
+        NodeChain {
+            entries,
+            nexts: self.nexts.as_slice(),
+            link: self.heads[v as usize - 1],
+        }
     }
 
     /// Empties the chains of a list. It costs the entries.

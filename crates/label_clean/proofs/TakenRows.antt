@@ -13,7 +13,8 @@ use Rattle.entry_chains.specs.declared.chains.Chains.{Chains}
 use Rattle.entry_chains.specs.Chains.{AreChained, head_of}
 use Rattle.label_clean.specs.Sorted.{IsSortedRow}
 use Rattle.label_clean.specs.Taken.{HasTaken, IsNeedlessAmong}
-use Rattle.entry_chains.proofs.Chained.{Contains-backwards, no_more, one_more, only_here, whole_chain}
+use Rattle.entry_chains.proofs.Chained.{Contains-backwards, only_here, whole_chain}
+use Rattle.entry_chains.proofs.Linked.{no_more, one_more}
 use Rattle.label_clean.proofs.Covering.{entry, pos_of}
 use Rattle.label_clean.proofs.Meetings.{never_falls}
 use Rattle.label_clean.proofs.KeptEntries.{IsKept, IsKept-none, IsKept-rising, IsKept-with}

@@ -28,10 +28,8 @@ pub fn row_of(
     ensures { OnOk result (IsSortedRow (entries_of_node entries.now v) row.new.items) }
 {
     row.clear();
-    let mut link = chains.heads[v as usize - 1];
-    while link > 0 {
-        row.push(entries[link as usize - 1].entry())?;
-        link = chains.nexts[link as usize - 1];
+    for entry in chains.of_node(entries, v) {
+        row.push(entry)?;
     }
     row.sort_unstable_by_key(|e| e.pos);
     Ok(())
@@ -52,12 +50,10 @@ pub fn cover(
     requires rising { IsStrictlyIncreasing (map (λ e. e.pos) row.now) }
     ensures { IsTrue result ↔ IsCovered (entries_of_node entries.now v) row.now pos dist }
 {
-    let mut link = chains.heads[v as usize - 1];
-    while link > 0 {
-        if covers(entries[link as usize - 1].entry(), row, pos, dist) {
+    for entry in chains.of_node(entries, v) {
+        if covers(entry, row, pos, dist) {
             return true;
         }
-        link = chains.nexts[link as usize - 1];
     }
     false
 }

@@ -15,8 +15,8 @@ use Rattle.hub_index.specs.Views.{IsNode}
 use Rattle.hub_index.proofs.GatheredRows.{entries_of_node-append, entries_of_node-one, entry_if-same, entry_if-other}
 use Rattle.hub_index.proofs.RowsGathered.{row_gains, row_stays}
 use Rattle.entry_chains.specs.declared.chains.Chains.{Chains}
-use Rattle.entry_chains.specs.Chains.{AreChained, IsChain, head_of}
-use Rattle.entry_chains.proofs.Chained.{head_within, whole_chain}
+use Rattle.entry_chains.specs.Chains.{AreChained, head_of}
+use Rattle.entry_chains.specs.Links.{IsChain}
 use Rattle.pool_view.specs.Putting.{AreKept, Putting, listed, own_rows, rows_with}
 
 pub length-rows_with : (rows : List (List Entry)) (es : List NodeEntry) → length (rows_with rows es) ≡ length rows
@@ -135,17 +135,6 @@ pub unlisted : (list : List NodeEntry) (x : NodeEntry) → take (length (list ++
 unlisted list x =
     let before : length (list ++ x ∷ []) - 1 ≡ length list = let long = length_push list x in omega (arith, long) in
     ap (λ n. take n (list ++ x ∷ [])) before ∙ take-append_seam list (x ∷ [])
-
--- where a walk of what is kept at a node begins
-pub record IsFirst (kept : List NodeEntry) (chains : Chains) (v link : ℕ) : Type 0 where
-  pub inside : link ≤ length kept
-  pub chain : IsChain kept chains.nexts.items link (reverse (entries_of_node kept v))
-
-pub first_link : (kept : List NodeEntry) (chains : Chains) → AreKept kept chains → (v : ℕ) → IsNode (length chains.heads.items) v → (link : ℕ) → link ≡ head_of chains v → IsFirst kept chains v link
-first_link kept chains are v node link is = record {
-  inside = omega (arith, is, head_within kept (length kept) chains are.chained v node);
-  chain = subst (λ k. IsChain kept chains.nexts.items k (reverse (entries_of_node kept v))) (sym is) (whole_chain kept chains are.chained v node);
-}
 
 -- what is told of a refusal
 pub if-failed : {T E : Type 0} (r : Result T E) (P : Type 0) → is_err r ≡ true → OnErr r P → P

@@ -148,11 +148,8 @@ impl Puts {
         requires positions { All (λ e. e.pos < length table.old) (entries_of_node self.now.kept v) }
         ensures { table.new ≡ noted table.old (reverse (entries_of_node self.now.kept v)) }
     {
-        let kept = self.kept();
-        let mut link = self.chains.heads[v as usize - 1];
-        while link > 0 {
-            table.note(kept[link as usize - 1].entry());
-            link = self.chains.nexts[link as usize - 1];
+        for entry in self.chains.of_node(self.kept(), v) {
+            table.note(entry);
         }
     }
 
@@ -164,14 +161,10 @@ impl Puts {
         ensures some { IfSome result (λ e. Contains (entries_of_node self.now.kept v) e × IsCover table.now pos dist e) }
         ensures none { IfNone result ((e : AnEntry) → Contains (entries_of_node self.now.kept v) e → ¬ IsCover table.now pos dist e) }
     {
-        let kept = self.kept();
-        let mut link = self.chains.heads[v as usize - 1];
-        while link > 0 {
-            let entry = kept[link as usize - 1].entry();
+        for entry in self.chains.of_node(self.kept(), v) {
             if table.covers(entry, pos, dist) {
                 return Some(entry);
             }
-            link = self.chains.nexts[link as usize - 1];
         }
         None
     }
