@@ -1,5 +1,5 @@
 //! One superstep, with what a build takes once.
-ghost use Rattle.std.specs.Prelude.{◌≡◌, ◌*◌, ◌^◌, ◌<◌, ◌≤◌, [], All, IfOk, length, min, vec_len};
+ghost use Rattle.std.specs.Prelude.{◌≡◌, ◌*◌, ◌/◌, ◌^◌, ◌<◌, ◌≤◌, [], All, IfOk, length, min, vec_len};
 ghost use Rattle.hub_index.specs.PlainRows.{IsGathered};
 ghost use Rattle.gll_build.specs.Shares.{IsBenchFor};
 ghost use Rattle.gll_build.specs.Workshops.{IsGrownFrom, IsProgress, IsWorkshopFor};
@@ -21,6 +21,9 @@ use walk_laws::Graph;
 
 /// The most cells that the pool of a superstep has.
 const MOST_CELLS: u64 = 1_048_576;
+
+/// How many cells a block of a large pool has.
+const BLOCK: u32 = 64;
 
 /// What a build takes once, and hands from superstep to superstep: a bench for each worker, what cleaning takes, and a list,
 /// which is empty between two supersteps.
@@ -144,7 +147,9 @@ fn grow_roots<R: Threads + Wait + Sync, G: Gate + Sync>(
     let count = benches.len() as u32;
     let (claims, claim_seat) = Claims::new(alloc, first, n, count)?;
     let fact = Fits::of(graph, ranking);
-    let (pool, pool_seat) = Pool::new(alloc, n, cells_for(count, cut), count, fact)?;
+    let cells = cells_for(count, cut);
+    let block = block_for(cells, cut);
+    let (pool, pool_seat) = Pool::in_blocks(alloc, n, cells / block, block, count, fact)?;
     let seats = Seats {
         claims: claim_seat,
         pool: pool_seat,
@@ -183,4 +188,17 @@ fn cells_for(workers: u32, cut: u32) -> u32
     ensures within { (1 ≤ result) × (result ≤ 2 ^ 31) }
 {
     (u64::from(workers) * u64::from(cut)).min(MOST_CELLS) as u32
+}
+
+/// How many of the cells a worker draws from the pool at once: one, unless they can be drawn in blocks that take no more than
+/// a worker's cut.
+fn block_for(cells: u32, cut: u32) -> u32
+    requires { 1 ≤ cells }
+    ensures some { 1 ≤ result }
+    ensures whole { cells / result * result ≡ cells }
+{
+    if cut >= BLOCK && cells % BLOCK == 0 {
+        return BLOCK;
+    }
+    1
 }

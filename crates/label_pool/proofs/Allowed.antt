@@ -1,6 +1,6 @@
 -- Each call's step is allowed: whatever the table is at that moment, it keeps the rule and tells what it should.
-use Rattle.std.proofs.Common.{◌≡◌, ◌≢◌, ⊎_elim, ℕ, ◌+◌, ◌%◌, ◌^◌, ◌<◌, ◌≤◌, List, [], ◌∷◌, ◌++◌, ◌==◌, All, set, refl, sym, ap, ◌∙◌, subst, arith}
-use Rattle.std.specs.Prelude.{Some, None, Contains, slice_index}
+use Rattle.std.proofs.Common.{◌≡◌, ◌≢◌, ⊎_elim, ℕ, ◌+◌, ◌*◌, mul-le-mul_left, ◌%◌, ◌^◌, ◌<◌, ◌≤◌, List, [], ◌∷◌, ◌++◌, ◌==◌, All, get_or, set, refl, sym, ap, ◌∙◌, subst, arith}
+use Rattle.std.specs.Prelude.{Some, None, Contains, drop, slice_index}
 use Rattle.std.proofs.lemmas.List.{append_assoc, set-get_or}
 use Rattle.std.proofs.lemmas.List.Elements.{All-contains, All-weaker}
 use prog.Atomic.{either}
@@ -20,15 +20,19 @@ use Rattle.label_pool.specs.declared.rule.Linked.{Linked}
 use Rattle.label_pool.specs.declared.rule.Look.{Look}
 use Rattle.label_pool.specs.declared.rule.View.{View}
 use Rattle.label_pool.specs.Chains.{named, first_cell, IsChain, IsWithin, IsTailOf}
-use Rattle.label_pool.specs.Fillings.{linked_of, with_next, with_dist}
+use Rattle.label_pool.specs.Fillings.{linked_of, with_next}
 use Rattle.label_pool.specs.Layout.{head_at, next_at, dist_at, name_in, pos_in}
 use Rattle.label_pool.specs.Lawful.{Table, Sitter, IsSeated, IsChainOf, IsLawful, drawn_by, is_past, given, both, nothing}
 use Rattle.label_pool.specs.Seats.{IsMet}
-use Rattle.label_pool.specs.Steps.{Drew, FilledNext, FilledDist, Found, LinkedTo, Read, SeesNothing, TellsCell, IsFound, IsLink, with_drawn, with_look}
+use Rattle.label_pool.specs.Steps.{Drew, FilledNext, Opened, Found, LinkedTo, Read, SeesNothing, TellsCell, IsFound, IsLink, with_drawn, with_look, with_opened}
 use Rattle.label_pool.proofs.Cells.{chain-most}
 use Rattle.label_pool.proofs.Seats as seats
 use Rattle.label_pool.proofs.Steps as steps
 use Rattle.label_pool.proofs.Tails.{named-small, seen-still, tail-further, cell-at, all-after}
+
+-- lists that are the same begin with the same
+same_first : (c : ℕ) (r : List ℕ) (d : ℕ) (t : List ℕ) → c ∷ r ≡ d ∷ t → (c ≡ d) × (r ≡ t)
+same_first c r d t same = (ap (λ xs. get_or xs 0 c) same, ap (drop 1) same)
 
 module _ {F : Type 0} (fact : F → ℕ → Entry → Type 0) (about : About F) (slots id : ℕ) where
   module _ (me : Sitter F) (live : 1 ≤ me.0.seats) where
@@ -41,16 +45,18 @@ module _ {F : Type 0} (fact : F → ℕ → Entry → Type 0) (about : About F) 
     looks s lawful _ at _ = (me.0, keeps, tt, same_lawful s 0 lawful at, (refl, is_one about.seats (IsSeated about) nothing s.views id me.0 lawful.seating at, tt))
 
     -- a number is drawn
-    pub draws_one : me.0.knows.filling ≡ None → me.0.knows.past ≡ None → Allows (IsLawful fact about) slots id me 0 (λ n. (n + 1) % 2 ^ 64) (Drew (step slots 0 1 0 none) me)
+    pub draws_one : me.0.knows.reserve ≡ [] → me.0.knows.past ≡ None → Allows (IsLawful fact about) slots id me 0 (λ n. (n + 1) % 2 ^ 64) (Drew (step slots 0 1 0 none) me)
     draws_one empty on s lawful _ at _ =
         let count = slice_index s.words 0 in
-        let most = drawing.counter_most drawn_by is_past 0 about.cells about.seats count s.views id me.0 lawful.drawn at in
-        let next : (count + 1) % 2 ^ 64 ≡ count + 1 = omega (arith, most, lawful.limits, lawful.seating.few) in (
+        let most = drawing.counter_most drawn_by is_past 0 about.blocks about.seats count s.views id me.0 lawful.drawn at in
+        let few : about.blocks * 1 ≤ about.blocks * about.block = mul-le-mul_left about.blocks lawful.limits.2 in
+        let low : about.blocks ≤ 2 ^ 31 = omega (arith, few, lawful.blocked, lawful.limits.1) in
+        let next : (count + 1) % 2 ^ 64 ≡ count + 1 = omega (arith, most, low, lawful.seating.few) in (
           knowing me.0 (with_drawn me.0.knows count),
           keeps,
           tt,
           subst (λ x. IsLawful fact about (record { words = set s.words 0 x; homes = s.homes; views = set s.views id (knowing me.0 (with_drawn me.0.knows count)) })) (sym next) (steps.draws fact about s id me.0 at lawful live empty on),
-          (refl, refl),
+          (refl, refl, omega (arith, most, low, lawful.seating.few)),
         )
 
     module _ (f : Filling) (is : me.0.knows.filling ≡ Some f) where
@@ -65,15 +71,16 @@ module _ {F : Type 0} (fact : F → ℕ → Entry → Type 0) (about : About F) 
             (ap (λ o. knowing me.0 (record me.0.knows { filling = with_next (Some x) o })) (sym is), refl),
           )
 
-      pub fills_dist : (x : ℕ) → Allows (IsLawful fact about) slots id me (dist_at me.0.knows.n f.cell) (λ _. x) (λ _. FilledDist (step slots (dist_at me.0.knows.n f.cell) x 0 none) me x)
-      fills_dist x s lawful _ at _ =
-          let n = (steps.seated_here fact about s id me.0 at lawful live).n in (
-            knowing me.0 (record me.0.knows { filling = Some (record f { dist = Some x }) }),
-            keeps,
-            tt,
-            subst (λ k. IsLawful fact about (record { words = set s.words (dist_at k f.cell) x; homes = s.homes; views = set s.views id (knowing me.0 (record me.0.knows { filling = Some (record f { dist = Some x }) })) })) (sym n) (steps.fills_dist fact about s id me.0 at lawful live f is x),
-            (ap (λ o. knowing me.0 (record me.0.knows { filling = with_dist x o })) (sym is), refl),
-          )
+    -- the first cell in reserve is opened
+    pub opens_one : (cell : ℕ) (rest : List ℕ) (x : ℕ) → me.0.knows.filling ≡ None → me.0.knows.reserve ≡ cell ∷ rest → Allows (IsLawful fact about) slots id me (dist_at me.0.knows.n cell) (λ _. x) (λ _. Opened (step slots (dist_at me.0.knows.n cell) x 0 none) me x)
+    opens_one cell rest x empty is s lawful _ at _ =
+        let n = (steps.seated_here fact about s id me.0 at lawful live).n in (
+          knowing me.0 (with_opened me.0.knows cell rest x),
+          keeps,
+          tt,
+          subst (λ k. IsLawful fact about (record { words = set s.words (dist_at k cell) x; homes = s.homes; views = set s.views id (knowing me.0 (with_opened me.0.knows cell rest x)) })) (sym n) (steps.opens fact about s id me.0 at lawful live cell rest x empty is),
+          λ c r same. let e = same_first cell rest c r (sym is ∙ same) in ((λ k. knowing me.0 (with_opened me.0.knows (e.0 k) (e.1 k) x)), refl),
+        )
 
     module _ (v : ℕ) (node : IsNode me.0.knows.n v) where
       node_here : (s : Table F) → IsLawful fact about s → get_elem? s.views id ≡ some me.0 → IsNode about.n v
@@ -103,7 +110,7 @@ module _ {F : Type 0} (fact : F → ℕ → Entry → Type 0) (about : About F) 
                 found = chain;
                 first = old.head;
                 small = let small = named-small about.cells chain old.within in omega (arith, small, old.head, lawful.limits);
-                most = let most = chain-most about (slice_index s.words 0) s.views lawful.drawn v chain old.each_once in omega (arith, most, seated.cells);
+                most = let most = chain-most about.cells s.views (steps.once fact about s id me.0 at lawful live) v chain old.each_once in omega (arith, most, seated.cells);
                 within = subst (λ k. All (λ l. l.cell < k) chain) (sym seated.cells) (All-weaker (IsWithin about.cells) (λ l. l.cell < about.cells) (λ l w. w.cell) chain old.within);
                 met = subst (λ value. All (λ l. IsMet fact value v l.entry) chain) (sym seated.fact) old.met;
                 goes_on = seen-still v chain me.0.knows.marks (old.seen id me.0 at);

@@ -1,5 +1,5 @@
 -- What one call did, as contracts see a seat before and after.
-use Rattle.std.proofs.Common.{◌≡◌, ℕ, ◌<◌, ◌≤◌, Bool, List, [], ◌∷◌, ◌++◌, All, length, refl, ap, ◌∙◌, subst}
+use Rattle.std.proofs.Common.{◌≡◌, ℕ, ◌*◌, ◌<◌, ◌≤◌, Bool, List, [], ◌∷◌, ◌++◌, All, length, refl, ap, ◌∙◌, subst}
 use Rattle.std.specs.Prelude.{Option, Some, None, if◌then◌else◌}
 use Rattle.std.proofs.lemmas.Bool.{lt-ltb, le-ltb}
 use Rattle.atomic_table.specs.Seated.{TableId}
@@ -10,7 +10,7 @@ use Rattle.label_pool.specs.declared.rule.Filling.{Filling}
 use Rattle.label_pool.specs.declared.rule.Linked.{Linked}
 use Rattle.label_pool.specs.declared.rule.View.{View}
 use Rattle.label_pool.specs.Chains.{IsTailOf, seen_of}
-use Rattle.label_pool.specs.Fillings.{drawn, linked_of, with_next}
+use Rattle.label_pool.specs.Fillings.{block_cells, linked_of, with_next}
 use Rattle.label_pool.specs.Seats.{PoolId, Seated, seated, IsMet, HasFound, HasPut}
 use Rattle.label_pool.specs.Steps.{with_drawn, with_filling, with_look, with_link}
 
@@ -20,12 +20,12 @@ next-again x y None = refl
 next-again x y (Some f) = refl
 
 module _ {F : Type 0} where
-  -- a number below the cells was drawn, or one past them
-  pub drew-cell : (v : View F) (number : ℕ) → number < v.cells → with_drawn v number ≡ with_filling v (Some (drawn number))
-  drew-cell v number below = ap (λ (b : Bool). if b then with_filling v (Some (drawn number)) else record v { past = Some number }) (lt-ltb number v.cells below)
+  -- the number of a block was drawn, or one past them
+  pub drew-block : (v : View F) (number : ℕ) → number * v.block < v.cells → with_drawn v number ≡ record v { blocks = v.blocks ++ number ∷ []; reserve = block_cells v.block number }
+  drew-block v number below = ap (λ (b : Bool). if b then record v { blocks = v.blocks ++ number ∷ []; reserve = block_cells v.block number } else record v { past = Some (number * v.block) }) (lt-ltb (number * v.block) v.cells below)
 
-  pub drew-past : (v : View F) (number : ℕ) → v.cells ≤ number → with_drawn v number ≡ record v { past = Some number }
-  drew-past v number above = ap (λ (b : Bool). if b then with_filling v (Some (drawn number)) else record v { past = Some number }) (le-ltb number v.cells above)
+  pub drew-past : (v : View F) (number : ℕ) → v.cells ≤ number * v.block → with_drawn v number ≡ record v { past = Some (number * v.block) }
+  drew-past v number above = ap (λ (b : Bool). if b then record v { blocks = v.blocks ++ number ∷ []; reserve = block_cells v.block number } else record v { past = Some (number * v.block) }) (le-ltb (number * v.block) v.cells above)
 
   module _ (id id' : TableId) (left : ℕ) (me after : SeatView (View F)) (before : Seated F) (is : seated id left me.knows ≡ before) (same : id' ≡ id) where
     pub has-found : (fact : F → ℕ → Entry → Type 0) (pool : PoolId F) → before.pool ≡ pool → (v : ℕ) (found : List Linked) → IsTailOf (seen_of me.knows.marks v) found → All (λ l. IsMet fact me.knows.fact v l.entry) found → length found ≤ me.knows.cells

@@ -1,6 +1,6 @@
--- A cell that is drawn and not linked stands in no chain, and is open for one seat alone. A chain has no more cells than there are.
-use Rattle.std.proofs.Common.{◌≡◌, ◌≢◌, ℕ, ◌+◌, ◌-◌, ◌≤◌, Bool, true, false, cond, eq-eqb, eqb-true, List, [], ◌∷◌, All, IsPermutation, length, min, refl, sym, ap, ◌∙◌, arith}
-use Rattle.std.specs.Prelude.{Some, map, filter, nat_eq}
+-- A cell that a seat has at hand stands in no chain, and is at no other's hand. A chain has no more cells than there are.
+use Rattle.std.proofs.Common.{◌≡◌, ◌≢◌, ℕ, ◌+◌, ◌-◌, ◌≤◌, Bool, true, false, cond, eq-eqb, eqb-true, List, [], ◌∷◌, ◌++◌, All, IsPermutation, length, refl, sym, ap, ◌∙◌, arith}
+use Rattle.std.specs.Prelude.{map, filter, nat_eq}
 use Rattle.std.specs.List.{flat_map, sum_by}
 use Rattle.std.proofs.lemmas.List.{length-append, length-map, map-append}
 use Rattle.std.proofs.lemmas.List.FromFn.{length-range_with_len}
@@ -11,17 +11,14 @@ use Rattle.std.proofs.lemmas.List.Sums.{sum_by-cons}
 use mathlib.Core.Option.{some}
 use lib.ListN.{get_elem?}
 use Rattle.table_seats.specs.declared.seat_view.SeatView.{SeatView}
-use Rattle.table_seats.specs.Draws.{IsDrawn}
 use Rattle.table_seats.proofs.Counting.{times, once, times-cons, times-append, times-flat_map, times-permutation, times-numbers}
 use Rattle.table_seats.proofs.EachSeat.{one_within, two_within}
-use Rattle.label_pool.specs.declared.rule.About.{About}
-use Rattle.label_pool.specs.declared.rule.Filling.{Filling}
 use Rattle.label_pool.specs.declared.rule.Linked.{Linked}
 use Rattle.label_pool.specs.declared.rule.Put.{Put}
 use Rattle.label_pool.specs.declared.rule.View.{View}
 use Rattle.label_pool.specs.Chains.{puts_at}
-use Rattle.label_pool.specs.Fillings.{open_cell}
-use Rattle.label_pool.specs.Lawful.{drawn_by, is_past}
+use Rattle.label_pool.specs.Lawful.{at_hand, got_by}
+use Rattle.label_pool.proofs.Blocks.{GotOnce}
 
 -- the numbers of cells
 abbrev pub cells_of : List Linked → List ℕ
@@ -104,60 +101,61 @@ all-other c (l ∷ ls) none =
     let a = times-cons c l.cell (cells_of ls) in
     All-cons (λ m. c ≢ m.cell) l ls (λ is. let o : once c l.cell ≡ 1 = ap (λ b. cond b 1 0) (eq-eqb l.cell c (sym is)) in absurd (omega (arith, a, o, none))) (all-other c ls (omega (arith, a, none)))
 
-module _ {F : Type 0} (about : About F) (counter : ℕ) (views : List (SeatView (View F))) (drawn : IsDrawn drawn_by is_past 0 about.cells about.seats counter views) where
-  abbrev open_at : SeatView (View F) → List ℕ
-  open_at v = open_cell v.knows.filling
+module _ {F : Type 0} (cells : ℕ) (views : List (SeatView (View F))) (got : GotOnce cells views) where
+  abbrev hand_of : SeatView (View F) → List ℕ
+  hand_of v = at_hand v.knows
 
-  abbrev drawn_at : SeatView (View F) → List ℕ
-  drawn_at v = drawn_by v.knows
+  abbrev got_of : SeatView (View F) → List ℕ
+  got_of v = got_by v.knows
 
-  drawn-once : (c : ℕ) → sum_by (λ v. times c (drawn_at v)) views ≤ 1
-  drawn-once c =
-      let a = times-flat_map drawn_at c views in
-      let e = times-permutation c _ _ drawn.each_once in
-      let m = times-numbers c 0 (min counter about.cells) in
+  got-few : (c : ℕ) → sum_by (λ v. times c (got_of v)) views ≤ 1
+  got-few c =
+      let a = times-flat_map got_of c views in
+      let e = times-permutation c _ _ got.2 in
+      let m = times-numbers c 0 got.0 in
       omega (arith, a, e, m)
 
-  -- a cell that is open for a seat stands in no chain
-  pub open-unlinked : (v : ℕ) (chain : List Linked) → IsPermutation (flat_map (λ seat. puts_at seat.knows.puts v) views) chain
-      → (id : ℕ) (me : SeatView (View F)) (f : Filling) → get_elem? views id ≡ some me → me.knows.filling ≡ Some f → All (λ l. f.cell ≢ l.cell) chain
-  open-unlinked v chain each_once id me f at is =
-      let c : ℕ = f.cell in
+  -- what a seat got is what it put, what it has at hand, and more
+  pub got-parts : (c : ℕ) (seat : SeatView (View F)) → times c (put_cells seat.knows.puts) + times c (hand_of seat) ≤ times c (got_of seat)
+  got-parts c seat =
+      let a = times-append c (put_cells seat.knows.puts) (hand_of seat ++ seat.knows.spare) in
+      let b = times-append c (hand_of seat) seat.knows.spare in
+      omega (arith, a, b)
+
+  -- a cell that a seat has at hand stands in no chain
+  pub hand-unlinked : (v : ℕ) (chain : List Linked) → IsPermutation (flat_map (λ seat. puts_at seat.knows.puts v) views) chain
+      → (id : ℕ) (me : SeatView (View F)) (c : ℕ) → get_elem? views id ≡ some me → 1 ≤ times c (hand_of me) → All (λ l. c ≢ l.cell) chain
+  hand-unlinked v chain each_once id me c at held =
       let linked_at : SeatView (View F) → ℕ = λ seat. times c (cells_of (puts_at seat.knows.puts v)) in
-      let opened : SeatView (View F) → ℕ = λ seat. times c (open_at seat) in
-      let all = drawn-once c in
-      let sums = sums-within linked_at opened (λ seat. times c (drawn_at seat))
-      (λ seat. let a = times-append c (put_cells seat.knows.puts) (open_at seat) in let b = put_at-fewer c v seat.knows.puts in omega (arith, a, b)) views in
-      let here = one_within opened views id me at in
-      let one : times c (open_at me) ≡ 1 = ap (λ o. times c (open_cell o)) is ∙ times-cons c c [] ∙ ap (λ b. cond b 1 0 + times c []) (eq-eqb c c refl) in
+      let hand_at : SeatView (View F) → ℕ = λ seat. times c (hand_of seat) in
+      let all = got-few c in
+      let sums = sums-within linked_at hand_at (λ seat. times c (got_of seat)) (λ seat. let a = got-parts c seat in let b = put_at-fewer c v seat.knows.puts in omega (arith, a, b)) views in
+      let here = one_within hand_at views id me at in
       let linked = times-cells (λ (seat : SeatView (View F)). puts_at seat.knows.puts v) c views in
       let same = times-permutation c _ _ (IsPermutation-map (λ (l : Linked). l.cell) _ _ each_once) in
-      all-other c chain (omega (arith, all, sums, here, one, linked, same))
+      all-other c chain (omega (arith, all, sums, here, held, linked, same))
 
-  -- it is open for one seat alone
-  pub open-alone : (id other : ℕ) (me them : SeatView (View F)) (f g : Filling) → other ≢ id → get_elem? views id ≡ some me → get_elem? views other ≡ some them → me.knows.filling ≡ Some f → them.knows.filling ≡ Some g → f.cell ≢ g.cell
-  open-alone id other me them f g apart at there is too same =
-      let c : ℕ = f.cell in
-      let all = drawn-once c in
-      let two = two_within (λ (seat : SeatView (View F)). times c (drawn_at seat)) views id other me them at there apart in
-      let a = times-append c (put_cells me.knows.puts) (open_at me) in
-      let b = times-append c (put_cells them.knows.puts) (open_at them) in
-      let one : times c (open_at me) ≡ 1 = ap (λ o. times c (open_cell o)) is ∙ times-cons c c [] ∙ ap (λ t. cond t 1 0 + times c []) (eq-eqb c c refl) in
-      let more : times c (open_at them) ≡ 1 = ap (λ o. times c (open_cell o)) too ∙ times-cons c g.cell [] ∙ ap (λ t. cond t 1 0 + times c []) (eq-eqb g.cell c (sym same)) in
-      omega (arith, all, two, a, b, one, more)
+  -- and it is at the hand of one seat alone
+  pub hand-alone : (id other : ℕ) (me them : SeatView (View F)) (c : ℕ) → other ≢ id → get_elem? views id ≡ some me → get_elem? views other ≡ some them → 1 ≤ times c (hand_of me) → times c (hand_of them) ≡ 0
+  hand-alone id other me them c apart at there held =
+      let all = got-few c in
+      let two = two_within (λ (seat : SeatView (View F)). times c (got_of seat)) views id other me them at there apart in
+      let a = got-parts c me in
+      let b = got-parts c them in
+      omega (arith, all, two, a, b, held)
 
   -- a chain is no longer than there are cells
-  pub chain-most : (v : ℕ) (chain : List Linked) → IsPermutation (flat_map (λ seat. puts_at seat.knows.puts v) views) chain → length chain ≤ about.cells
+  pub chain-most : (v : ℕ) (chain : List Linked) → IsPermutation (flat_map (λ seat. puts_at seat.knows.puts v) views) chain → length chain ≤ cells
   chain-most v chain each_once =
       let nothing : SeatView (View F) → ℕ = λ seat. 0 in
       let a = length-flat (λ (seat : SeatView (View F)). puts_at seat.knows.puts v) views in
-      let b = length-flat drawn_at views in
-      let sums = sums-within (λ (seat : SeatView (View F)). length (puts_at seat.knows.puts v)) nothing (λ seat. length (drawn_at seat))
-      (λ seat. let p = put_at-shorter v seat.knows.puts in let l = length-append (put_cells seat.knows.puts) (open_at seat) in let m = length-map seat.knows.puts (λ (q : Put). q.linked.cell) in omega (arith, p, l, m)) views in
+      let b = length-flat got_of views in
+      let sums = sums-within (λ (seat : SeatView (View F)). length (puts_at seat.knows.puts v)) nothing (λ seat. length (got_of seat))
+      (λ seat. let p = put_at-shorter v seat.knows.puts in let l = length-append (put_cells seat.knows.puts) (hand_of seat ++ seat.knows.spare) in let m = length-map seat.knows.puts (λ (q : Put). q.linked.cell) in omega (arith, p, l, m)) views in
       let c = length_permutation _ _ each_once in
-      let d = length_permutation _ _ drawn.each_once in
-      let e = length-range_with_len 0 (min counter about.cells - 0) in
-      omega (arith, a, b, sums, c, d, e)
+      let d = length_permutation _ _ got.2 in
+      let e = length-range_with_len 0 (got.0 - 0) in
+      omega (arith, a, b, sums, c, d, e, got.1)
 
   -- no cell stands in the chains of two nodes
   pub chains-apart : (v u : ℕ) (chain other : List Linked) → v ≢ u → IsPermutation (flat_map (λ seat. puts_at seat.knows.puts v) views) chain → IsPermutation (flat_map (λ seat. puts_at seat.knows.puts u) views) other
@@ -168,9 +166,8 @@ module _ {F : Type 0} (about : About F) (counter : ℕ) (views : List (SeatView 
       few c =
           let at_v : SeatView (View F) → ℕ = λ seat. times c (cells_of (puts_at seat.knows.puts v)) in
           let at_u : SeatView (View F) → ℕ = λ seat. times c (cells_of (puts_at seat.knows.puts u)) in
-          let all = drawn-once c in
-          let sums = sums-within at_v at_u (λ seat. times c (drawn_at seat))
-          (λ seat. let a = times-append c (put_cells seat.knows.puts) (open_at seat) in let b = two-fewer c v u seat.knows.puts unlike in omega (arith, a, b)) views in
+          let all = got-few c in
+          let sums = sums-within at_v at_u (λ seat. times c (got_of seat)) (λ seat. let a = got-parts c seat in let b = two-fewer c v u seat.knows.puts unlike in omega (arith, a, b)) views in
           let a = times-cells (λ (seat : SeatView (View F)). puts_at seat.knows.puts v) c views in
           let b = times-cells (λ (seat : SeatView (View F)). puts_at seat.knows.puts u) c views in
           let d = times-permutation c _ _ (IsPermutation-map (λ (l : Linked). l.cell) _ _ here) in

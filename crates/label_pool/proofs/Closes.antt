@@ -14,6 +14,7 @@ use Rattle.label_pool.specs.declared.rule.Linked.{Linked}
 use Rattle.label_pool.specs.declared.rule.View.{View}
 use Rattle.label_pool.specs.Chains.{IsWritten, entries_of, entries_at, puts_at}
 use Rattle.label_pool.specs.Lawful.{IsSeated, IsChainOf, IsLawful, nothing}
+use Rattle.label_pool.proofs.Blocks.{got-once}
 use Rattle.label_pool.proofs.Cells.{chain-most}
 
 module _ {F : Type 0} (fact : F → ℕ → Entry → Type 0) (about : About F) (id : ℕ) (me : SeatView (View F)) (words : List ℕ) (slots : List (Unit {0})) (final : Final (Seen (IsLawful fact about) id me) words slots) where
@@ -33,7 +34,7 @@ module _ {F : Type 0} (fact : F → ℕ → Entry → Type 0) (about : About F) 
           head = c.1.head;
           linked = c.1.linked;
           within = c.1.within;
-          most = chain-most about (slice_index final.0.words 0) final.0.views lawful.drawn v c.0 c.1.each_once;
+          most = chain-most about.cells final.0.views (got-once about (slice_index final.0.words 0) final.0.views lawful.drawn lawful.got lawful.blocked) v c.0 c.1.each_once;
         }),
       )
 

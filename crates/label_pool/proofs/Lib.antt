@@ -1,4 +1,5 @@
 mod Allowed
+mod Blocks
 mod Calls
 mod Cells
 mod Closes

@@ -1,7 +1,9 @@
 -- A new pool keeps the rule, and so does a split and a join of its seats.
-use Rattle.std.proofs.Common.{◌≡◌, ◌≢◌, ℕ, ◌+◌, ◌^◌, ◌<◌, ◌≤◌, ◌||◌, List, [], ◌∷◌, ◌++◌, All, IsPermutation, map, set, replicate, refl, sym, ap, ◌∙◌, subst, arith}
+use Rattle.std.proofs.Common.{◌≡◌, ◌≢◌, ℕ, ◌+◌, ◌*◌, ◌^◌, ◌<◌, ◌≤◌, ◌||◌, List, [], ◌∷◌, ◌++◌, All, IsPermutation, map, set, replicate, refl, sym, ap, ◌∙◌, subst, arith}
 use Rattle.std.specs.Prelude.{Option, Some, None, slice_index}
-use Rattle.std.proofs.lemmas.List.{append-nil, map-append, get_or-replicate, length-replicate}
+use Rattle.std.specs.List.{flat_map}
+use Rattle.std.proofs.lemmas.Grind.{flat_map-append}
+use Rattle.std.proofs.lemmas.List.{map-append, get_or-replicate, length-replicate}
 use Rattle.std.proofs.lemmas.List.Elements.{All-nil, All-append}
 use Rattle.std.proofs.lemmas.List.Sorted.{IsPermutation-refl, IsPermutation-trans}
 use mathlib.Core.Option.{some}
@@ -12,6 +14,7 @@ use Rattle.hub_index.specs.Views.{IsNode}
 use Rattle.table_seats.specs.declared.seat_view.SeatView.{SeatView}
 use Rattle.table_seats.specs.Draws.{IsDrawn}
 use Rattle.table_seats.specs.Seats.{kept_of, given_of, joined, spent}
+use Rattle.table_seats.proofs.Counting.{times, times-append, times-permutation, permutation-times}
 use Rattle.table_seats.proofs.EachSeat.{Each-one, Each-split, Each-join}
 use Rattle.label_pool.proofs.Permuted.{flat_map-same, flat_map-none, flat_map-join}
 use Rattle.table_seats.proofs.Seating as seating
@@ -21,14 +24,15 @@ use Rattle.label_pool.specs.declared.rule.Linked.{Linked}
 use Rattle.label_pool.specs.declared.rule.Put.{Put}
 use Rattle.label_pool.specs.declared.rule.View.{View}
 use Rattle.label_pool.specs.Chains.{IsWithin, IsTailOf, puts_at}
-use Rattle.label_pool.specs.Fillings.{HoldsOpen, open_cell}
+use Rattle.label_pool.specs.Fillings.{HoldsOpen, block_cells, open_cell}
 use Rattle.label_pool.specs.Layout.{head_at, word_count}
-use Rattle.label_pool.specs.Lawful.{Table, IsSeated, IsChainOf, IsLawful, StillIn, drawn_by, is_past, is_some, first_known, first_view, given, both, nothing}
+use Rattle.label_pool.specs.Lawful.{Table, IsSeated, IsChainOf, IsLawful, StillIn, HasGot, drawn_by, is_past, is_some, first_known, first_view, given, both, nothing}
 use Rattle.label_pool.specs.Seats.{first_some}
+use Rattle.label_pool.proofs.Blocks.{got-times}
 use Rattle.label_pool.proofs.Puts.{puts-joined}
 
 module _ {F : Type 0} (fact : F → ℕ → Entry → Type 0) (about : About F) where
-  module _ (n : about.n ≤ 2 ^ 30) (cells : about.cells ≤ 2 ^ 31) (some_seat : 1 ≤ about.seats) (few : about.seats ≤ 64) where
+  module _ (n : about.n ≤ 2 ^ 30) (cells : about.cells ≤ 2 ^ 31) (block : 1 ≤ about.block) (blocked : about.cells ≡ about.blocks * about.block) (some_seat : 1 ≤ about.seats) (few : about.seats ≤ 64) where
     abbrev zeros : List ℕ
     zeros = replicate (word_count about.n about.cells) 0
 
@@ -40,9 +44,11 @@ module _ {F : Type 0} (fact : F → ℕ → Entry → Type 0) (about : About F) 
 
     pub begins : IsLawful fact about (opening (replicate (word_count about.n about.cells) 0) [] (first_view about))
     begins = record {
-      seating = seating.begins about.seats (IsSeated about) nothing (first_known about) some_seat few (record { n = refl; cells = refl; all = refl; fact = refl });
-      drawn = subst (λ c. IsDrawn drawn_by is_past 0 about.cells about.seats c (first_view about ∷ [])) (sym (word_of 0 (omega arith))) (drawing.starts drawn_by is_past 0 about.cells about.seats (first_view about) (omega arith) refl refl refl);
-      limits = (n, cells);
+      seating = seating.begins about.seats (IsSeated about) nothing (first_known about) some_seat few (record { n = refl; cells = refl; block = refl; all = refl; fact = refl });
+      drawn = subst (λ c. IsDrawn drawn_by is_past 0 about.blocks about.seats c (first_view about ∷ [])) (sym (word_of 0 (omega arith))) (drawing.starts drawn_by is_past 0 about.blocks about.seats (first_view about) (omega arith) refl refl refl);
+      got = Each-one (λ seat. HasGot about seat.knows) (first_view about) (IsPermutation-refl []);
+      blocked = blocked;
+      limits = (n, cells, block);
       words = length-replicate (word_count about.n about.cells) 0;
       filled = Each-one (λ seat. HoldsOpen about.n about.cells zeros seat.knows.filling) (first_view about) tt;
       noded = Each-one (λ seat. All (λ look. IsNode about.n look.node) seat.knows.looks) (first_view about) (All-nil (λ look. IsNode about.n look.node));
@@ -69,8 +75,10 @@ module _ {F : Type 0} (fact : F → ℕ → Entry → Type 0) (about : About F) 
     splits give enough =
         let seated = seated_here in
         record {
-          seating = seating.splits about.seats (IsSeated about) nothing s.views id me lawful.seating at given give enough seated (record { n = seated.n; cells = seated.cells; all = seated.all; fact = seated.fact });
-          drawn = drawing.splits drawn_by is_past 0 about.cells about.seats (slice_index s.words 0) s.views id me lawful.drawn at given give enough refl refl;
+          seating = seating.splits about.seats (IsSeated about) nothing s.views id me lawful.seating at given give enough seated (record { n = seated.n; cells = seated.cells; block = seated.block; all = seated.all; fact = seated.fact });
+          drawn = drawing.splits drawn_by is_past 0 about.blocks about.seats (slice_index s.words 0) s.views id me lawful.drawn at given give enough refl refl;
+          got = Each-split (λ seat. HasGot about seat.knows) s.views id (kept_of give me) (given_of given give me) lawful.got (lawful.got id me at) (IsPermutation-refl []);
+          blocked = lawful.blocked;
           limits = lawful.limits;
           words = lawful.words;
           filled = Each-split (λ seat. HoldsOpen about.n about.cells s.words seat.knows.filling) s.views id (kept_of give me) (given_of given give me) lawful.filled (lawful.filled id me at) tt;
@@ -94,16 +102,24 @@ module _ {F : Type 0} (fact : F → ℕ → Entry → Type 0) (about : About F) 
       abbrev After : Table F
       After = record { words = s.words; homes = s.homes; views = set (set s.views id (joined both me u)) other (spent nothing) }
 
-      cells_put : List Put → List ℕ
-      cells_put ps = map (λ p. p.linked.cell) ps
-
-      drawn_at : (v : View F) → v.filling ≡ None → drawn_by v ≡ map (λ p. p.linked.cell) v.puts
-      drawn_at v none = ap (λ o. map (λ p. p.linked.cell) v.puts ++ open_cell o) none ∙ append-nil (map (λ p. p.linked.cell) v.puts)
-
-      drawn_both : drawn_by (both me.knows u.knows) ≡ drawn_by me.knows ++ drawn_by u.knows
-      drawn_both =
-          drawn_at (both me.knows u.knows) empty ∙ map-append (λ (p : Put). p.linked.cell) me.knows.puts u.knows.puts
-          ∙ (λ k. sym (drawn_at me.knows empty) k ++ sym (drawn_at u.knows empty_too) k)
+      -- together they got the cells of the blocks of both
+      got_both : HasGot about (both me.knows u.knows)
+      got_both = permutation-times _ _ (λ x.
+          let v : View F = me.knows in
+          let w : View F = u.knows in
+          let cells : ℕ → List ℕ = block_cells about.block in
+          let now = got-times (both v w) x in
+          let a = got-times v x in
+          let b = got-times w x in
+          let puts = ap (times x) (map-append (λ (p : Put). p.linked.cell) v.puts w.puts) ∙ times-append x (map (λ (p : Put). p.linked.cell) v.puts) (map (λ (p : Put). p.linked.cell) w.puts) in
+          let spare = times-append x v.spare (w.reserve ++ w.spare) in
+          let left = times-append x w.reserve w.spare in
+          let none = ap (λ o. times x (open_cell o)) empty_too in
+          let nil : times x [] ≡ 0 = refl in
+          let c = times-permutation x _ _ (lawful.got id me at) in
+          let d = times-permutation x _ _ (lawful.got other u there) in
+          let all = ap (times x) (flat_map-append cells v.blocks w.blocks) ∙ times-append x (flat_map cells v.blocks) (flat_map cells w.blocks) in
+          omega (arith, now, a, b, puts, spare, left, none, nil, c, d, all))
 
       past_both : (a b : Option ℕ) → is_some (first_some a b) ≡ (is_some a || is_some b)
       past_both None b = refl
@@ -126,8 +142,10 @@ module _ {F : Type 0} (fact : F → ℕ → Entry → Type 0) (about : About F) 
       joins =
           let seated = seated_here in
           record {
-            seating = seating.joins about.seats (IsSeated about) nothing s.views id me lawful.seating at both other u apart there live (record { n = seated.n; cells = seated.cells; all = seated.all; fact = seated.fact });
-            drawn = drawing.joins drawn_by is_past 0 about.cells about.seats (slice_index s.words 0) s.views id me lawful.drawn at both nothing other u apart there drawn_both (past_both me.knows.past u.knows.past) refl refl;
+            seating = seating.joins about.seats (IsSeated about) nothing s.views id me lawful.seating at both other u apart there live (record { n = seated.n; cells = seated.cells; block = seated.block; all = seated.all; fact = seated.fact });
+            drawn = drawing.joins drawn_by is_past 0 about.blocks about.seats (slice_index s.words 0) s.views id me lawful.drawn at both nothing other u apart there refl (past_both me.knows.past u.knows.past) refl refl;
+            got = Each-join (λ seat. HasGot about seat.knows) s.views id other (joined both me u) (spent nothing) lawful.got got_both (IsPermutation-refl []);
+            blocked = lawful.blocked;
             limits = lawful.limits;
             words = lawful.words;
             filled = Each-join (λ seat. HoldsOpen about.n about.cells s.words seat.knows.filling) s.views id other (joined both me u) (spent nothing) lawful.filled (lawful.filled id me at) tt;

@@ -1,8 +1,11 @@
 -- Each step of one seat keeps the rule.
-use Rattle.std.proofs.Common.{◌≡◌, ◌≢◌, ℕ, ◌+◌, ◌<◌, ◌≤◌, Bool, true, false, List, [], ◌∷◌, ◌++◌, ⊎_elim, All, IsPermutation, length, set, map, get_or-set_other, get_or-set_same, refl, sym, ap, ◌∙◌, subst, arith}
+use Rattle.std.proofs.Common.{◌≡◌, ◌≢◌, ℕ, ◌+◌, ◌*◌, ◌<◌, ◌≤◌, lt_of_mul-lt-mul_right, le_of_mul-le-mul_right, Bool, true, false, List, [], ◌∷◌, ◌++◌, ⊎_elim, All, IsPermutation, length, set, map, get_or-set_other, get_or-set_same, refl, sym, ap, ◌∙◌, subst, arith}
 use Rattle.std.specs.Prelude.{Some, None, nat_lt, slice_index, if◌then◌else◌}
 use Rattle.std.proofs.Math.ListN.{length-set}
 use Rattle.std.proofs.lemmas.Bool.{lt-ltb, le-ltb}
+use Rattle.std.specs.List.{flat_map}
+use Rattle.std.proofs.lemmas.Grind.{flat_map-append}
+use Rattle.std.proofs.lemmas.List.Concat.{flat_map-cons}
 use Rattle.std.proofs.lemmas.List.{append-nil, map-append}
 use Rattle.std.proofs.lemmas.List.Elements.{All-cons, All-push, All-weaker}
 use Rattle.std.proofs.lemmas.List.Sorted.{IsPermutation-cons, IsPermutation-trans}
@@ -16,6 +19,7 @@ use Rattle.hub_index.specs.Views.{IsNode}
 use Rattle.table_seats.specs.declared.seat_view.SeatView.{SeatView}
 use Rattle.table_seats.specs.Seats.{Each, knowing}
 use Rattle.table_seats.specs.Draws.{IsDrawn}
+use Rattle.table_seats.proofs.Counting.{times, times-append, times-cons, times-permutation, permutation-times}
 use Rattle.table_seats.proofs.EachSeat.{Each-set}
 use Rattle.label_pool.proofs.Permuted.{flat_map-same, flat_map-more}
 use Rattle.table_seats.proofs.Seating as seating
@@ -27,11 +31,12 @@ use Rattle.label_pool.specs.declared.rule.Look.{Look}
 use Rattle.label_pool.specs.declared.rule.Put.{Put}
 use Rattle.label_pool.specs.declared.rule.View.{View}
 use Rattle.label_pool.specs.Chains.{named, first_cell, IsChain, IsWithin, IsTailOf, puts_at}
-use Rattle.label_pool.specs.Fillings.{HoldsFilling, HoldsOpen, open_cell}
+use Rattle.label_pool.specs.Fillings.{HoldsFilling, HoldsOpen, block_cells, open_cell}
 use Rattle.label_pool.specs.Layout.{head_at, next_at, dist_at, name_in, pos_in, word_count}
-use Rattle.label_pool.specs.Lawful.{Table, IsSeated, IsChainOf, IsLawful, StillIn, drawn_by, is_past, nothing}
-use Rattle.label_pool.specs.Steps.{with_drawn, with_look}
-use Rattle.label_pool.proofs.Cells.{open-unlinked, open-alone}
+use Rattle.label_pool.specs.Lawful.{Table, IsSeated, IsChainOf, IsLawful, StillIn, HasGot, at_hand, drawn_by, is_past, is_some, nothing}
+use Rattle.label_pool.specs.Steps.{with_drawn, with_look, with_opened}
+use Rattle.label_pool.proofs.Blocks.{GotOnce, first-at-hand, got-once, got-times, got-within, open-at-hand}
+use Rattle.label_pool.proofs.Cells.{got-parts, hand-alone, hand-unlinked}
 use Rattle.label_pool.proofs.Puts.{puts-here, puts-else}
 use Rattle.label_pool.proofs.Tails.{tail-self, tail-under}
 use Rattle.label_pool.proofs.Words.{IsApart, low-apart, next-apart, dist-apart, chain-else, open-else, filled-else}
@@ -44,7 +49,14 @@ module _ {F : Type 0} (fact : F → ℕ → Entry → Type 0) (about : About F) 
   counter = slice_index s.words 0
 
   abbrev Drawn : ℕ → View F → Type 0
-  Drawn count w = IsDrawn drawn_by is_past 0 about.cells about.seats count (set s.views id (knowing me w))
+  Drawn count w = IsDrawn drawn_by is_past 0 about.blocks about.seats count (set s.views id (knowing me w))
+
+  got-set : (w : View F) → HasGot about w → Each (λ seat. HasGot about seat.knows) (set s.views id (knowing me w))
+  got-set w here = Each-set (λ seat. HasGot about seat.knows) s.views id (knowing me w) lawful.got here
+
+  -- the cells that all seats got are the first so many, each once
+  pub once : GotOnce about.cells s.views
+  once = got-once about counter s.views lawful.drawn lawful.got lawful.blocked
 
   abbrev Opened : List ℕ → SeatView (View F) → Type 0
   Opened words seat = HoldsOpen about.n about.cells words seat.knows.filling
@@ -79,24 +91,23 @@ module _ {F : Type 0} (fact : F → ℕ → Entry → Type 0) (about : About F) 
   open-low : (word x : ℕ) → word < about.n + 32 → Each (Opened (set s.words word x)) s.views
   open-low word x low j seat there = open-else about.n s.words word x about.cells seat.knows.filling (λ f _. low-apart about.n word f.cell low) (lawful.filled j seat there)
 
-  module _ (empty : me.knows.filling ≡ None) (on : me.knows.past ≡ None) where
-    drawn-now : drawn_by me.knows ≡ map (λ p. p.linked.cell) me.knows.puts
-    drawn-now = ap (λ o. map (λ p. p.linked.cell) me.knows.puts ++ open_cell o) empty ∙ append-nil (map (λ p. p.linked.cell) me.knows.puts)
-
+  module _ (empty : me.knows.reserve ≡ []) (on : me.knows.past ≡ None) where
     still_on : is_past me.knows ≡ false
     still_on = ap (λ past. is_past (record me.knows { past = past })) on
 
     counted : length s.words ≡ word_count about.n about.cells → slice_index (set s.words 0 (counter + 1)) 0 ≡ counter + 1
     counted size = get_or-set_same s.words 0 (counter + 1) 0 (omega (arith, size))
 
-    after_draw : (w : View F) → IsSeated about w → w.puts ≡ me.knows.puts → w.looks ≡ me.knows.looks → w.marks ≡ me.knows.marks → HoldsOpen about.n about.cells (set s.words 0 (counter + 1)) w.filling → Drawn (counter + 1) w
-        → IsLawful fact about (Next (set s.words 0 (counter + 1)) w)
-    after_draw w seated puts looks marks opened drawn = record {
+    after_draw : (w : View F) → IsSeated about w → w.puts ≡ me.knows.puts → w.looks ≡ me.knows.looks → w.marks ≡ me.knows.marks → w.filling ≡ me.knows.filling → HasGot about w → Drawn (counter + 1) w → IsLawful fact about (Next (set s.words 0 (counter + 1)) w)
+    after_draw w seated puts looks marks filling got drawn = record {
       seating = seating.learns about.seats (IsSeated about) nothing s.views id me lawful.seating at w live seated;
       drawn = subst (λ count. Drawn count w) (sym (counted lawful.words)) drawn;
+      got = got-set w got;
+      blocked = lawful.blocked;
       limits = lawful.limits;
       words = length-set s.words 0 (counter + 1) ∙ lawful.words;
-      filled = Each-set (Opened (set s.words 0 (counter + 1))) s.views id (knowing me w) (open-low 0 (counter + 1) (omega arith)) opened;
+      filled = Each-set (Opened (set s.words 0 (counter + 1))) s.views id (knowing me w) (open-low 0 (counter + 1) (omega arith))
+          (subst (HoldsOpen about.n about.cells (set s.words 0 (counter + 1))) (sym filling) (open-low 0 (counter + 1) (omega arith) id me at));
       noded = noded-set w looks;
       chains = λ v node.
           let old = lawful.chains v node in (
@@ -106,81 +117,127 @@ module _ {F : Type 0} (fact : F → ℕ → Entry → Type 0) (about : About F) 
           );
     }
 
+    -- with the block of that number in reserve a seat has got the cells of its blocks
+    drew-block : (w : View F) → w.puts ≡ me.knows.puts → w.filling ≡ me.knows.filling → w.spare ≡ me.knows.spare → w.reserve ≡ block_cells about.block counter → w.blocks ≡ me.knows.blocks ++ counter ∷ [] → HasGot about w
+    drew-block w puts filling spare reserve blocks = permutation-times _ _ (λ x.
+        let cells : ℕ → List ℕ = block_cells about.block in
+        let now = got-times w x in
+        let before = got-times me.knows x in
+        let p = ap (λ ps. times x (map (λ (q : Put). q.linked.cell) ps)) puts in
+        let f = ap (λ o. times x (open_cell o)) filling in
+        let s = ap (times x) spare in
+        let r = ap (times x) reserve in
+        let none = ap (times x) empty in
+        let nil : times x [] ≡ 0 = refl in
+        let old = times-permutation x _ _ (lawful.got id me at) in
+        let more = ap (λ bs. times x (flat_map cells bs)) blocks ∙ ap (times x) (flat_map-append cells me.knows.blocks (counter ∷ [])) ∙ times-append x (flat_map cells me.knows.blocks) (flat_map cells (counter ∷ [])) in
+        let last = ap (times x) (flat_map-cons cells counter [] ∙ append-nil (cells counter)) in
+        omega (arith, now, before, p, f, s, r, none, nil, old, more, last))
+
     -- a number is drawn
     pub draws : IsLawful fact about (Next (set s.words 0 (counter + 1)) (with_drawn me.knows counter))
     draws =
         let seated = seated_here in
-        let becomes : Bool → View F = λ b. if b then record me.knows { filling = Some (record { cell = counter; next = None; dist = None }) } else record me.knows { past = Some counter } in
-        dite (dec_lt counter about.cells)
+        let becomes : Bool → View F =
+        λ b. if b then record me.knows { blocks = me.knows.blocks ++ counter ∷ []; reserve = block_cells me.knows.block counter } else record me.knows { past = Some (counter * me.knows.block) } in
+        let first_is : counter * me.knows.block ≡ counter * about.block = ap (λ k. counter * k) seated.block in
+        dite (dec_lt (counter * about.block) about.cells)
         (λ below.
-        let yes : nat_lt counter me.knows.cells ≡ true = lt-ltb counter me.knows.cells (omega (arith, seated.cells, below)) in
+        let yes : nat_lt (counter * me.knows.block) me.knows.cells ≡ true = lt-ltb (counter * me.knows.block) me.knows.cells (omega (arith, seated.cells, first_is, below)) in
+        let low : counter < about.blocks = lt_of_mul-lt-mul_right about.block (omega (arith, below, lawful.blocked)) in
         subst (λ (b : Bool). IsLawful fact about (Next (set s.words 0 (counter + 1)) (becomes b))) (sym yes)
-        (after_draw (becomes true) (record { n = seated.n; cells = seated.cells; all = seated.all; fact = seated.fact }) refl refl refl (record { below = below; next = tt; dist = tt })
-        (drawing.draws_number drawn_by is_past 0 about.cells about.seats counter s.views id me lawful.drawn at (knowing me (becomes true)) refl still_on still_on (ap (λ cs. cs ++ counter ∷ []) (sym drawn-now)) below)))
+        (after_draw (becomes true) (record { n = seated.n; cells = seated.cells; block = seated.block; all = seated.all; fact = seated.fact }) refl refl refl refl
+        (drew-block (becomes true) refl refl refl (ap (λ k. block_cells k counter) seated.block) refl)
+        (drawing.draws_number drawn_by is_past 0 about.blocks about.seats counter s.views id me lawful.drawn at (knowing me (becomes true)) refl still_on still_on refl low)))
         (λ above.
-        let no : nat_lt counter me.knows.cells ≡ false = le-ltb counter me.knows.cells (omega (arith, seated.cells, above)) in
+        let no : nat_lt (counter * me.knows.block) me.knows.cells ≡ false = le-ltb (counter * me.knows.block) me.knows.cells (omega (arith, seated.cells, first_is, above)) in
+        let not_less : about.blocks * about.block ≤ counter * about.block = omega (arith, above, lawful.blocked) in
+        let high : about.blocks ≤ counter = le_of_mul-le-mul_right not_less (omega (arith, lawful.limits)) in
         subst (λ (b : Bool). IsLawful fact about (Next (set s.words 0 (counter + 1)) (becomes b))) (sym no)
-        (after_draw (becomes false) (record { n = seated.n; cells = seated.cells; all = seated.all; fact = seated.fact }) refl refl refl (open-low 0 (counter + 1) (omega arith) id me at)
-        (drawing.draws_end drawn_by is_past 0 about.cells about.seats counter s.views id me lawful.drawn at (knowing me (becomes false)) live still_on refl refl (omega (arith, above)))))
+        (after_draw (becomes false) (record { n = seated.n; cells = seated.cells; block = seated.block; all = seated.all; fact = seated.fact }) refl refl refl refl (lawful.got id me at)
+        (drawing.draws_end drawn_by is_past 0 about.blocks about.seats counter s.views id me lawful.drawn at (knowing me (becomes false)) live still_on refl refl high)))
+
+  -- a word of a cell at hand is stored, which is the open one then
+  module _ (cell : ℕ) (hand : 1 ≤ times cell (at_hand me.knows)) (word x : ℕ) (w : View F) (high : about.n + 32 ≤ word) (apart : (c : ℕ) → cell ≢ c → IsApart about.n word c) where
+    others_at : (j : ℕ) (seat : SeatView (View F)) → j ≢ id → get_elem? s.views j ≡ some seat → Opened (set s.words word x) seat
+    others_at j seat other there =
+        open-else about.n s.words word x about.cells seat.knows.filling
+        (λ h too. apart h.cell (λ same.
+        let none = hand-alone about.cells s.views once id j me seat cell other at there hand in
+        let some_there = open-at-hand seat.knows h too in
+        let moved = ap (λ c. times c (at_hand seat.knows)) same in
+        omega (arith, none, some_there, moved))) (lawful.filled j seat there)
+
+    filled_at : HoldsOpen about.n about.cells (set s.words word x) w.filling → (j : ℕ) (seat : SeatView (View F)) → get_elem? (set s.views id (knowing me w)) j ≡ some seat → Opened (set s.words word x) seat
+    filled_at holds j seat there = ⊎_elim
+        (λ (t : (j ≡ id) × (knowing me w ≡ seat)). subst (Opened (set s.words word x)) t.1 holds)
+        (λ (t : (j ≢ id) × (get_elem? s.views j ≡ some seat)). others_at j seat t.0 t.1)
+        (at_set s.views id j (knowing me w) seat there)
+
+    stores : IsSeated about w → w.blocks ≡ me.knows.blocks → w.past ≡ me.knows.past → w.puts ≡ me.knows.puts → w.looks ≡ me.knows.looks → w.marks ≡ me.knows.marks → HasGot about w → HoldsOpen about.n about.cells (set s.words word x) w.filling
+        → IsLawful fact about (Next (set s.words word x) w)
+    stores seated blocks past puts looks marks got holds =
+        let count : slice_index (set s.words word x) 0 ≡ counter = get_or-set_other s.words word 0 x 0 (λ zero. omega (arith, zero, high)) in
+        record {
+          seating = seating.learns about.seats (IsSeated about) nothing s.views id me lawful.seating at w live seated;
+          drawn = subst (λ c. Drawn c w) (sym count) (drawing.learns drawn_by is_past 0 about.blocks about.seats counter s.views id me lawful.drawn at (knowing me w) refl blocks (ap is_some past));
+          got = got-set w got;
+          blocked = lawful.blocked;
+          limits = lawful.limits;
+          words = length-set s.words word x ∙ lawful.words;
+          filled = filled_at holds;
+          noded = noded-set w looks;
+          chains = λ v node.
+              let old = lawful.chains v node in
+              let others = hand-unlinked about.cells s.views once v old.0 old.1.each_once id me cell at hand in (
+                old.0,
+                chain-same (set s.words word x) w v old.0 old.1 (get_or-set_other s.words word (head_at v) x 0 (λ e. omega (arith, e, high, node.up_to_n)))
+                    (chain-else about.n s.words word x old.0 (All-weaker (λ l. cell ≢ l.cell) (λ l. IsApart about.n word l.cell) (λ l other. apart l.cell other) old.0 others) old.1.linked)
+                    (ap (λ ps. puts_at ps v) puts) (subst (StillIn v old.0) (sym looks) (old.1.found id me at)) (subst (StillIn v old.0) (sym marks) (old.1.seen id me at)),
+              );
+        }
+
+  -- a cell has its words within
+  inside : (cell word : ℕ) → cell < about.cells → word < word_count about.n (cell + 1) → word < length s.words
+  inside cell word below low = omega (arith, low, below, lawful.words)
+
+  -- the first cell in reserve is opened
+  pub opens : (cell : ℕ) (rest : List ℕ) (x : ℕ) → me.knows.filling ≡ None → me.knows.reserve ≡ cell ∷ rest → IsLawful fact about (Next (set s.words (dist_at about.n cell) x) (with_opened me.knows cell rest x))
+  opens cell rest x empty is =
+      let w = with_opened me.knows cell rest x in
+      let word : ℕ = dist_at about.n cell in
+      let seated = seated_here in
+      let hand = first-at-hand me.knows cell rest is in
+      let parts = got-parts about.cells s.views once cell me in
+      let below = got-within about s.views once id me cell at (omega (arith, hand, parts)) in
+      let got : HasGot about w = permutation-times _ _ (λ y.
+      let now = got-times w y in
+      let before = got-times me.knows y in
+      let none = ap (λ o. times y (open_cell o)) empty in
+      let nil : times y [] ≡ 0 = refl in
+      let first = ap (times y) is ∙ times-cons y cell rest in
+      let one = times-cons y cell [] in
+      let old = times-permutation y _ _ (lawful.got id me at) in
+      omega (arith, now, before, none, nil, first, one, old)) in
+      stores cell hand word x w (omega arith) (λ c other. dist-apart about.n cell c other) (record { n = seated.n; cells = seated.cells; block = seated.block; all = seated.all; fact = seated.fact }) refl refl refl refl refl got
+      (record { below = below; next = tt; dist = get_or-set_same s.words word x 0 (inside cell word below (omega arith)) })
 
   module _ (f : Filling) (is : me.knows.filling ≡ Some f) where
     filling_holds : HoldsFilling about.n about.cells s.words f
     filling_holds = subst (HoldsOpen about.n about.cells s.words) is (lawful.filled id me at)
 
-    -- a word of the open cell is stored
-    fills : (word x : ℕ) (g : Filling) → g.cell ≡ f.cell → about.n + 32 ≤ word → ((cell : ℕ) → f.cell ≢ cell → IsApart about.n word cell) → HoldsFilling about.n about.cells (set s.words word x) g
-        → IsLawful fact about (Next (set s.words word x) (record me.knows { filling = Some g }))
-    fills word x g same high apart holds =
-        let w : View F = record me.knows { filling = Some g } in
-        let seated = seated_here in
-        let count : slice_index (set s.words word x) 0 ≡ counter = get_or-set_other s.words word 0 x 0 (λ zero. omega (arith, zero, high)) in
-        let got : drawn_by w ≡ drawn_by me.knows = ap (λ c. map (λ p. p.linked.cell) me.knows.puts ++ c ∷ []) same ∙ sym (ap (λ o. map (λ p. p.linked.cell) me.knows.puts ++ open_cell o) is) in
-        record {
-          seating = seating.learns about.seats (IsSeated about) nothing s.views id me lawful.seating at w live (record { n = seated.n; cells = seated.cells; all = seated.all; fact = seated.fact });
-          drawn = subst (λ c. Drawn c w) (sym count) (drawing.learns drawn_by is_past 0 about.cells about.seats counter s.views id me lawful.drawn at (knowing me w) refl got refl);
-          limits = lawful.limits;
-          words = length-set s.words word x ∙ lawful.words;
-          filled = λ j seat there. filled_at word x w apart holds j seat there;
-          noded = noded-set w refl;
-          chains = λ v node.
-              let old = lawful.chains v node in
-              let others = open-unlinked about counter s.views lawful.drawn v old.0 old.1.each_once id me f at is in (
-                old.0,
-                chain-same (set s.words word x) w v old.0 old.1 (get_or-set_other s.words word (head_at v) x 0 (λ e. omega (arith, e, high, node.up_to_n)))
-                    (chain-else about.n s.words word x old.0 (All-weaker (λ l. f.cell ≢ l.cell) (λ l. IsApart about.n word l.cell) (λ l other. apart l.cell other) old.0 others) old.1.linked)
-                    refl (old.1.found id me at) (old.1.seen id me at),
-              );
-        }
-      where
-        others_at : (word x : ℕ) → ((cell : ℕ) → f.cell ≢ cell → IsApart about.n word cell) → (j : ℕ) (seat : SeatView (View F)) → j ≢ id → get_elem? s.views j ≡ some seat → Opened (set s.words word x) seat
-        others_at word x apart j seat other there =
-            open-else about.n s.words word x about.cells seat.knows.filling (λ h too. apart h.cell (open-alone about counter s.views lawful.drawn id j me seat f h other at there is too)) (lawful.filled j seat there)
-
-        filled_at : (word x : ℕ) (w : View F) → ((cell : ℕ) → f.cell ≢ cell → IsApart about.n word cell) → HoldsOpen about.n about.cells (set s.words word x) w.filling → (j : ℕ) (seat : SeatView (View F)) → get_elem? (set s.views id (knowing me w)) j ≡ some seat → Opened (set s.words word x) seat
-        filled_at word x w apart holds j seat there = ⊎_elim
-            (λ (t : (j ≡ id) × (knowing me w ≡ seat)). subst (Opened (set s.words word x)) t.1 holds)
-            (λ (t : (j ≢ id) × (get_elem? s.views j ≡ some seat)). others_at word x apart j seat t.0 t.1)
-            (at_set s.views id j (knowing me w) seat there)
-
-    inside : (word : ℕ) → word < word_count about.n (f.cell + 1) → word < length s.words
-    inside word low = omega (arith, low, filling_holds.below, lawful.words)
-
+    -- the word of its next and its position is stored
     pub fills_next : (x : ℕ) → IsLawful fact about (Next (set s.words (next_at about.n f.cell) x) (record me.knows { filling = Some (record f { next = Some x }) }))
     fills_next x =
         let word : ℕ = next_at about.n f.cell in
-        fills word x (record f { next = Some x }) refl (omega arith) (λ cell other. next-apart about.n f.cell cell other) (record {
+        let w : View F = record me.knows { filling = Some (record f { next = Some x }) } in
+        let seated = seated_here in
+        let got : HasGot about w = subst (λ o. HasGot about (record me.knows { filling = o })) is (lawful.got id me at) in
+        stores f.cell (open-at-hand me.knows f is) word x w (omega arith) (λ c other. next-apart about.n f.cell c other) (record { n = seated.n; cells = seated.cells; block = seated.block; all = seated.all; fact = seated.fact }) refl refl refl refl refl got
+        (record {
           below = filling_holds.below;
-          next = get_or-set_same s.words word x 0 (inside word (omega arith));
+          next = get_or-set_same s.words word x 0 (inside f.cell word filling_holds.below (omega arith));
           dist = filled-else about.n s.words word x f.dist (dist_at about.n f.cell) (λ e. omega (arith, e)) filling_holds.dist;
-        })
-
-    pub fills_dist : (x : ℕ) → IsLawful fact about (Next (set s.words (dist_at about.n f.cell) x) (record me.knows { filling = Some (record f { dist = Some x }) }))
-    fills_dist x =
-        let word : ℕ = dist_at about.n f.cell in
-        fills word x (record f { dist = Some x }) refl (omega arith) (λ cell other. dist-apart about.n f.cell cell other) (record {
-          below = filling_holds.below;
-          next = filled-else about.n s.words word x f.next (next_at about.n f.cell) (λ e. omega (arith, e)) filling_holds.next;
-          dist = get_or-set_same s.words word x 0 (inside word (omega arith));
         })
 
   module _ (v : ℕ) (node : IsNode about.n v) where
@@ -196,8 +253,10 @@ module _ {F : Type 0} (fact : F → ℕ → Entry → Type 0) (about : About F) 
         let w : View F = with_look me.knows v chain in
         let seated = seated_here in
         record {
-          seating = seating.learns about.seats (IsSeated about) nothing s.views id me lawful.seating at w live (record { n = seated.n; cells = seated.cells; all = seated.all; fact = seated.fact });
-          drawn = drawing.learns drawn_by is_past 0 about.cells about.seats counter s.views id me lawful.drawn at (knowing me w) refl refl refl;
+          seating = seating.learns about.seats (IsSeated about) nothing s.views id me lawful.seating at w live (record { n = seated.n; cells = seated.cells; block = seated.block; all = seated.all; fact = seated.fact });
+          drawn = drawing.learns drawn_by is_past 0 about.blocks about.seats counter s.views id me lawful.drawn at (knowing me w) refl refl refl;
+          got = got-set w (lawful.got id me at);
+          blocked = lawful.blocked;
           limits = lawful.limits;
           words = lawful.words;
           filled = Each-set (Opened s.words) s.views id (knowing me w) lawful.filled (lawful.filled id me at);
@@ -257,11 +316,19 @@ module _ {F : Type 0} (fact : F → ℕ → Entry → Type 0) (about : About F) 
       links =
           let seated = seated_here in
           let count : slice_index After 0 ≡ counter = get_or-set_other s.words (head_at v) 0 (cell + 1) 0 (λ zero. omega (arith, zero)) in
-          let got : drawn_by linked ≡ drawn_by me.knows =
-          append-nil (map (λ p. p.linked.cell) linked.puts) ∙ map-append (λ (p : Put). p.linked.cell) me.knows.puts (record { node = v; linked = mine } ∷ []) ∙ sym (ap (λ o. map (λ (p : Put). p.linked.cell) me.knows.puts ++ open_cell o) is) in
+          let got : HasGot about linked = permutation-times _ _ (λ y.
+          let now = got-times linked y in
+          let before = got-times me.knows y in
+          let put = ap (times y) (map-append (λ (p : Put). p.linked.cell) me.knows.puts (record { node = v; linked = mine } ∷ [])) ∙ times-append y (map (λ (p : Put). p.linked.cell) me.knows.puts) (cell ∷ []) in
+          let opened = ap (λ o. times y (open_cell o)) is in
+          let nil : times y [] ≡ 0 = refl in
+          let same = times-permutation y _ _ (lawful.got id me at) in
+          omega (arith, now, before, put, opened, nil, same)) in
           record {
-            seating = seating.learns about.seats (IsSeated about) nothing s.views id me lawful.seating at linked live (record { n = seated.n; cells = seated.cells; all = seated.all; fact = seated.fact });
-            drawn = subst (λ c. Drawn c linked) (sym count) (drawing.learns drawn_by is_past 0 about.cells about.seats counter s.views id me lawful.drawn at (knowing me linked) refl got refl);
+            seating = seating.learns about.seats (IsSeated about) nothing s.views id me lawful.seating at linked live (record { n = seated.n; cells = seated.cells; block = seated.block; all = seated.all; fact = seated.fact });
+            drawn = subst (λ c. Drawn c linked) (sym count) (drawing.learns drawn_by is_past 0 about.blocks about.seats counter s.views id me lawful.drawn at (knowing me linked) refl refl refl);
+            got = got-set linked got;
+            blocked = lawful.blocked;
             limits = lawful.limits;
             words = length-set s.words (head_at v) (cell + 1) ∙ lawful.words;
             filled = Each-set (Opened After) s.views id (knowing me linked) (open-low (head_at v) (cell + 1) low) tt;

@@ -1,5 +1,6 @@
 -- Cells that were drawn and are not linked yet, and what was stored in their words.
-use Rattle.std.specs.Prelude.{◌≡◌, ℕ, ◌<◌, Option, Some, None, List, [], ◌∷◌, slice_index}
+use Rattle.std.specs.List.{range_with_len}
+use Rattle.std.specs.Prelude.{◌≡◌, ℕ, ◌*◌, ◌<◌, Option, Some, None, List, [], ◌∷◌, slice_index}
 use Rattle.label_pool.specs.declared.rule.Filling.{Filling}
 use Rattle.label_pool.specs.declared.rule.Linked.{Linked}
 use Rattle.label_pool.specs.Layout.{next_at, dist_at, pos_in}
@@ -32,19 +33,15 @@ abbrev pub linked_of : Option Filling → Linked
 linked_of None = record { cell = 0; entry = record { pos = 0; dist = 0 } }
 linked_of (Some f) = record { cell = f.cell; entry = record { pos = pos_in (stored_or_0 f.next); dist = stored_or_0 f.dist } }
 
--- a cell that was drawn, and nothing stored in it
-abbrev pub drawn : ℕ → Filling
-drawn cell = record { cell = cell; next = None; dist = None }
+-- the cells of a block, a number from 0, of so many cells each
+abbrev pub block_cells : ℕ → ℕ → List ℕ
+block_cells size block = range_with_len (block * size) size
 
 -- a cell in which a distance was stored, and maybe a word with the name of a next cell and a position
 abbrev pub filled : ℕ → Option ℕ → ℕ → Filling
 filled cell next dist = record { cell = cell; next = next; dist = Some dist }
 
--- the open cell, with a word of it stored
+-- the open cell, with the word of its next and its position stored
 abbrev pub with_next : Option ℕ → Option Filling → Option Filling
 with_next x None = None
 with_next x (Some f) = Some (record f { next = x })
-
-abbrev pub with_dist : ℕ → Option Filling → Option Filling
-with_dist x None = None
-with_dist x (Some f) = Some (record f { dist = Some x })

@@ -1,5 +1,5 @@
 -- The laws of the rule: it holds at first, each step of a seat keeps it, whichever seats there are beside, and of a chain it says what may be relied on.
-use Rattle.std.specs.Prelude.{◌≡◌, ◌≢◌, ℕ, ◌+◌, ◌^◌, ◌<◌, ◌≤◌, Some, None, List, [], ◌∷◌, ◌++◌, All, length, replicate, slice_index, slice_set}
+use Rattle.std.specs.Prelude.{◌≡◌, ◌≢◌, ℕ, ◌+◌, ◌*◌, ◌^◌, ◌<◌, ◌≤◌, Some, None, List, [], ◌∷◌, ◌++◌, All, length, replicate, slice_index, slice_set}
 use mathlib.Core.Option.{some}
 use lib.ListN.{get_elem?}
 use Rattle.atomic_table.specs.Table.{opening}
@@ -14,7 +14,7 @@ use Rattle.label_pool.specs.declared.rule.View.{View}
 use Rattle.label_pool.specs.Fillings.{filled}
 use Rattle.label_pool.specs.Layout.{head_at, next_at, dist_at, name_in, pos_in, word_count}
 use Rattle.label_pool.specs.Lawful.{Table, IsChainOf, IsLawful, first_view, given, both, nothing}
-use Rattle.label_pool.specs.Steps.{with_drawn, with_filling, with_look, with_link}
+use Rattle.label_pool.specs.Steps.{with_drawn, with_filling, with_opened, with_look, with_link}
 
 module _ {F : Type 0} where
   -- the table where one word has changed, and what one seat knows
@@ -28,18 +28,22 @@ module _ {F : Type 0} where
 module _ {F : Type 0} (fact : F → ℕ → Entry → Type 0) where
   -- no cell is drawn, all chains are empty, and there is one seat
   abbrev pub HoldsAtFirst : Type 0
-  HoldsAtFirst = (about : About F) → about.n ≤ 2 ^ 30 → about.cells ≤ 2 ^ 31 → 1 ≤ about.seats → about.seats ≤ 64 → IsLawful fact about (opening (replicate (word_count about.n about.cells) 0) [] (first_view about))
+  HoldsAtFirst = (about : About F) → about.n ≤ 2 ^ 30 → about.cells ≤ 2 ^ 31 → 1 ≤ about.block → about.cells ≡ about.blocks * about.block → 1 ≤ about.seats → about.seats ≤ 64 → IsLawful fact about (opening (replicate (word_count about.n about.cells) 0) [] (first_view about))
 
-  -- a seat that has no open cell and is not past the cells draws the number at which the counter stands
+  -- a seat that has no cell in reserve and is not past the cells draws the number at which the counter stands
   abbrev pub DrawsKeep : Type 0
-  DrawsKeep = (about : About F) (s : Table F) (id : ℕ) (me : SeatView (View F)) → IsLawful fact about s → IsSeat s.views id me → me.knows.filling ≡ None → me.knows.past ≡ None
+  DrawsKeep = (about : About F) (s : Table F) (id : ℕ) (me : SeatView (View F)) → IsLawful fact about s → IsSeat s.views id me → me.knows.reserve ≡ [] → me.knows.past ≡ None
       → IsLawful fact about (with_step s 0 (slice_index s.words 0 + 1) id me (with_drawn me.knows (slice_index s.words 0)))
 
-  -- a seat stores into a word of its open cell
+  -- a seat stores into the word of the next and the position of its open cell
   abbrev pub FillsKeep : Type 0
   FillsKeep = (about : About F) (s : Table F) (id : ℕ) (me : SeatView (View F)) (f : Filling) (x : ℕ) → IsLawful fact about s → IsSeat s.views id me → me.knows.filling ≡ Some f
       → IsLawful fact about (with_step s (next_at about.n f.cell) x id me (with_filling me.knows (Some (record f { next = Some x }))))
-      × IsLawful fact about (with_step s (dist_at about.n f.cell) x id me (with_filling me.knows (Some (record f { dist = Some x }))))
+
+  -- a seat that has no open cell opens the first one of its reserve, and stores a distance there
+  abbrev pub OpensKeep : Type 0
+  OpensKeep = (about : About F) (s : Table F) (id : ℕ) (me : SeatView (View F)) (cell : ℕ) (rest : List ℕ) (x : ℕ) → IsLawful fact about s → IsSeat s.views id me → me.knows.filling ≡ None → me.knows.reserve ≡ cell ∷ rest
+      → IsLawful fact about (with_step s (dist_at about.n cell) x id me (with_opened me.knows cell rest x))
 
   -- a seat loads a head, and finds its chain
   abbrev pub FindsKeep : Type 0

@@ -1,4 +1,4 @@
--- Which word of a pool's table holds what. Word 0 is the counter of drawn cells.
+-- Which word of a pool's table holds what. Word 0 is the counter of the blocks of cells that were drawn.
 use Rattle.std.specs.Prelude.{ℕ, ◌+◌, ◌*◌, ◌/◌, ◌%◌, ◌^◌}
 
 -- the head of the node v, a number from 1

@@ -1,7 +1,8 @@
 -- What contracts see of pools and of their seats.
-use Rattle.std.specs.Prelude.{◌≡◌, ℕ, ◌<◌, ◌≤◌, Option, Some, None, List, [], ◌∷◌, ◌++◌, All, length}
+use Rattle.std.specs.Prelude.{◌≡◌, ℕ, ◌+◌, ◌<◌, ◌≤◌, Option, Some, None, List, [], ◌∷◌, ◌++◌, All, length}
 use Rattle.atomic_table.specs.Seated.{TableId}
 use Rattle.walk_laws.specs.declared.entry.Entry.{Entry}
+use Rattle.table_seats.specs.Numbers.{numbers}
 use Rattle.label_pool.specs.declared.pool_put.PoolPut.{PoolPut}
 use Rattle.label_pool.specs.declared.pool_put.PoolPut.TheVariants.{Put as IsPut, Full as IsFull}
 use Rattle.label_pool.specs.declared.rule.Linked.{Linked}
@@ -10,11 +11,12 @@ use Rattle.label_pool.specs.declared.rule.Put.{Put}
 use Rattle.label_pool.specs.declared.rule.View.{View}
 use Rattle.label_pool.specs.Chains.{IsTailOf, seen_of}
 
--- A pool: its table, which no others have, how many nodes, cells and seats there are, and the value of the fact that its entries meet
+-- A pool: its table, which no others have, how many nodes, cells and seats there are, how many cells are drawn at once, and the value of the fact that its entries meet
 pub record PoolId (F : Type 0) : Type 0 where
   pub table : TableId
   pub n : ℕ
   pub cells : ℕ
+  pub block : ℕ
   pub seats : ℕ
   pub fact : Option F
 
@@ -30,7 +32,7 @@ pub record Seated (F : Type 0) : Type 0 where
 module _ {F : Type 0} where
   -- the pool that a seat knows, of a table
   abbrev pub pool_id : TableId → View F → PoolId F
-  pool_id id v = record { table = id; n = v.n; cells = v.cells; seats = v.all; fact = v.fact }
+  pool_id id v = record { table = id; n = v.n; cells = v.cells; block = v.block; seats = v.all; fact = v.fact }
 
   abbrev pub seated : TableId → ℕ → View F → Seated F
   seated id left v = record { pool = pool_id id v; left = left; puts = v.puts; looks = v.looks; marks = v.marks; past = v.past }
@@ -38,6 +40,13 @@ module _ {F : Type 0} where
   -- the cells that a seat has found are cells of its pool
   abbrev pub AreWithin : View F → Type 0
   AreWithin v = All (λ look. All (λ l. l.cell < v.cells) look.found) v.looks
+
+  -- A seat has the cells from the first of these numbers up to but not including the other in reserve, at most a block
+  pub record HasReserve (v : View F) (next end : ℕ) : Type 0 where
+    pub reserve : v.reserve ≡ numbers next end
+    pub ordered : next ≤ end
+    pub most : end ≤ next + v.block
+    pub within : end ≤ v.cells
 
   -- the seat is of this pool
   abbrev pub IsSeatOf : PoolId F → Seated F → Type 0

@@ -1,14 +1,15 @@
 -- What each step of a seat at a pool tells.
-use Rattle.std.specs.Prelude.{◌≡◌, ℕ, ◌^◌, ◌<◌, ◌≤◌, Option, Some, None, List, [], ◌∷◌, ◌++◌, All, Contains, length, nat_lt, if◌then◌else◌}
+use Rattle.std.specs.Prelude.{◌≡◌, ℕ, ◌+◌, ◌*◌, ◌^◌, ◌<◌, ◌≤◌, Option, Some, None, List, [], ◌∷◌, ◌++◌, All, Contains, length, nat_lt, if◌then◌else◌}
 use Rattle.atomic_table.specs.Table.{Step}
 use Rattle.walk_laws.specs.declared.entry.Entry.{Entry}
+use Rattle.table_seats.specs.Numbers.{numbers}
 use Rattle.table_seats.specs.Seats.{knowing}
 use Rattle.label_pool.specs.declared.rule.Filling.{Filling}
 use Rattle.label_pool.specs.declared.rule.Linked.{Linked}
 use Rattle.label_pool.specs.declared.rule.Look.{Look}
 use Rattle.label_pool.specs.declared.rule.View.{View}
 use Rattle.label_pool.specs.Chains.{named, first_cell, IsTailOf, seen_of}
-use Rattle.label_pool.specs.Fillings.{drawn, linked_of, with_next, with_dist}
+use Rattle.label_pool.specs.Fillings.{block_cells, filled, linked_of, with_next}
 use Rattle.label_pool.specs.Layout.{head_at, next_at, dist_at, name_in, pos_in}
 use Rattle.label_pool.specs.Lawful.{Sitter}
 use Rattle.label_pool.specs.Seats.{IsMet}
@@ -19,27 +20,37 @@ pub record TellsCell (n word number : ℕ) (l : Linked) (ls : List Linked) : Typ
   pub dist : word ≡ dist_at n l.cell → number ≡ l.entry.dist
 
 module _ {F : Type 0} where
-  -- what a seat knows that drew a number: that cell is open, or the number is past the cells
+  -- what a seat knows that drew the number of a block: the cells of that block are in reserve, or the first of them is past the cells
   abbrev pub with_drawn : View F → ℕ → View F
-  with_drawn v number = if nat_lt number v.cells then record v { filling = Some (drawn number) } else record v { past = Some number }
+  with_drawn v number = if nat_lt (number * v.block) v.cells then record v { blocks = v.blocks ++ number ∷ []; reserve = block_cells v.block number } else record v { past = Some (number * v.block) }
 
   -- what a draw tells
   abbrev pub Drew : Step (Unit {0}) → Sitter F → ℕ → Sitter F → Type 0
-  Drew step me number after = (after.0 ≡ knowing me.0 (with_drawn me.0.knows number)) × (after.1 ≡ me.1)
+  Drew step me number after = (after.0 ≡ knowing me.0 (with_drawn me.0.knows number)) × (after.1 ≡ me.1) × (number < 2 ^ 32)
+
+  -- The seat has these cells in reserve, at least one and at most a block. It may have drawn blocks for that, and nothing else has changed
+  pub record IsRefilled (me : Sitter F) (next end : ℕ) (after : Sitter F) : Type 0 where
+    pub blocks : List ℕ
+    pub after_is : after ≡ (knowing me.0 (record me.0.knows { blocks = blocks; reserve = numbers next end }), me.1)
+    pub some : next < end
+    pub most : end ≤ next + me.0.knows.block
+    pub within : end ≤ me.0.knows.cells
 
   -- what a seat knows whose open cell is this
   abbrev pub with_filling : View F → Option Filling → View F
   with_filling v filling = record v { filling = filling }
 
   -- what a fill tells
-  abbrev pub Fills : (Option Filling → Option Filling) → Sitter F → Sitter F → Type 0
-  Fills with_it me after = (after.0 ≡ knowing me.0 (with_filling me.0.knows (with_it me.0.knows.filling))) × (after.1 ≡ me.1)
-
   abbrev pub FilledNext : Step (Unit {0}) → Sitter F → ℕ → Sitter F → Type 0
-  FilledNext step me number after = Fills (with_next (Some step.first)) me after
+  FilledNext step me number after = (after.0 ≡ knowing me.0 (with_filling me.0.knows (with_next (Some step.first) me.0.knows.filling))) × (after.1 ≡ me.1)
 
-  abbrev pub FilledDist : Step (Unit {0}) → Sitter F → ℕ → Sitter F → Type 0
-  FilledDist step me number after = Fills (with_dist step.first) me after
+  -- what a seat knows that opened this cell, the first of its reserve, and stored a distance there
+  abbrev pub with_opened : View F → ℕ → List ℕ → ℕ → View F
+  with_opened v cell rest dist = record v { reserve = rest; filling = Some (filled cell None dist) }
+
+  -- what the opening of a cell tells
+  abbrev pub Opened : Step (Unit {0}) → Sitter F → ℕ → Sitter F → Type 0
+  Opened step me number after = (cell : ℕ) (rest : List ℕ) → me.0.knows.reserve ≡ cell ∷ rest → (after.0 ≡ knowing me.0 (with_opened me.0.knows cell rest step.first)) × (after.1 ≡ me.1)
 
   -- what a seat knows that found this chain
   abbrev pub with_look : View F → ℕ → List Linked → View F

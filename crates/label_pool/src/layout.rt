@@ -6,7 +6,7 @@ ghost use Rattle.std.specs.Prelude.{◌≡◌, ℕ, ◌+◌, ◌*◌, ◌/◌, �
 ghost use Rattle.label_pool.specs.Layout.{head_at, next_at, dist_at, name_in, pos_in as position_in, word_count};
 ghost use Rattle.label_pool.specs.Chains.{named};
 
-/// The counter of the cells that were drawn.
+/// The counter of the blocks of cells that were drawn.
 pub const COUNTER: usize = 0;
 
 /// How many names a half of a word can have.

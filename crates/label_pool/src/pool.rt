@@ -1,4 +1,4 @@
-ghost use Rattle.std.specs.Prelude.{◌≡◌, ℕ, ◌+◌, ◌^◌, ◌<◌, ◌≤◌, [], ◌++◌, Option, Some, None, List, All, IsPermutation, IfOk, length};
+ghost use Rattle.std.specs.Prelude.{◌≡◌, ℕ, ◌+◌, ◌*◌, ◌^◌, ◌<◌, ◌≤◌, [], ◌++◌, Option, Some, None, List, All, IsPermutation, IfOk, length};
 ghost use Rattle.walk_laws.specs.Labelling.{label_row};
 ghost use Rattle.hub_index.specs.Views.{IsNode};
 ghost use Rattle.label_pool.specs.declared.rule.Linked.{Linked};
@@ -6,10 +6,10 @@ ghost use Rattle.label_pool.specs.Chains.{IsRest, entries_at};
 ghost use Rattle.label_pool.specs.Seats.{IsSeatOf, IsMet, HasPut, HasFound, IfPut, IfFull, first_some};
 
 use crate::gathering::gathered;
-use crate::layout::{COUNTER, cell_named, count_words, head_word};
-use crate::linking::{fill, link};
+use crate::layout::{cell_named, count_words, head_word};
+use crate::linking::{link, open_first, refill};
 use crate::pool_put::PoolPut;
-use crate::rule::{About, Draws, Finds, Handing, Law, LinkFact, View};
+use crate::rule::{About, Finds, Handing, Law, LinkFact, View};
 use crate::seat::PoolSeat;
 use crate::visit::Visit;
 use atomic_table::Table;
@@ -38,10 +38,12 @@ pub struct Pool<F: LinkFact> {
     alloc: Global,
     pub(crate) n: u32,
     cells: u32,
+    blocks: u32,
+    block: u32,
 }
 
 impl<F: LinkFact> Model for Pool<F> {
-    ghost use Rattle.std.specs.Prelude.{◌≡◌, ◌^◌, ◌≤◌};
+    ghost use Rattle.std.specs.Prelude.{◌≡◌, ◌*◌, ◌^◌, ◌≤◌};
     ghost use Rattle.label_pool.specs.Layout.{word_count};
     ghost use Rattle.label_pool.specs.Lawful.{first_known};
     ghost use Rattle.label_pool.specs.Seats.{PoolId, pool_id};
@@ -55,6 +57,10 @@ impl<F: LinkFact> Model for Pool<F> {
         × (p.table.shared.table_id.slots ≡ 0)
         × (p.table.shared.key.n ≡ p.n)
         × (p.table.shared.key.cells ≡ p.cells)
+        × (p.table.shared.key.blocks ≡ p.blocks)
+        × (p.table.shared.key.block ≡ p.block)
+        × (p.cells ≡ p.blocks * p.block)
+        × (1 ≤ p.block)
         × (p.n ≤ 2 ^ 30)
         × (p.cells ≤ 2 ^ 31) };
 }
@@ -72,34 +78,69 @@ impl<F: LinkFact> Pool<F> {
         requires n { n ≤ 2 ^ 30 }
         requires cells { (1 ≤ cells) × (cells ≤ 2 ^ 31) }
         requires seats { (1 ≤ seats) × (seats ≤ 64) }
-        ensures pool { IfOk result (λ made. (made.0.n ≡ n) × (made.0.cells ≡ cells) × (made.0.seats ≡ seats) × (made.0.fact ≡ Some fact)) }
+        ensures pool { IfOk result (λ made. (made.0.n ≡ n) × (made.0.cells ≡ cells) × (made.0.block ≡ 1) × (made.0.seats ≡ seats) × (made.0.fact ≡ Some fact)) }
         ensures seat { IfOk result (λ made. IsSeatOf made.0 made.1) }
         ensures left { IfOk result (λ made. made.1.left + 1 ≡ seats) }
         ensures puts { IfOk result (λ made. made.1.puts ≡ []) }
         ensures looks { IfOk result (λ made. (made.1.looks ≡ []) × (made.1.marks ≡ [])) }
         ensures past { IfOk result (λ made. made.1.past ≡ None) }
     {
+        Pool::in_blocks(alloc, n, cells, 1, seats, fact)
+    }
+
+    /// The same with so many blocks of `block` cells each. A seat draws a block at once, so that few seats meet at the
+    /// counter; in return the cells that are left of its last block are used by nobody. The only error is that memory ran
+    /// out.
+    pub fn in_blocks(
+        alloc: Global,
+        n: u32,
+        blocks: u32,
+        block: u32,
+        seats: u32,
+        fact: F,
+    ) -> Result<(Pool<F>, PoolSeat<F>), AllocError>
+        requires n { n ≤ 2 ^ 30 }
+        requires blocks { (1 ≤ blocks) × (1 ≤ block) }
+        requires cells { blocks * block ≤ 2 ^ 31 }
+        requires seats { (1 ≤ seats) × (seats ≤ 64) }
+        ensures pool { IfOk result (λ made. (made.0.n ≡ n) × (made.0.cells ≡ blocks * block) × (made.0.block ≡ block) × (made.0.seats ≡ seats) × (made.0.fact ≡ Some fact)) }
+        ensures seat { IfOk result (λ made. IsSeatOf made.0 made.1) }
+        ensures left { IfOk result (λ made. made.1.left + 1 ≡ seats) }
+        ensures puts { IfOk result (λ made. made.1.puts ≡ []) }
+        ensures looks { IfOk result (λ made. (made.1.looks ≡ []) × (made.1.marks ≡ [])) }
+        ensures past { IfOk result (λ made. made.1.past ≡ None) }
+    {
+        let cells = blocks * block;
         let words = vec![in alloc; 0u64; count_words(n, cells)]?;
         let about = About {
             n,
             cells,
+            blocks,
+            block,
             seats,
             fact,
         };
         let (table, seat) = Table::of_words(alloc, words.as_slice(), &about)?;
-        let left = seats - 1;
         let pool = Pool {
             table,
             alloc,
             n,
             cells,
+            blocks,
+            block,
         };
-        Ok((pool, PoolSeat { seat, left }))
+        let seat = PoolSeat {
+            seat,
+            left: seats - 1,
+            next: 0,
+            end: 0,
+        };
+        Ok((pool, seat))
     }
 
-    /// Puts the entry before the chain of the node `v`, a number from 1. It draws one cell number, once; where no cell
-    /// has that number it answers Full, and the seat is past the cells and puts no more. It tries its link again where
-    /// others came first, which may take forever as far as its contract goes.
+    /// Puts the entry before the chain of the node `v`, a number from 1. Where the seat has no cell in reserve it draws a
+    /// block of cells, once; where no block has the number that it drew it answers Full, and the seat is past the cells and
+    /// puts no more. It tries its link again where others came first, which may take forever as far as its contract goes.
     pub fn put<R: Wait>(&self, rt: &R, seat: &mut PoolSeat<F>, v: u32, entry: Entry) -> PoolPut
         requires seat { IsSeatOf self.now seat.old }
         requires past { seat.old.past ≡ None }
@@ -109,15 +150,23 @@ impl<F: LinkFact> Pool<F> {
         ensures full { IfFull result (λ cell cells. (self.now.cells ≤ cell) × (cells ≡ self.now.cells) × (seat.new ≡ record seat.old { past = Some cell })) }
     {
         let words = &self.table.shared;
-        let drawn = words.fetch_add::<Draws>(&mut seat.seat, COUNTER, 1);
-        if drawn >= u64::from(self.cells) {
+        let room = refill(
+            words,
+            &mut seat.seat,
+            self.block,
+            self.cells,
+            &mut seat.next,
+            &mut seat.end,
+        );
+        if let Err(cell) = room {
             return PoolPut::Full {
-                cell: drawn,
+                cell,
                 cells: self.cells,
             };
         }
-        let cell = drawn as u32;
-        fill(words, &mut seat.seat, self.n, cell, entry.dist);
+        let cell = seat.next;
+        seat.next += 1;
+        open_first(words, &mut seat.seat, self.n, cell, entry.dist);
         link(rt, words, &mut seat.seat, self.n, v, cell, entry.pos);
         PoolPut::Put
     }
@@ -152,6 +201,8 @@ impl<F: LinkFact> Pool<F> {
         PoolSeat {
             seat: given,
             left: give,
+            next: 0,
+            end: 0,
         }
     }
 
@@ -168,7 +219,12 @@ impl<F: LinkFact> Pool<F> {
         ensures marks { seat.new.marks ≡ seat.old.marks }
         ensures past { seat.new.past ≡ first_some seat.old.past other.past }
     {
-        let PoolSeat { seat: spent, left } = other;
+        let PoolSeat {
+            seat: spent,
+            left,
+            next: _,
+            end: _,
+        } = other;
         join_in::<Handing, Handing, _, _, _, _>(&self.table.shared, &mut seat.seat, spent);
         seat.left += left + 1;
     }
@@ -187,8 +243,15 @@ impl<F: LinkFact> Pool<F> {
             alloc,
             n,
             cells,
+            blocks: _,
+            block: _,
         } = self;
-        let PoolSeat { seat, left: _ } = seat;
+        let PoolSeat {
+            seat,
+            left: _,
+            next: _,
+            end: _,
+        } = seat;
         let closed = table.close_with(seat);
         let rows = gathered(alloc, &closed, n, cells);
         closed.free();

@@ -13,11 +13,14 @@ pub trait LinkFact: Drop {
     ghost fact: { Self → ℕ → Entry → Type 0 };
 }
 
-/// What is fixed when a pool is made: how many nodes, cells and seats there are, and the value of its fact.
+/// What is fixed when a pool is made: how many nodes, cells and seats there are, in how many blocks the cells are drawn and
+/// how many are in each, and the value of its fact.
 #[derive(Drop)]
 pub struct About<F: LinkFact> {
     pub n: u32,
     pub cells: u32,
+    pub blocks: u32,
+    pub block: u32,
     pub seats: u32,
     pub fact: F,
 }
@@ -40,7 +43,7 @@ pub struct Look {
     pub found: LinkedList<Linked>,
 }
 
-/// A cell, a number from 0, that was drawn and is not linked yet, and what was stored in its words. No value of it is made.
+/// A cell, a number from 0, that is filled and not linked yet, and what was stored in its words. No value of it is made.
 pub struct Filling {
     pub cell: u32,
     /// The word with the name of the next cell and the position.
@@ -52,10 +55,18 @@ pub struct Filling {
 pub struct View<F> {
     pub n: u32,
     pub cells: u32,
+    /// How many cells a block has.
+    pub block: u32,
     /// How many seats the pool has.
     pub all: u32,
     pub fact: Option<F>,
-    /// The cell that it drew and has not linked yet.
+    /// The blocks, numbers from 0, that it drew, with those of the seats that were joined into it.
+    pub blocks: LinkedList<u32>,
+    /// The cells of its last block that it has not opened yet.
+    pub reserve: LinkedList<u32>,
+    /// The cells that were left to the seats that were joined into it, which nobody uses.
+    pub spare: LinkedList<u32>,
+    /// The cell that it has opened and not linked yet.
     pub filling: Option<Filling>,
     /// The cells that it linked, and those of the seats that were joined into it.
     pub puts: LinkedList<Put>,
@@ -63,7 +74,8 @@ pub struct View<F> {
     pub looks: LinkedList<Look>,
     /// The chain of a node as its own visit found it or its own put left it, newest first. A join adds none.
     pub marks: LinkedList<Look>,
-    /// The number past the cells that it drew; or that of a seat from which it was split, or with which it was joined.
+    /// The number of a cell past the cells that it drew; or that of a seat from which it was split, or with which it was
+    /// joined.
     pub past: Option<u64>,
 }
 
@@ -77,7 +89,7 @@ impl<F: LinkFact> TableRule<(), SeatView<View<F>>, About<F>> for Law {
     ghost first = { first_view };
 }
 
-/// A cell is drawn, or a number past them.
+/// A block of cells is drawn, or a number past the blocks.
 pub struct Draws;
 
 impl<F: LinkFact> Play<(), SeatView<View<F>>> for Draws {
@@ -95,13 +107,13 @@ impl<F: LinkFact> Play<(), SeatView<View<F>>> for FillsNext {
     ghost then = { FilledNext };
 }
 
-/// A word of the open cell is filled: the distance.
-pub struct FillsDist;
+/// The first cell in reserve is opened: the distance is stored in its word.
+pub struct Opens;
 
-impl<F: LinkFact> Play<(), SeatView<View<F>>> for FillsDist {
-    ghost use Rattle.label_pool.specs.Steps.{FilledDist};
+impl<F: LinkFact> Play<(), SeatView<View<F>>> for Opens {
+    ghost use Rattle.label_pool.specs.Steps.{Opened};
 
-    ghost then = { FilledDist };
+    ghost then = { Opened };
 }
 
 /// The head of a node is loaded: a visit begins.
@@ -131,8 +143,8 @@ impl<F: LinkFact> Play<(), SeatView<View<F>>> for Reads {
     ghost then = { Read };
 }
 
-/// A split seat has drawn, put and seen nothing; a join puts together what both put and found, and keeps the marks of the
-/// one that stays.
+/// A split seat has drawn, put and seen nothing; a join puts together what both drew, put and found, and keeps the marks and
+/// the reserve of the one that stays.
 pub struct Handing;
 
 impl<F> Shares<View<F>> for Handing {

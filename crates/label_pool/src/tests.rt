@@ -67,6 +67,25 @@ fn one_cell_takes_one_entry(rt: HostRuntime) -> Result<(), Fail> {
     Ok(())
 }
 
+/// Two seats and two blocks of two cells: each draws one, so the second seat finds no cell for its third entry, though the first
+/// one has a cell left.
+#[test]
+fn a_block_is_for_one_seat_alone(rt: HostRuntime) -> Result<(), Fail> {
+    let (pool, mut one) = Pool::in_blocks(rt.alloc(), 1, 2, 2, 2, Anything)?;
+    let mut two = pool.split(&mut one, 0);
+    assert_eq!(rt; pool.put(&rt, &mut one, 1, entry(0)), PoolPut::Put);
+    assert_eq!(rt; pool.put(&rt, &mut two, 1, entry(1)), PoolPut::Put);
+    assert_eq!(rt; pool.put(&rt, &mut two, 1, entry(2)), PoolPut::Put);
+    assert_eq!(rt;
+        pool.put(&rt, &mut two, 1, entry(3)),
+        PoolPut::Full { cell: 4, cells: 4 }
+    );
+    assert_eq!(rt; pool.put(&rt, &mut one, 1, entry(4)), PoolPut::Put);
+    pool.join(&mut one, two);
+    assert_eq!(rt; pool.close(one)?.row(1).len(), 4);
+    Ok(())
+}
+
 #[test]
 fn a_pool_of_no_nodes_closes_empty(rt: HostRuntime) -> Result<(), Fail> {
     let (pool, seat) = Pool::new(rt.alloc(), 0, 1, 1, Anything)?;

@@ -1,11 +1,11 @@
-use Rattle.std.proofs.Common.{◌<◌, All, sym, ap, ◌∙◌, arith, subst}
+use Rattle.std.proofs.Common.{◌+◌, ◌<◌, All, sym, ap, ◌∙◌, arith, subst}
 use Rattle.std.specs.Prelude.{Contains}
 use mathlib.Core.Option.{none}
 use Rattle.atomic_table.specs.Table.{step, Allows}
 use Rattle.hub_index.specs.Views.{IsNode}
 use Rattle.label_pool.specs.Lawful.{IsLawful}
 use Rattle.std.proofs.lemmas.List.Elements.{All-push, Contains-push}
-use Rattle.label_pool.specs.Seats.{AreWithin}
+use Rattle.label_pool.specs.Seats.{AreWithin, HasReserve}
 use Rattle.label_pool.specs.Steps.{Found, IsFound}
 use Rattle.label_pool.specs.Chains.{first_cell}
 use Rattle.label_pool.proofs.Allowed.{finds_one}
@@ -42,7 +42,16 @@ pub invariant_of-seat : goal.invariant_of-seat
 invariant_of-seat g c =
     let i = c.seat.invariant in
     let t = told g (goal.at.invariant_of-seat g c).After-load-head in
-    (ap (λ v. v.seats) t.view ∙ i.0, i.1, ap (λ v. v.knows.filling) t.view ∙ i.2, t.slots ∙ i.3, subst AreWithin (sym (ap (λ v. v.knows) t.view)) (All-push (λ look. All (λ l. l.cell < c.seat.inside.seat.me.0.knows.cells) look.found) c.seat.inside.seat.me.0.knows.looks _ i.4 t.within))
+    let knows = sym (ap (λ v. v.knows) t.view) in
+    let has = i.5 in (
+      ap (λ v. v.seats) t.view ∙ i.0,
+      i.1,
+      ap (λ v. v.knows.filling) t.view ∙ i.2,
+      t.slots ∙ i.3,
+      subst AreWithin knows (All-push (λ look. All (λ l. l.cell < c.seat.inside.seat.me.0.knows.cells) look.found) c.seat.inside.seat.me.0.knows.looks _ i.4 t.within),
+      subst (λ v. HasReserve v c.seat.inside.next c.seat.inside.end) knows (record { reserve = has.reserve; ordered = has.ordered; most = has.most; within = has.within }),
+      subst (λ v. c.seat.inside.end < c.seat.inside.next + v.block) knows i.6,
+    )
 
 pub returns : goal.returns
 returns g c =
