@@ -8,4 +8,5 @@ pub mod Layouts
 pub mod SoundIndexes
 pub mod Steps
 pub mod PutAfter
-pub mod Pieces
+pub mod CutBytes
+pub mod RowRuns

@@ -1,5 +1,5 @@
 -- The bytes of an index, version 1 of the format. Numbers are big-endian.
-use Rattle.std.specs.Prelude.{ℕ, List, ◌∷◌, ◌++◌, length, sum_by, flat_map, codes}
+use Rattle.std.specs.Prelude.{ℕ, ◌-◌, List, ◌∷◌, ◌++◌, length, take, drop, sum_by, flat_map, codes}
 use Rattle.byteorder.specs.Endian.{big_bytes}
 use Rattle.walk_laws.specs.declared.entry.Entry.{Entry}
 
@@ -22,6 +22,14 @@ row_bytes row = word (length row) ++ flat_map entry_bytes row
 -- the letters, the version, and the number of nodes
 abbrev pub head_bytes : ℕ → List ℕ
 head_bytes n = letters ++ (1 ∷ word n)
+
+-- what stands before the rows: the head, and the nodes in ranked order
+abbrev pub before_rows : List ℕ → List ℕ
+before_rows at = head_bytes (length at) ++ flat_map word at
+
+-- the rows of the nodes after `from` up to `to`
+abbrev pub run_bytes : List (List Entry) → ℕ → ℕ → List ℕ
+run_bytes rows from to = flat_map row_bytes (take (to - from) (drop from rows))
 
 -- an index: the head, the nodes in ranked order, and the rows, node 1 first
 abbrev pub index_bytes : List ℕ → List (List Entry) → List ℕ

@@ -1,5 +1,5 @@
-ghost use Rattle.std.specs.Prelude.{◌≡◌, ℕ, ◌^◌, ◌<◌, ◌++◌, length, flat_map, IfOk, OnOk};
-ghost use Rattle.index_file.specs.Layout.{index_bytes, entry_bytes, row_bytes, word};
+ghost use Rattle.std.specs.Prelude.{◌≡◌, ℕ, ◌+◌, ◌*◌, ◌^◌, ◌<◌, ◌≤◌, ◌++◌, length, flat_map, IfOk, OnOk};
+ghost use Rattle.index_file.specs.Layout.{before_rows, index_bytes, entry_bytes, row_bytes, run_bytes, word};
 
 use byteorder::{BigEndian, ByteOrder};
 use hub_index::Index;
@@ -11,22 +11,57 @@ use walk_laws::Entry;
 pub fn encode(alloc: Global, index: &Index) -> Result<Vec<u8>, AllocError>
     ensures { IfOk result (λ bytes. bytes.items ≡ index_bytes index.now.order index.now.rows) }
 {
-    let mut out = Vec::with_capacity(alloc, size_of(index))?;
+    let n = index.n();
+    let mut out = head_of(alloc, index, rows_size(index, 0, n))?;
+    push_rows(&mut out, index, 0, n)?;
+    Ok(out)
+}
+
+/// The bytes before the rows, in one buffer with room for so many more. The only error is that memory ran out.
+pub fn head_of(alloc: Global, index: &Index, room: usize) -> Result<Vec<u8>, AllocError>
+    requires { room + 2 ^ 40 ≤ 2 ^ 64 }
+    ensures { IfOk result (λ bytes. bytes.items ≡ before_rows index.now.order) }
+{
+    let mut out = Vec::with_capacity(alloc, 12 + 4 * index.n() as usize + room)?;
     out.extend_from_slice(b"CHLABEL")?;
     out.push(1)?;
     push_word(&mut out, index.n())?;
     push_order(&mut out, index)?;
-    push_rows(&mut out, index)?;
     Ok(out)
 }
 
-/// How many bytes the file of an index has: 12, 8 for a node, and 12 for an entry.
-fn size_of(index: &Index) -> usize {
-    let mut size = 12;
-    for v in 1..index.n() + 1 {
-        size += 8 + 12 * index.row(v).len();
+/// The bytes of the rows of the nodes after `from` up to `to`, in one buffer of their size. The only error is that memory
+/// ran out.
+pub fn rows_of(alloc: Global, index: &Index, from: u32, to: u32) -> Result<Vec<u8>, AllocError>
+    requires rising { from ≤ to }
+    requires within { to ≤ length index.now.order }
+    ensures { IfOk result (λ bytes. bytes.items ≡ run_bytes index.now.rows from to) }
+{
+    let mut out = Vec::with_capacity(alloc, rows_size(index, from, to))?;
+    push_rows(&mut out, index, from, to)?;
+    Ok(out)
+}
+
+/// How many bytes the rows of the nodes after `from` up to `to` have: 4 for a row, and 12 for an entry.
+fn rows_size(index: &Index, from: u32, to: u32) -> usize
+    requires rising { from ≤ to }
+    requires within { to ≤ length index.now.order }
+    ensures { result + 2 ^ 40 ≤ 2 ^ 64 }
+{
+    4 * (to - from) as usize + 12 * count_entries(index, from, to)
+}
+
+/// How many entries the rows of the nodes after `from` up to `to` have.
+pub fn count_entries(index: &Index, from: u32, to: u32) -> usize
+    requires rising { from ≤ to }
+    requires within { to ≤ length index.now.order }
+    ensures { result ≤ 2 ^ 60 }
+{
+    let mut entries = 0;
+    for p in from..to {
+        entries += index.row(p + 1).len();
     }
-    size
+    entries
 }
 
 /// Puts the nodes in ranked order at the end.
@@ -39,11 +74,13 @@ fn push_order(out: &mut Vec<u8>, index: &Index) -> Result<(), AllocError>
     Ok(())
 }
 
-/// Puts the rows at the end, node 1 first.
-fn push_rows(out: &mut Vec<u8>, index: &Index) -> Result<(), AllocError>
-    ensures { OnOk result (out.new.items ≡ out.old.items ++ flat_map row_bytes index.now.rows) }
+/// Puts the rows of the nodes after `from` up to `to` at the end.
+fn push_rows(out: &mut Vec<u8>, index: &Index, from: u32, to: u32) -> Result<(), AllocError>
+    requires rising { from ≤ to }
+    requires within { to ≤ length index.now.order }
+    ensures { OnOk result (out.new.items ≡ out.old.items ++ run_bytes index.now.rows from to) }
 {
-    for p in 0..index.n() {
+    for p in from..to {
         push_row(out, index.row(p + 1))?;
     }
     Ok(())

@@ -1,4 +1,5 @@
-use crate::{IndexFault, IndexReader, encode};
+use crate::runs::encode_many;
+use crate::{IndexFault, IndexReader, encode, encode_by};
 use desk_io::{Feed, Reader};
 use hub_index::{Entry, Index};
 use std::alloc::{AllocError, Global};
@@ -116,5 +117,44 @@ fn faults_are_printed_with_their_numbers(rt: HostRuntime) -> Result<(), Fail> {
     assert_eq!(rt; refusal(alloc, &[], 1)?.as_str(), "index: short 0");
     let none = IndexFault::NoMemory;
     assert_eq!(rt; format!(in alloc; "{none}")?.as_str(), "out of memory");
+    Ok(())
+}
+
+#[test]
+fn pieces_have_the_bytes_of_one(rt: HostRuntime) -> Result<(), Fail> {
+    let alloc = rt.alloc();
+    let index = read(alloc, &PATH, 200)?;
+    for (workers, count) in [(0, 0), (1, 0), (2, 2), (3, 3), (4, 4), (7, 7)] {
+        let pieces = encode_many(&rt, alloc, &index, workers, 0)?;
+        let (first, others) = pieces.list();
+        assert_eq!(rt; others.len(), count);
+        let mut bytes = Vec::from_slice(alloc, first)?;
+        for piece in others {
+            bytes.extend_from_slice(piece)?;
+        }
+        assert_eq!(rt; bytes.as_slice(), PATH.as_slice());
+    }
+    let whole = encode_by(&rt, alloc, &index, 4)?;
+    let (first, others) = whole.list();
+    assert_eq!(rt; first, PATH.as_slice());
+    assert!(rt; others.is_empty());
+    Ok(())
+}
+
+/// The path has five entries, and two rows of two at its ends.
+#[test]
+fn runs_have_about_equal_numbers_of_entries(rt: HostRuntime) -> Result<(), Fail> {
+    let alloc = rt.alloc();
+    let index = read(alloc, &PATH, 200)?;
+    let pieces = encode_many(&rt, alloc, &index, 2, 5)?;
+    let (first, others) = pieces.list();
+    assert_eq!(rt; first, &PATH[..24]);
+    assert_eq!(rt; others.len(), 2);
+    assert_eq!(rt; others[0].as_slice(), &PATH[24..52]);
+    assert_eq!(rt; others[1].as_slice(), &PATH[52..]);
+    let whole = encode_many(&rt, alloc, &index, 2, 6)?;
+    let (first, others) = whole.list();
+    assert_eq!(rt; first.len(), 96);
+    assert!(rt; others.is_empty());
     Ok(())
 }

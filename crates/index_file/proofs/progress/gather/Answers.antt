@@ -1,6 +1,4 @@
-use Rattle.std.proofs.Common.{◌≡◌, true, ap, ◌∙◌, ◌∷◌, ◌++◌, [], cond, arith}
-use Rattle.std.specs.Prelude.{not}
-use Rattle.std.specs.Result.{is_ok}
+use Rattle.std.proofs.Common.{◌≡◌, ◌∙◌, ◌∷◌, ◌++◌, [], arith}
 use Rattle.index_file.proofs.Sizes.{offset-le, width-le}
 use Rattle.index_file.proofs.Steps.{IsSound-gathered}
 use Rattle.index_file.proofs.progress.gather.Goals as goal

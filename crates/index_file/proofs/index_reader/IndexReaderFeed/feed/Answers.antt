@@ -1,7 +1,7 @@
 use Rattle.std.proofs.Common.{◌≡◌, ◌∙◌}
 use Rattle.index_file.specs.Judging.{fed}
 use Rattle.index_file.specs.Gives.{Gives}
-use Rattle.index_file.proofs.Pieces.{TakesPiece-gives_ok, TakesPiece-gives_err}
+use Rattle.index_file.proofs.CutBytes.{TakesPiece-gives_ok, TakesPiece-gives_err}
 use Rattle.index_file.proofs.index_reader.IndexReaderFeed.feed.Goals as goal
 use Rattle.index_file.proofs.index_reader.IndexReaderFeed.feed.Goals.{in-Ok, in-Err}
 
