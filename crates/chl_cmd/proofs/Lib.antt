@@ -1,4 +1,5 @@
 pub mod GivenFiles
+pub mod PiecesWritten
 pub mod OneCommand
 pub mod PairAnswers
 pub mod Decisions

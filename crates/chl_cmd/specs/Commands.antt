@@ -1,6 +1,6 @@
 -- The commands: what each reads and works out in turn, and where its bytes go. A new command is a stage and a case of
 -- `command_of`.
-use Rattle.std.specs.Prelude.{◌≡◌, ℕ, ◌*◌, List, [], ◌∷◌, ◌++◌, ◌==◌, Bool, true, false, length, codes, Option, Some, None, Result, Ok, Err, Vec}
+use Rattle.std.specs.Prelude.{◌≡◌, ℕ, ◌*◌, List, [], ◌∷◌, ◌++◌, ◌==◌, Bool, true, false, length, codes, Option, Some, None, Result, Ok, Err}
 use Rattle.std.specs.List.{AllZip}
 use Rattle.std.specs.Option.{option_or}
 use Rattle.desk_io.specs.Contents.{Files}
@@ -180,8 +180,3 @@ place_of asked = (command_of asked).place
 -- what the files decide of a command: the bytes that it gives, or why it gives none
 abbrev pub Decides : Asked → Files → Result (List ℕ) Stop → Type 0
 Decides asked files answer = Decided (stage_of asked) files answer
-
--- the bytes of an answer
-abbrev pub bytes_of : {Z : Type 0} → Result (Vec ℕ Z) Stop → Result (List ℕ) Stop
-bytes_of (Ok bytes) = Ok bytes.items
-bytes_of (Err stop) = Err stop

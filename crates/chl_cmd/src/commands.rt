@@ -1,7 +1,7 @@
 ghost use Rattle.std.specs.Prelude.{◌≡◌};
 ghost use Rattle.std.specs.Option.{option_copied};
 ghost use Rattle.chl_inputs.specs.Stages.{Goes};
-ghost use Rattle.chl_cmd.specs.Commands.{bytes_of, place_of, stage_of};
+ghost use Rattle.chl_cmd.specs.Commands.{place_of, stage_of};
 ghost use Rattle.chl_words.specs.Asking.{IsWithinLimits};
 
 mod audit;
@@ -21,6 +21,7 @@ use chl_words::{Asked, Name};
 use degree::degree_output;
 use desk_io::{Desk, Gate};
 use grid::grid_text;
+use index_file::Pieces;
 use list::list_output;
 use path::path_output;
 use query::query_output;
@@ -36,9 +37,9 @@ pub fn output<R: Threads + Wait + Sync, D: Desk, G: Gate + Sync>(
     asked: &Asked,
     desk: &mut D,
     gate: &G,
-) -> Result<Vec<u8>, Stop>
+) -> Result<Pieces, Stop>
     requires { IsWithinLimits asked.now }
-    ensures { Goes D.Desk (stage_of asked.now) (bytes_of result) desk.old desk.new }
+    ensures { Goes D.Desk (stage_of asked.now) result desk.old desk.new }
 {
     match asked {
         Asked::List { graph, order } => list_output(rt, alloc, graph.text(), order.text(), desk),
@@ -107,7 +108,7 @@ pub fn output<R: Threads + Wait + Sync, D: Desk, G: Gate + Sync>(
             workers,
         } => {
             let text = grid_text(rt, alloc, *side, *seed, *workers, gate)?;
-            Ok(text)
+            Ok(Pieces::one(alloc, text))
         }
     }
 }

@@ -1,15 +1,17 @@
-ghost use Rattle.std.specs.Prelude.{◌≡◌, ◌≢◌, ℕ, Some, None, Err, OnOk, OnErr};
+ghost use Rattle.std.specs.Prelude.{◌≡◌, ◌≢◌, ℕ, take, Some, None, Err, IsTrue, OnOk, OnErr};
 ghost use Rattle.std.specs.Option.{option_copied};
 ghost use Rattle.desk_io.specs.Contents.{Tells, IsSteady};
 ghost use Rattle.desk_io.specs.Counts.{CountsFailure};
+ghost use Rattle.desk_io.specs.Takes.{Takes};
 ghost use Rattle.desk_io.specs.declared.desk.DeskFault.TheVariants.{Failed};
 ghost use Rattle.chl_cmd.specs.Outcome.{given, GivesPrefix};
 
 use chl_words::Name;
 use desk_io::{Desk, DeskFault, Out, write_all};
+use index_file::Pieces;
 
 /// Gives bytes: to the file of this name, which it creates, or to standard output.
-pub fn give<D: Desk>(desk: &mut D, out: Option<&Name>, bytes: &[u8]) -> Result<(), DeskFault>
+pub fn give<D: Desk>(desk: &mut D, out: Option<&Name>, bytes: &Pieces) -> Result<(), DeskFault>
     ensures ok { OnOk result (Tells (D.told desk.old) (D.told desk.new) (λ a b. b ≡ given (option_copied out.entry) bytes.now a)) }
     ensures err { OnErr result (Tells (D.told desk.old) (D.told desk.new) (GivesPrefix (option_copied out.entry) bytes.now)) }
     ensures steady { IsSteady (D.told desk.old) → result ≢ Err Failed }
@@ -24,7 +26,7 @@ pub fn give<D: Desk>(desk: &mut D, out: Option<&Name>, bytes: &[u8]) -> Result<(
 }
 
 /// Says the bytes.
-fn say<D: Desk>(desk: &mut D, bytes: &[u8]) -> Result<(), DeskFault>
+fn say<D: Desk>(desk: &mut D, bytes: &Pieces) -> Result<(), DeskFault>
     ensures ok { OnOk result (Tells (D.told desk.old) (D.told desk.new) (λ a b. b ≡ given None bytes.now a)) }
     ensures err { OnErr result (Tells (D.told desk.old) (D.told desk.new) (GivesPrefix None bytes.now)) }
     ensures steady { IsSteady (D.told desk.old) → result ≢ Err Failed }
@@ -32,11 +34,11 @@ fn say<D: Desk>(desk: &mut D, bytes: &[u8]) -> Result<(), DeskFault>
     ensures input_count { D.input_faults desk.new ≡ D.input_faults desk.old }
     ensures output_count { CountsFailure result (D.output_faults desk.old) (D.output_faults desk.new) }
 {
-    write_all(desk, Out::Said, bytes)
+    write_pieces(desk, Out::Said, bytes)
 }
 
 /// Creates the named file, and writes the bytes to it.
-fn write_file<D: Desk>(desk: &mut D, name: &Name, bytes: &[u8]) -> Result<(), DeskFault>
+fn write_file<D: Desk>(desk: &mut D, name: &Name, bytes: &Pieces) -> Result<(), DeskFault>
     ensures ok { OnOk result (Tells (D.told desk.old) (D.told desk.new) (λ a b. b ≡ given (Some name.now) bytes.now a)) }
     ensures err { OnErr result (Tells (D.told desk.old) (D.told desk.new) (GivesPrefix (Some name.now) bytes.now)) }
     ensures steady { IsSteady (D.told desk.old) → result ≢ Err Failed }
@@ -44,5 +46,23 @@ fn write_file<D: Desk>(desk: &mut D, name: &Name, bytes: &[u8]) -> Result<(), De
     ensures output_count { CountsFailure result (D.output_faults desk.old) (D.output_faults desk.new) }
 {
     desk.create(name.text())?;
-    write_all(desk, Out::File, bytes)
+    write_pieces(desk, Out::File, bytes)
+}
+
+/// Writes all bytes, or an error after a prefix of them.
+fn write_pieces<D: Desk>(desk: &mut D, out: Out, bytes: &Pieces) -> Result<(), DeskFault>
+    requires { out ≡ Out.File → IsTrue (D.is_created desk.old) }
+    ensures created { D.is_created desk.new ≡ D.is_created desk.old }
+    ensures ok { OnOk result (Tells (D.told desk.old) (D.told desk.new) (Takes out bytes.now)) }
+    ensures err { OnErr result (Tells (D.told desk.old) (D.told desk.new) (λ a b. (k : ℕ) × Takes out (take k bytes.now) a b)) }
+    ensures steady { IsSteady (D.told desk.old) → result ≢ Err Failed }
+    ensures input_count { D.input_faults desk.new ≡ D.input_faults desk.old }
+    ensures output_count { CountsFailure result (D.output_faults desk.old) (D.output_faults desk.new) }
+{
+    let (first, others) = bytes.list();
+    write_all(desk, out, first)?;
+    for piece in others {
+        write_all(desk, out, piece)?;
+    }
+    Ok(())
 }

@@ -3,12 +3,13 @@ ghost use Rattle.index_audit.specs.declared.answer.Audit.{Audit as AnyAudit};
 ghost use Rattle.index_audit.specs.Audited.{IsAuditOf};
 ghost use Rattle.chl_inputs.specs.Stages.{Goes};
 ghost use Rattle.chl_inputs.specs.declared.stop.Stop.TheVariants.{NoMemory};
-ghost use Rattle.chl_cmd.specs.Commands.{audit_stage, audit_text, bytes_of};
+ghost use Rattle.chl_cmd.specs.Commands.{audit_stage, audit_text};
 
 use chl_inputs::{Stop, read_graph, read_index, read_order};
 use desk_io::Desk;
 use hub_index::Index;
 use index_audit::{Audit, audit};
+use index_file::Pieces;
 use rank_table::Ranking;
 use std::alloc::Global;
 use walk_laws::Graph;
@@ -21,8 +22,8 @@ pub fn audit_output<D: Desk>(
     order: &str,
     index: &str,
     desk: &mut D,
-) -> Result<Vec<u8>, Stop>
-    ensures { Goes D.Desk (audit_stage graph.now order.now index.now) (bytes_of result) desk.old desk.new }
+) -> Result<Pieces, Stop>
+    ensures { Goes D.Desk (audit_stage graph.now order.now index.now) result desk.old desk.new }
 {
     let graph = read_graph(alloc, graph, desk)?;
     let ranking = read_order(alloc, order, graph.n(), desk)?;
@@ -31,13 +32,13 @@ pub fn audit_output<D: Desk>(
 }
 
 /// The line `same`, or what is wrong with the index.
-fn told(alloc: Global, graph: &Graph, ranking: &Ranking, index: &Index) -> Result<Vec<u8>, Stop>
+fn told(alloc: Global, graph: &Graph, ranking: &Ranking, index: &Index) -> Result<Pieces, Stop>
     requires { length ranking.now ≡ graph.now.n }
     ensures { (found : AnyAudit) × IsAuditOf graph.now ranking.now index.now found
-        × ((bytes_of result ≡ audit_text found) ⊎ (bytes_of result ≡ Err NoMemory)) }
+        × ((result ≡ audit_text found) ⊎ (result ≡ Err NoMemory)) }
 {
     match audit(graph, ranking, index) {
-        Audit::Same => Ok(Vec::from_slice(alloc, b"same\n")?),
+        Audit::Same => Ok(Pieces::one(alloc, Vec::from_slice(alloc, b"same\n")?)),
         fault => Err(Stop::Differs(fault)),
     }
 }

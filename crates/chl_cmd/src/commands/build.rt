@@ -4,14 +4,14 @@ ghost use Rattle.walk_laws.specs.declared.entry.Entry.{Entry as AnyEntry};
 ghost use Rattle.walk_laws.specs.Joined.{Joined};
 ghost use Rattle.walk_laws.specs.Labelling.{IsChl};
 ghost use Rattle.chl_inputs.specs.Stages.{Goes};
-ghost use Rattle.chl_cmd.specs.Commands.{build_stage, bytes_of};
+ghost use Rattle.chl_cmd.specs.Commands.{build_stage};
 ghost use Rattle.chl_words.specs.Asking.{AreWithinLimits};
 
 use crate::construction::Construction;
 use crate::labelling::labelling;
 use chl_inputs::{Stop, read_graph, read_order};
 use desk_io::{Desk, Gate};
-use index_file::encode;
+use index_file::{Pieces, encode_by};
 use rank_table::Ranking;
 use std::alloc::{AllocError, Global};
 use std::sync::Wait;
@@ -27,9 +27,9 @@ pub fn build_output<R: Threads + Wait + Sync, D: Desk, G: Gate + Sync>(
     construction: Construction,
     desk: &mut D,
     gate: &G,
-) -> Result<Vec<u8>, Stop>
+) -> Result<Pieces, Stop>
     requires { AreWithinLimits construction.workers construction.cut }
-    ensures { Goes D.Desk (build_stage graph.now order.now) (bytes_of result) desk.old desk.new }
+    ensures { Goes D.Desk (build_stage graph.now order.now) result desk.old desk.new }
 {
     let graph = read_graph(alloc, graph, desk)?;
     let ranking = read_order(alloc, order, graph.n(), desk)?;
@@ -45,12 +45,12 @@ fn file_bytes<R: Threads + Wait + Sync, G: Gate + Sync>(
     ranking: &Ranking,
     construction: Construction,
     gate: &G,
-) -> Result<Vec<u8>, AllocError>
+) -> Result<Pieces, AllocError>
     requires size { length ranking.now ≡ graph.now.n }
     requires limits { AreWithinLimits construction.workers construction.cut }
     ensures { IfOk result (λ bytes. (rows : List (List AnyEntry)) × IsChl (Joined graph.now.edges) ranking.now rows
-        × (bytes.items ≡ index_bytes ranking.now rows)) }
+        × (bytes ≡ index_bytes ranking.now rows)) }
 {
     let index = labelling(rt, alloc, graph, ranking, construction, gate)?;
-    encode(alloc, &index)
+    encode_by(rt, alloc, &index, construction.workers)
 }

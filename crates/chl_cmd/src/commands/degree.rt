@@ -2,22 +2,23 @@ ghost use Rattle.std.specs.Prelude.{◌≡◌, ℕ, List, IfOk};
 ghost use Rattle.rank_table.specs.ByDegree.{IsByDegree};
 ghost use Rattle.chl_inputs.specs.Stages.{Goes};
 ghost use Rattle.chl_lines.specs.PrintedOrders.{order_lines as lines_of_nodes};
-ghost use Rattle.chl_cmd.specs.Commands.{bytes_of, degree_stage};
+ghost use Rattle.chl_cmd.specs.Commands.{degree_stage};
 
 use chl_inputs::{Stop, read_graph};
 use chl_lines::order_lines;
 use desk_io::Desk;
+use index_file::Pieces;
 use rank_table::by_degree;
 use std::alloc::{AllocError, Global};
 use walk_laws::Graph;
 
 /// The order text of the nodes of a graph by falling degree.
-pub fn degree_output<D: Desk>(alloc: Global, graph: &str, desk: &mut D) -> Result<Vec<u8>, Stop>
-    ensures { Goes D.Desk (degree_stage graph.now) (bytes_of result) desk.old desk.new }
+pub fn degree_output<D: Desk>(alloc: Global, graph: &str, desk: &mut D) -> Result<Pieces, Stop>
+    ensures { Goes D.Desk (degree_stage graph.now) result desk.old desk.new }
 {
     let graph = read_graph(alloc, graph, desk)?;
     let text = nodes_text(alloc, &graph)?;
-    Ok(text)
+    Ok(Pieces::one(alloc, text))
 }
 
 /// The order text of the nodes.

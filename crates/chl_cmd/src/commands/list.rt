@@ -4,7 +4,7 @@ ghost use Rattle.walk_laws.specs.Joined.{Joined};
 ghost use Rattle.walk_laws.specs.Labelling.{IsChl};
 ghost use Rattle.chl_inputs.specs.Stages.{Goes};
 ghost use Rattle.chl_lines.specs.PrintedRows.{lines_from};
-ghost use Rattle.chl_cmd.specs.Commands.{bytes_of, list_stage};
+ghost use Rattle.chl_cmd.specs.Commands.{list_stage};
 
 use crate::construction::Construction;
 use crate::labelling::labelling;
@@ -12,6 +12,7 @@ use chl_inputs::{Stop, read_graph, read_order};
 use chl_lines::row_lines;
 use chl_words::By;
 use desk_io::{Desk, FreeGate};
+use index_file::Pieces;
 use rank_table::Ranking;
 use std::alloc::{AllocError, Global};
 use std::sync::Wait;
@@ -25,13 +26,13 @@ pub fn list_output<R: Threads + Wait + Sync, D: Desk>(
     graph: &str,
     order: &str,
     desk: &mut D,
-) -> Result<Vec<u8>, Stop>
-    ensures { Goes D.Desk (list_stage graph.now order.now) (bytes_of result) desk.old desk.new }
+) -> Result<Pieces, Stop>
+    ensures { Goes D.Desk (list_stage graph.now order.now) result desk.old desk.new }
 {
     let graph = read_graph(alloc, graph, desk)?;
     let ranking = read_order(alloc, order, graph.n(), desk)?;
     let text = rows_text(rt, alloc, &graph, &ranking)?;
-    Ok(text)
+    Ok(Pieces::one(alloc, text))
 }
 
 /// The lines of the rows.

@@ -6,7 +6,7 @@ ghost use Rattle.walk_laws.specs.Graph.{IsGraph};
 ghost use Rattle.chl_inputs.specs.Inputs.{ArePairsWithin};
 ghost use Rattle.chl_inputs.specs.Stages.{Goes};
 ghost use Rattle.chl_inputs.specs.declared.stop.Stop.TheVariants.{NoMemory};
-ghost use Rattle.chl_cmd.specs.Commands.{AreAnswers, bytes_of, first_stop, path_stage, stop_at};
+ghost use Rattle.chl_cmd.specs.Commands.{AreAnswers, first_stop, path_stage, stop_at};
 
 use chl_inputs::{NotOf, Stop, read_graph, read_index, read_pairs};
 use chl_lines::walk_lines;
@@ -14,6 +14,7 @@ use desk_io::Desk;
 use dimacs_text::Pairs;
 use hub_index::Index;
 use hub_query::{Path, path};
+use index_file::Pieces;
 use std::alloc::Global;
 use walk_laws::Graph;
 
@@ -25,8 +26,8 @@ pub fn path_output<D: Desk>(
     index: &str,
     pairs: &str,
     desk: &mut D,
-) -> Result<Vec<u8>, Stop>
-    ensures { Goes D.Desk (path_stage graph.now index.now pairs.now) (bytes_of result) desk.old desk.new }
+) -> Result<Pieces, Stop>
+    ensures { Goes D.Desk (path_stage graph.now index.now pairs.now) result desk.old desk.new }
 {
     let graph = read_graph(alloc, graph, desk)?;
     let index = read_index(alloc, index, desk)?;
@@ -39,7 +40,7 @@ pub fn path_output<D: Desk>(
     let pairs = read_pairs(alloc, pairs, index.n(), desk)?;
     let walks = walks_of(alloc, &graph, &index, &pairs)?;
     let text = walk_lines(alloc, pairs.list(), &walks)?;
-    Ok(text)
+    Ok(Pieces::one(alloc, text))
 }
 
 /// The walks of the pairs, or the first one that is stuck.

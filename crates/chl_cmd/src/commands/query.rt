@@ -3,7 +3,7 @@ ghost use Rattle.walk_laws.specs.Meet.{IsMeet};
 ghost use Rattle.chl_inputs.specs.Inputs.{ArePairsWithin};
 ghost use Rattle.chl_inputs.specs.Stages.{Goes};
 ghost use Rattle.chl_lines.specs.PrintedAnswers.{answer_lines as lines_of_answers};
-ghost use Rattle.chl_cmd.specs.Commands.{AreAnswers, bytes_of, query_stage};
+ghost use Rattle.chl_cmd.specs.Commands.{AreAnswers, query_stage};
 
 use chl_inputs::{Stop, read_index, read_pairs};
 use chl_lines::answer_lines;
@@ -11,6 +11,7 @@ use desk_io::Desk;
 use dimacs_text::Pairs;
 use hub_index::Index;
 use hub_query::ask_all;
+use index_file::Pieces;
 use std::alloc::{AllocError, Global};
 use std::thread::Threads;
 
@@ -22,13 +23,13 @@ pub fn query_output<R: Threads + Sync, D: Desk>(
     index: &str,
     pairs: &str,
     desk: &mut D,
-) -> Result<Vec<u8>, Stop>
-    ensures { Goes D.Desk (query_stage index.now pairs.now) (bytes_of result) desk.old desk.new }
+) -> Result<Pieces, Stop>
+    ensures { Goes D.Desk (query_stage index.now pairs.now) result desk.old desk.new }
 {
     let index = read_index(alloc, index, desk)?;
     let pairs = read_pairs(alloc, pairs, index.n(), desk)?;
     let text = replies_text(rt, alloc, &index, &pairs)?;
-    Ok(text)
+    Ok(Pieces::one(alloc, text))
 }
 
 /// The lines of what the rows say of the pairs.

@@ -6,7 +6,7 @@ ghost use Rattle.walk_laws.specs.Ranking.{IsRanking};
 ghost use Rattle.chl_inputs.specs.Inputs.{ArePairsWithin};
 ghost use Rattle.chl_inputs.specs.Stages.{Goes};
 ghost use Rattle.chl_lines.specs.PrintedAnswers.{answer_lines as lines_of_answers};
-ghost use Rattle.chl_cmd.specs.Commands.{AreAnswers, bytes_of, solve_stage};
+ghost use Rattle.chl_cmd.specs.Commands.{AreAnswers, solve_stage};
 ghost use Rattle.chl_words.specs.Asking.{AreWithinLimits};
 
 use super::query::replies_text;
@@ -15,6 +15,7 @@ use crate::labelling::labelling;
 use chl_inputs::{Stop, read_graph, read_order, read_pairs};
 use desk_io::{Desk, Gate};
 use dimacs_text::Pairs;
+use index_file::Pieces;
 use rank_table::Ranking;
 use std::alloc::{AllocError, Global};
 use std::sync::Wait;
@@ -31,15 +32,15 @@ pub fn solve_output<R: Threads + Wait + Sync, D: Desk, G: Gate + Sync>(
     construction: Construction,
     desk: &mut D,
     gate: &G,
-) -> Result<Vec<u8>, Stop>
+) -> Result<Pieces, Stop>
     requires { AreWithinLimits construction.workers construction.cut }
-    ensures { Goes D.Desk (solve_stage graph.now order.now pairs.now) (bytes_of result) desk.old desk.new }
+    ensures { Goes D.Desk (solve_stage graph.now order.now pairs.now) result desk.old desk.new }
 {
     let graph = read_graph(alloc, graph, desk)?;
     let ranking = read_order(alloc, order, graph.n(), desk)?;
     let pairs = read_pairs(alloc, pairs, graph.n(), desk)?;
     let text = answers_text(rt, alloc, &graph, &ranking, &pairs, construction, gate)?;
-    Ok(text)
+    Ok(Pieces::one(alloc, text))
 }
 
 /// The lines of the answers, by the rows of the graph's labelling.

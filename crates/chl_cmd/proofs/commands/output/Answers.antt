@@ -1,5 +1,5 @@
 use Rattle.std.specs.Prelude.{Ok}
-use Rattle.std.proofs.Common.{ap, refl}
+use Rattle.std.proofs.Common.{ap, refl, ◌∙◌}
 use Rattle.std.proofs.lemmas.Result.{err_from_is_err_and}
 use Rattle.chl_inputs.proofs.StagesInTurn.{goes_comes, goes_lost, goes_works}
 use Rattle.chl_cmd.proofs.commands.output.Goals as goal
@@ -40,4 +40,4 @@ returns-in_err-text-in-Grid g c =
 pub returns-in_ok-text-in-Grid : goal.returns-in_ok-text-in-Grid
 returns-in_ok-text-in-Grid g c =
     let text = c.in_ok-text-in-Grid.ensures in
-    rw c.in-Grid.is (goes_works text.0 text.1 (goes_works text.2.0 text.2.1 (goes_comes (ap Ok text.2.2) tt refl)))
+    rw c.in-Grid.is (goes_works text.0 text.1 (goes_works text.2.0 text.2.1 (goes_comes (ap Ok (c.one.ensures ∙ text.2.2)) tt refl)))

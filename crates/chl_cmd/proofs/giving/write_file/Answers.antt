@@ -4,8 +4,8 @@ use Rattle.chl_cmd.proofs.giving.write_file.Goals as goal
 
 pub returns-clause-ok : goal.returns-clause-ok
 returns-clause-ok g c =
-    on_ok_weaker c.write_all.result (whole_file _ _ _ c.text.ensures _ _ _ c.in_ok-create.ensures.empty) c.write_all.ensures.ok
+    on_ok_weaker c.write_pieces.result (whole_file _ _ _ c.text.ensures _ _ _ c.in_ok-create.ensures.empty) c.write_pieces.ensures.ok
 
 pub returns-clause-err : goal.returns-clause-err
 returns-clause-err g c =
-    on_err_weaker c.write_all.result (part_of_file _ _ _ c.text.ensures _ _ _ c.in_ok-create.ensures.empty) c.write_all.ensures.err
+    on_err_weaker c.write_pieces.result (part_of_file _ _ _ c.text.ensures _ _ _ c.in_ok-create.ensures.empty) c.write_pieces.ensures.err

@@ -1,6 +1,5 @@
 use Rattle.std.proofs.Common.{◌≡◌, ◌∙◌, ap, subst, sym}
 use Rattle.std.specs.Prelude.{Err}
-use Rattle.std.specs.Option.{option_copied}
 use Rattle.desk_io.specs.Contents.{Tells}
 use Rattle.chl_cmd.specs.Outcome.{given, GivesPrefix, Runs}
 use Rattle.chl_cmd.proofs.WaysToEnd.{runs_done, runs_failed, runs_lost, runs_stopped}
@@ -9,23 +8,20 @@ use Rattle.chl_cmd.proofs.running.carry_out.Goals as goal
 pub returns-in-Ok-give-clause-runs : goal.returns-in-Ok-give-clause-runs
 returns-in-Ok-give-clause-runs g c =
     let gave = c.in-Ok-give.ensures in
-    let bytes = subst (λ bs. Tells (g.D.Desk.told c.output.new.desk) (g.D.Desk.told c.give.new.desk) (λ a b. b ≡ given (option_copied c.out_file.result) bs a)) c.deref.ensures.value gave.ok in
-    let all = subst (λ p. Tells (g.D.Desk.told c.output.new.desk) (g.D.Desk.told c.give.new.desk) (λ a b. b ≡ given p c.in-Ok.bytes.items a)) c.out_file.ensures bytes in
+    let all = subst (λ p. Tells (g.D.Desk.told c.output.new.desk) (g.D.Desk.told c.give.new.desk) (λ a b. b ≡ given p c.in-Ok.bytes a)) c.out_file.ensures gave.ok in
     runs_done c.args.asked.now c.in-Ok.ensures (λ none. gave.no_place (c.out_file.ensures ∙ none)) gave.input_count all gave.output_count
 
 pub returns-in-Err-Failed-clause-runs : goal.returns-in-Err-Failed-clause-runs
 returns-in-Err-Failed-clause-runs g c =
     let gave = c.in-Err-Failed.ensures in
-    let bytes = subst (λ bs. Tells (g.D.Desk.told c.output.new.desk) (g.D.Desk.told c.give.new.desk) (GivesPrefix (option_copied c.out_file.result) bs)) c.deref.ensures.value gave.err in
-    let prefix = subst (λ p. Tells (g.D.Desk.told c.output.new.desk) (g.D.Desk.told c.give.new.desk) (GivesPrefix p c.in-Ok.bytes.items)) c.out_file.ensures bytes in
+    let prefix = subst (λ p. Tells (g.D.Desk.told c.output.new.desk) (g.D.Desk.told c.give.new.desk) (GivesPrefix p c.in-Ok.bytes)) c.out_file.ensures gave.err in
     runs_failed c.args.asked.now c.in-Ok.ensures (λ none. gave.no_place (c.out_file.ensures ∙ none)) gave.input_count prefix
     (λ steady. gave.steady steady (ap Err c.in-Err-Failed.field-0-is)) (rw c.in-Err-Failed.field-0-is at gave.output_count)
 
 pub returns-in-Ok-clause-runs : goal.returns-in-Ok-clause-runs
 returns-in-Ok-clause-runs g c =
     let gave = c.in-Err-NoMemory.ensures in
-    let bytes = subst (λ bs. Tells (g.D.Desk.told c.output.new.desk) (g.D.Desk.told c.give.new.desk) (GivesPrefix (option_copied c.out_file.result) bs)) c.deref.ensures.value gave.err in
-    let prefix = subst (λ p. Tells (g.D.Desk.told c.output.new.desk) (g.D.Desk.told c.give.new.desk) (GivesPrefix p c.in-Ok.bytes.items)) c.out_file.ensures bytes in
+    let prefix = subst (λ p. Tells (g.D.Desk.told c.output.new.desk) (g.D.Desk.told c.give.new.desk) (GivesPrefix p c.in-Ok.bytes)) c.out_file.ensures gave.err in
     runs_lost c.args.asked.now c.in-Ok.ensures (λ none. gave.no_place (c.out_file.ensures ∙ none)) gave.input_count prefix (rw c.in-Err-NoMemory.field-0-is at gave.output_count)
 
 pub returns-clause-runs : goal.returns-clause-runs

@@ -4,8 +4,8 @@ use Rattle.index_file.specs.Layout.{index_bytes}
 use Rattle.chl_cmd.proofs.commands.build.file_bytes.Goals as goal
 
 pub returns : goal.returns
-returns g c = IfOk-weaker c.encode.result _ _ (λ bytes is. (
+returns g c = IfOk-weaker c.encode_by.result _ _ (λ bytes is. (
   c.in_ok-index.index.rows,
   c.in_ok-index.ensures.labelling,
   is ∙ ap (λ at. index_bytes at c.in_ok-index.index.rows) c.in_ok-index.ensures.order,
-)) c.encode.ensures
+)) c.encode_by.ensures

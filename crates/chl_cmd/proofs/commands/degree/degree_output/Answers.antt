@@ -1,5 +1,5 @@
 use Rattle.std.specs.Prelude.{Ok}
-use Rattle.std.proofs.Common.{ap, refl}
+use Rattle.std.proofs.Common.{ap, refl, ◌∙◌}
 use Rattle.std.proofs.lemmas.Result.{err_from_is_err_and}
 use Rattle.chl_inputs.proofs.StagesInTurn.{goes_comes, goes_lost, goes_reads, goes_reads_stop, goes_works}
 use Rattle.chl_cmd.proofs.commands.degree.degree_output.Goals as goal
@@ -16,4 +16,4 @@ returns-in_err-text g c =
 
 pub returns : goal.returns
 returns g c =
-    goes_reads c.in_ok-graph.ensures (goes_works c.in_ok-text.ensures.0 c.in_ok-text.ensures.1 (goes_comes (ap Ok c.in_ok-text.ensures.2) tt refl))
+    goes_reads c.in_ok-graph.ensures (goes_works c.in_ok-text.ensures.0 c.in_ok-text.ensures.1 (goes_comes (ap Ok (c.one.ensures ∙ c.in_ok-text.ensures.2)) tt refl))

@@ -1,5 +1,4 @@
 use Rattle.std.proofs.Common.{ap₂}
-use Rattle.grid_work.specs.declared.totals.Totals.{Totals}
 use Rattle.chl_cmd.proofs.commands.grid.totals_by.Goals as goal
 
 pub labelling-requires-clause-size : goal.labelling-requires-clause-size

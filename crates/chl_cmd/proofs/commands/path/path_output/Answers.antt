@@ -1,3 +1,4 @@
+use Rattle.std.proofs.Common.{◌∙◌}
 use Rattle.std.proofs.lemmas.Result.{err_from_is_err_and}
 use Rattle.std.proofs.lemmas.Slice.Zip.{AllZip-long}
 use Rattle.chl_inputs.proofs.StagesInTurn.{goes_lost, goes_reads, goes_reads_stop}
@@ -44,4 +45,4 @@ pub returns : goal.returns
 returns g c =
     goes_reads c.in_ok-graph.ensures (goes_reads c.in_ok-index.ensures (goes_sized _ _ _ (rw (c.n.ensures.value, c.n-2.ensures.value) at c.if-n.false)
     (goes_reads (rw c.n-3.ensures.value at c.in_ok-pairs.ensures.goes)
-    (goes_walked _ _ _ c.in_ok-walks.walks.items c.in_ok-text.text.items c.in_ok-walks.ensures.ok.0 c.in_ok-walks.ensures.ok.1 (rw (c.list.ensures, c.deref.ensures.value) at c.in_ok-text.ensures)))))
+    (goes_walked _ _ _ c.in_ok-walks.walks.items c.one.result c.in_ok-walks.ensures.ok.0 c.in_ok-walks.ensures.ok.1 (c.one.ensures ∙ (rw (c.list.ensures, c.deref.ensures.value) at c.in_ok-text.ensures))))))
