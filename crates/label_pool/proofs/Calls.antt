@@ -11,8 +11,8 @@ use Rattle.label_pool.specs.declared.rule.Linked.{Linked}
 use Rattle.label_pool.specs.declared.rule.View.{View}
 use Rattle.label_pool.specs.Chains.{IsTailOf, seen_of}
 use Rattle.label_pool.specs.Fillings.{block_cells, linked_of, with_next}
-use Rattle.label_pool.specs.Seats.{PoolId, Seated, seated, IsMet, HasFound, HasPut}
-use Rattle.label_pool.specs.Steps.{with_drawn, with_filling, with_look, with_link}
+use Rattle.label_pool.specs.Seats.{PoolId, Seated, seated, IsMet, HasFound, HasPut, HasTaken}
+use Rattle.label_pool.specs.Steps.{with_drawn, with_look, with_link}
 
 -- the name of a next cell that was stored before counts no more
 pub next-again : (x y : Option ℕ) (o : Option Filling) → with_next x (with_next y o) ≡ with_next x o
@@ -37,14 +37,17 @@ module _ {F : Type 0} where
       after_is = (λ k. seated (same k) left (after_is k).knows) ∙ ap (λ (b : Seated F). record b { looks = b.looks ++ record { node = v; found = found } ∷ []; marks = record { node = v; found = found } ∷ b.marks }) is;
     }
 
-    pub has-put : (v : ℕ) (e : Entry) (cell : ℕ) (older : List Linked) → IsTailOf (seen_of me.knows.marks v) older → (filling : Option Filling) → linked_of filling ≡ record { cell = cell; entry = e }
-        → after ≡ knowing me (with_link (with_filling me.knows filling) v older) → HasPut before v e (seated id' left after.knows)
-    has-put v e cell older goes_on filling linked after_is = record {
+    pub has-put : (v : ℕ) (e : Entry) (cell : ℕ) (blocks reserve : List ℕ) → HasTaken me.knows.block me.knows.blocks me.knows.reserve cell blocks reserve → (older : List Linked) → IsTailOf (seen_of me.knows.marks v) older → (filling : Option Filling) → linked_of filling ≡ record { cell = cell; entry = e }
+        → after ≡ knowing me (with_link (record me.knows { blocks = blocks; reserve = reserve; filling = filling }) v older) → HasPut before v e (seated id' left after.knows)
+    has-put v e cell blocks reserve took older goes_on filling linked after_is = record {
       cell = cell;
+      blocks = blocks;
+      reserve = reserve;
+      took = subst (λ (b : Seated F). HasTaken b.pool.block b.blocks b.reserve cell blocks reserve) is took;
       older = older;
       goes_on = subst (λ marks. IsTailOf (seen_of marks v) older) (ap (λ b. b.marks) is) goes_on;
       after_is =
           (λ k. seated (same k) left (after_is k).knows)
-          ∙ ap (λ (l : Linked). seated id left (record me.knows { filling = None; puts = me.knows.puts ++ record { node = v; linked = l } ∷ []; marks = record { node = v; found = l ∷ older } ∷ me.knows.marks })) linked
-          ∙ ap (λ (b : Seated F). record b { puts = b.puts ++ record { node = v; linked = record { cell = cell; entry = e } } ∷ []; marks = record { node = v; found = record { cell = cell; entry = e } ∷ older } ∷ b.marks }) is;
+          ∙ ap (λ (l : Linked). seated id left (record me.knows { blocks = blocks; reserve = reserve; filling = None; puts = me.knows.puts ++ record { node = v; linked = l } ∷ []; marks = record { node = v; found = l ∷ older } ∷ me.knows.marks })) linked
+          ∙ ap (λ (b : Seated F). record b { blocks = blocks; reserve = reserve; puts = b.puts ++ record { node = v; linked = record { cell = cell; entry = e } } ∷ []; marks = record { node = v; found = record { cell = cell; entry = e } ∷ older } ∷ b.marks }) is;
     }

@@ -1,5 +1,5 @@
 -- What contracts see of pools and of their seats.
-use Rattle.std.specs.Prelude.{◌≡◌, ℕ, ◌+◌, ◌<◌, ◌≤◌, Option, Some, None, List, [], ◌∷◌, ◌++◌, All, length}
+use Rattle.std.specs.Prelude.{◌≡◌, ◌⊎◌, ℕ, ◌+◌, ◌<◌, ◌≤◌, Option, Some, None, List, [], ◌∷◌, ◌++◌, All, length}
 use Rattle.atomic_table.specs.Seated.{TableId}
 use Rattle.walk_laws.specs.declared.entry.Entry.{Entry}
 use Rattle.table_seats.specs.Numbers.{numbers}
@@ -10,6 +10,7 @@ use Rattle.label_pool.specs.declared.rule.Look.{Look}
 use Rattle.label_pool.specs.declared.rule.Put.{Put}
 use Rattle.label_pool.specs.declared.rule.View.{View}
 use Rattle.label_pool.specs.Chains.{IsTailOf, seen_of}
+use Rattle.label_pool.specs.Fillings.{block_cells}
 
 -- A pool: its table, which no others have, how many nodes, cells and seats there are, how many cells are drawn at once, and the value of the fact that its entries meet
 pub record PoolId (F : Type 0) : Type 0 where
@@ -20,14 +21,22 @@ pub record PoolId (F : Type 0) : Type 0 where
   pub seats : ℕ
   pub fact : Option F
 
--- A seat: whose it is, how many seats may still be split from it, what it put and what it found, both with those of the seats that were joined into it, what it saw by itself, newest first, and the number past the cells that it drew
+-- A seat: whose it is, how many seats may still be split from it, the blocks that it drew and the cells of its last one that it has in reserve, the cells that nobody uses, what it put and what it found, both with those of the seats that were joined into it, what it saw by itself, newest first, and the number past the cells that it drew
 pub record Seated (F : Type 0) : Type 0 where
   pub pool : PoolId F
   pub left : ℕ
+  pub blocks : List ℕ
+  pub reserve : List ℕ
+  pub spare : List ℕ
   pub puts : List Put
   pub looks : List Look
   pub marks : List Look
   pub past : Option ℕ
+
+-- A cell was taken: the first in reserve; or where none was, the first of one block more, the others of which are in reserve then
+abbrev pub HasTaken : ℕ → List ℕ → List ℕ → ℕ → List ℕ → List ℕ → Type 0
+HasTaken size blocks reserve cell blocks_after reserve_after =
+    ((reserve ≡ cell ∷ reserve_after) × (blocks_after ≡ blocks)) ⊎ ((reserve ≡ []) × ((block : ℕ) × (blocks_after ≡ blocks ++ block ∷ []) × (block_cells size block ≡ cell ∷ reserve_after)))
 
 module _ {F : Type 0} where
   -- the pool that a seat knows, of a table
@@ -35,7 +44,7 @@ module _ {F : Type 0} where
   pool_id id v = record { table = id; n = v.n; cells = v.cells; block = v.block; seats = v.all; fact = v.fact }
 
   abbrev pub seated : TableId → ℕ → View F → Seated F
-  seated id left v = record { pool = pool_id id v; left = left; puts = v.puts; looks = v.looks; marks = v.marks; past = v.past }
+  seated id left v = record { pool = pool_id id v; left = left; blocks = v.blocks; reserve = v.reserve; spare = v.spare; puts = v.puts; looks = v.looks; marks = v.marks; past = v.past }
 
   -- the cells that a seat has found are cells of its pool
   abbrev pub AreWithin : View F → Type 0
@@ -57,12 +66,15 @@ module _ {F : Type 0} where
   IsMet fact None v e = ⊥
   IsMet fact (Some value) v e = fact value v e
 
-  -- The seat put the entry at the node v: the chain that it saw by that has its cell first, then what others put meanwhile, and what it had seen before at the end
+  -- The seat put the entry at the node v, in a cell that it took: the chain that it saw by that has its cell first, then what others put meanwhile, and what it had seen before at the end
   pub record HasPut (before : Seated F) (v : ℕ) (e : Entry) (after : Seated F) : Type 0 where
     pub cell : ℕ
+    pub blocks : List ℕ
+    pub reserve : List ℕ
+    pub took : HasTaken before.pool.block before.blocks before.reserve cell blocks reserve
     pub older : List Linked
     pub goes_on : IsTailOf (seen_of before.marks v) older
-    pub after_is : after ≡ record before { puts = before.puts ++ record { node = v; linked = record { cell = cell; entry = e } } ∷ []; marks = record { node = v; found = record { cell = cell; entry = e } ∷ older } ∷ before.marks }
+    pub after_is : after ≡ record before { blocks = blocks; reserve = reserve; puts = before.puts ++ record { node = v; linked = record { cell = cell; entry = e } } ∷ []; marks = record { node = v; found = record { cell = cell; entry = e } ∷ older } ∷ before.marks }
 
   -- The seat found this chain at the node v: what it had seen before is its end, all its entries meet the fact, and it has no more cells than the pool
   pub record HasFound (fact : F → ℕ → Entry → Type 0) (pool : PoolId F) (before : Seated F) (v : ℕ) (found : List Linked) (after : Seated F) : Type 0 where

@@ -1,5 +1,5 @@
 -- What each step of a seat at a pool tells.
-use Rattle.std.specs.Prelude.{◌≡◌, ℕ, ◌+◌, ◌*◌, ◌^◌, ◌<◌, ◌≤◌, Option, Some, None, List, [], ◌∷◌, ◌++◌, All, Contains, length, nat_lt, if◌then◌else◌}
+use Rattle.std.specs.Prelude.{◌≡◌, ◌⊎◌, ℕ, ◌+◌, ◌*◌, ◌^◌, ◌<◌, ◌≤◌, Option, Some, None, List, [], ◌∷◌, ◌++◌, All, Contains, length, nat_lt, if◌then◌else◌}
 use Rattle.atomic_table.specs.Table.{Step}
 use Rattle.walk_laws.specs.declared.entry.Entry.{Entry}
 use Rattle.table_seats.specs.Numbers.{numbers}
@@ -28,9 +28,11 @@ module _ {F : Type 0} where
   abbrev pub Drew : Step (Unit {0}) → Sitter F → ℕ → Sitter F → Type 0
   Drew step me number after = (after.0 ≡ knowing me.0 (with_drawn me.0.knows number)) × (after.1 ≡ me.1) × (number < 2 ^ 32)
 
-  -- The seat has these cells in reserve, at least one and at most a block. It may have drawn blocks for that, and nothing else has changed
+  -- The seat has these cells in reserve, at least one and at most a block: those that it had, or where it had none those of one block more. Nothing else has changed
   pub record IsRefilled (me : Sitter F) (next end : ℕ) (after : Sitter F) : Type 0 where
     pub blocks : List ℕ
+    pub drew : ((me.0.knows.reserve ≡ numbers next end) × (blocks ≡ me.0.knows.blocks))
+        ⊎ ((me.0.knows.reserve ≡ []) × ((block : ℕ) × (blocks ≡ me.0.knows.blocks ++ block ∷ []) × (block_cells me.0.knows.block block ≡ numbers next end)))
     pub after_is : after ≡ (knowing me.0 (record me.0.knows { blocks = blocks; reserve = numbers next end }), me.1)
     pub some : next < end
     pub most : end ≤ next + me.0.knows.block

@@ -1,5 +1,5 @@
 //! A put: the first cell in reserve is opened, filled, and linked before a chain.
-ghost use Rattle.std.specs.Prelude.{◌≡◌, ◌*◌, ◌^◌, ◌<◌, ◌≤◌, ℕ, Some, None, List, ◌∷◌, IfErr, OnOk};
+ghost use Rattle.std.specs.Prelude.{◌≡◌, ◌*◌, ◌^◌, ◌<◌, ◌≤◌, ℕ, Some, None, List, [], ◌∷◌, IfErr, OnOk};
 ghost use Rattle.hub_index.specs.Views.{IsNode};
 ghost use Rattle.table_seats.specs.Seats.{knowing};
 ghost use Rattle.label_pool.specs.declared.rule.Linked.{Linked};
@@ -39,7 +39,7 @@ pub fn refill<F: LinkFact>(
     requires reserve { HasReserve seat.old.me.0.knows next.old end.old }
     ensures same { (seat.new.table_id ≡ seat.old.table_id) × (seat.new.id ≡ seat.old.id) }
     ensures ok { OnOk result (IsRefilled seat.old.me next.new end.new seat.new.me) }
-    ensures err { IfErr result (λ past. (cells ≤ past) × (seat.new.me ≡ (knowing seat.old.me.0 (record seat.old.me.0.knows { past = Some past }), seat.old.me.1)) × (next.new ≡ next.old) × (end.new ≡ end.old)) }
+    ensures err { IfErr result (λ past. (cells ≤ past) × (seat.old.me.0.knows.reserve ≡ []) × ((number : ℕ) × (past ≡ number * block)) × (seat.new.me ≡ (knowing seat.old.me.0 (record seat.old.me.0.knows { past = Some past }), seat.old.me.1)) × (next.new ≡ next.old) × (end.new ≡ end.old)) }
 {
     if *next < *end {
         return Ok(());

@@ -81,6 +81,7 @@ impl<F: LinkFact> Pool<F> {
         ensures pool { IfOk result (λ made. (made.0.n ≡ n) × (made.0.cells ≡ cells) × (made.0.block ≡ 1) × (made.0.seats ≡ seats) × (made.0.fact ≡ Some fact)) }
         ensures seat { IfOk result (λ made. IsSeatOf made.0 made.1) }
         ensures left { IfOk result (λ made. made.1.left + 1 ≡ seats) }
+        ensures drawn { IfOk result (λ made. (made.1.blocks ≡ []) × (made.1.reserve ≡ []) × (made.1.spare ≡ [])) }
         ensures puts { IfOk result (λ made. made.1.puts ≡ []) }
         ensures looks { IfOk result (λ made. (made.1.looks ≡ []) × (made.1.marks ≡ [])) }
         ensures past { IfOk result (λ made. made.1.past ≡ None) }
@@ -106,6 +107,7 @@ impl<F: LinkFact> Pool<F> {
         ensures pool { IfOk result (λ made. (made.0.n ≡ n) × (made.0.cells ≡ blocks * block) × (made.0.block ≡ block) × (made.0.seats ≡ seats) × (made.0.fact ≡ Some fact)) }
         ensures seat { IfOk result (λ made. IsSeatOf made.0 made.1) }
         ensures left { IfOk result (λ made. made.1.left + 1 ≡ seats) }
+        ensures drawn { IfOk result (λ made. (made.1.blocks ≡ []) × (made.1.reserve ≡ []) × (made.1.spare ≡ [])) }
         ensures puts { IfOk result (λ made. made.1.puts ≡ []) }
         ensures looks { IfOk result (λ made. (made.1.looks ≡ []) × (made.1.marks ≡ [])) }
         ensures past { IfOk result (λ made. made.1.past ≡ None) }
@@ -147,7 +149,7 @@ impl<F: LinkFact> Pool<F> {
         requires node { IsNode self.now.n v }
         requires fact { IsMet F.fact self.now.fact v entry }
         ensures put { IfPut result (HasPut seat.old v entry seat.new) }
-        ensures full { IfFull result (λ cell cells. (self.now.cells ≤ cell) × (cells ≡ self.now.cells) × (seat.new ≡ record seat.old { past = Some cell })) }
+        ensures full { IfFull result (λ cell cells. (seat.old.reserve ≡ []) × (self.now.cells ≤ cell) × ((block : ℕ) × (cell ≡ block * self.now.block)) × (cells ≡ self.now.cells) × (seat.new ≡ record seat.old { past = Some cell })) }
     {
         let words = &self.table.shared;
         let room = refill(
@@ -191,9 +193,11 @@ impl<F: LinkFact> Pool<F> {
         requires enough { give < seat.old.left }
         ensures seat { IsSeatOf self.now seat.new }
         ensures left { seat.new.left + give + 1 ≡ seat.old.left }
+        ensures drawn { (seat.new.blocks ≡ seat.old.blocks) × (seat.new.reserve ≡ seat.old.reserve) × (seat.new.spare ≡ seat.old.spare) }
         ensures same { (seat.new.puts ≡ seat.old.puts) × (seat.new.looks ≡ seat.old.looks) × (seat.new.marks ≡ seat.old.marks) × (seat.new.past ≡ seat.old.past) }
         ensures new_seat { IsSeatOf self.now result }
         ensures new_left { result.left ≡ give }
+        ensures new_drawn { (result.blocks ≡ []) × (result.reserve ≡ []) × (result.spare ≡ []) }
         ensures new { (result.puts ≡ []) × (result.looks ≡ []) × (result.marks ≡ []) × (result.past ≡ seat.old.past) }
     {
         let given = split_off::<Handing, _, _, _, _>(&self.table.shared, &mut seat.seat, give);
@@ -207,13 +211,14 @@ impl<F: LinkFact> Pool<F> {
     }
 
     /// Joins the other seat into this one, which gains what that put and found and what may be split from it, and is past
-    /// the cells where one of them is. What the other saw does not count as seen by this one. It takes no memory and never
-    /// waits.
+    /// the cells where one of them is. What the other saw does not count as seen by this one, and the cells that it has in
+    /// reserve are used by nobody. It takes no memory and never waits.
     pub fn join(&self, seat: &mut PoolSeat<F>, other: PoolSeat<F>)
         requires seat { IsSeatOf self.now seat.old }
         requires other { IsSeatOf self.now other }
         ensures seat { IsSeatOf self.now seat.new }
         ensures left { seat.new.left ≡ seat.old.left + other.left + 1 }
+        ensures drawn { (seat.new.blocks ≡ seat.old.blocks ++ other.blocks) × (seat.new.reserve ≡ seat.old.reserve) × (seat.new.spare ≡ seat.old.spare ++ (other.reserve ++ other.spare)) }
         ensures puts { seat.new.puts ≡ seat.old.puts ++ other.puts }
         ensures looks { seat.new.looks ≡ seat.old.looks ++ other.looks }
         ensures marks { seat.new.marks ≡ seat.old.marks }

@@ -39,7 +39,7 @@ viewing-put before seat v e viewing put stands =
     let looks = before.seat.looks in
     let marks = before.seat.marks in
     let l : Linked = record { cell = put.cell; entry = e } in
-    let then : IsViewing (pooled before v put.cell e put.older) = record {
+    let then : IsViewing (pooled before v put.blocks put.reserve put.cell e put.older) = record {
       pool = viewing.pool;
       global = viewing.global;
       own = viewing.own;

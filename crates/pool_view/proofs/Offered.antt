@@ -46,11 +46,11 @@ module _ (before after : Viewing) (v : ℕ) (found : List Linked) (visit : HasVi
   visited-else u other = ap (λ w. seen_row w u) visited-is ∙ ap (λ es. label_row before.global u ++ reverse es ++ label_row before.own u) (seen-looked_else before.seat.looks before.seat.marks v u other found)
 
 -- the view after a put in the pool
-abbrev pub pooled : Viewing → ℕ → ℕ → Entry → List Linked → Viewing
-pooled before v cell e older = record before { seat = record before.seat { puts = before.seat.puts ++ record { node = v; linked = record { cell = cell; entry = e } } ∷ []; marks = look_at v (record { cell = cell; entry = e } ∷ older) ∷ before.seat.marks } }
+abbrev pub pooled : Viewing → ℕ → List ℕ → List ℕ → ℕ → Entry → List Linked → Viewing
+pooled before v blocks reserve cell e older = record before { seat = record before.seat { blocks = blocks; reserve = reserve; puts = before.seat.puts ++ record { node = v; linked = record { cell = cell; entry = e } } ∷ []; marks = look_at v (record { cell = cell; entry = e } ∷ older) ∷ before.seat.marks } }
 
 module _ (before after : Viewing) (v : ℕ) (e : Entry) (put : IsInPool before v e after) where
-  pub pooled-is : after ≡ pooled before v put.put.cell e put.put.older
+  pub pooled-is : after ≡ pooled before v put.put.blocks put.put.reserve put.put.cell e put.put.older
   pooled-is = put.same ∙ ap (λ s. record before { seat = s }) put.put.after_is
 
   pub pooled-puts : (u : ℕ) → puts_row after u ≡ puts_row before u

@@ -1,4 +1,4 @@
-use Rattle.std.proofs.Common.{◌≡◌, ℕ, suc, ◌+◌, ◌-◌, ◌*◌, ◌<◌, ◌≤◌, ◌∷◌, [], ◌++◌, lt_of_mul-lt-mul_right, mul-le-mul_right, suc-mul, sym, ap, ◌∙◌, arith}
+use Rattle.std.proofs.Common.{◌≡◌, inl, inr, refl, ℕ, suc, ◌+◌, ◌-◌, ◌*◌, ◌<◌, ◌≤◌, ◌∷◌, [], ◌++◌, lt_of_mul-lt-mul_right, mul-le-mul_right, suc-mul, sym, ap, ◌∙◌, arith}
 use Rattle.std.specs.List.{range_with_len}
 use Rattle.table_seats.specs.Seats.{knowing}
 use Rattle.table_seats.specs.Numbers.{numbers}
@@ -13,16 +13,20 @@ returns-then-next-end-clause-ok g c =
     let has = c.requires.reserve in
     record {
       blocks = me.0.knows.blocks;
+      drew = inl (has.reserve, refl);
       after_is = λ k. (knowing me.0 (record me.0.knows { reserve = has.reserve k }), me.1);
       some = c.if-next-end.true;
       most = has.most;
       within = has.within;
     }
 
+-- from a number up to none that is greater there are none
+no-numbers : (next end : ℕ) → end ≤ next → numbers next end ≡ []
+no-numbers next end least = let nothing : end - next ≡ 0 = omega (arith, least) in ap (range_with_len next) nothing
+
 pub fetch_add-drawn-requires : goal.fetch_add-drawn-requires
 fetch_add-drawn-requires g c =
-    let nothing : c.args.end.now - c.args.next.now ≡ 0 = omega (arith, c.if-next-end.false) in
-    let empty = c.requires.reserve.reserve ∙ ap (range_with_len c.args.next.now) nothing in
+    let empty = c.requires.reserve.reserve ∙ no-numbers c.args.next.now c.args.end.now c.if-next-end.false in
     (c.requires.table, c.requires.counter, draws_one _ _ _ _ _ c.requires.live empty c.requires.past)
 
 pub returns-clause-ok : goal.returns-clause-ok
@@ -45,6 +49,7 @@ returns-clause-ok g c =
     let view = e.0 ∙ ap (knowing me.0) (drew-block me.0.knows number below) ∙ (λ k. knowing me.0 (record me.0.knows { blocks = me.0.knows.blocks ++ number ∷ []; reserve = reserve k })) in
     record {
       blocks = me.0.knows.blocks ++ number ∷ [];
+      drew = inr (c.requires.reserve.reserve ∙ no-numbers c.args.next.now c.args.end.now c.if-next-end.false, (number, refl, reserve));
       after_is = λ k. (view k, e.1 k);
       some = omega (arith, c.requires.block.1);
       most = omega (arith, c.requires.block.0);

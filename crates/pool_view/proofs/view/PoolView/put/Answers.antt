@@ -68,7 +68,7 @@ invariant_of-self-in-Full g c =
     let ok : OnOk r (new ≡ keeping puts c.args.v c.args.entry) = subst (λ w. OnOk r (new ≡ keeping w c.args.v c.args.entry)) back c.keep-in-Full.ensures.ok in
     let err : OnErr r (new ≡ puts) = subst (λ (w : Putting). OnErr r (new ≡ w)) back c.keep-in-Full.ensures.err in
     let full = c.in-Full.ensures.full in (
-      ap (λ (s : Seated Fitting). s.pool) full.2 ∙ c.self.invariant.0,
-      viewing-kept seat global puts c.self.invariant.1 c.args.v c.args.entry node fits r new ok err c.put.new.seat c.in-Full.cell full.2,
-      (c.in-Full.cell, ap (λ (s : Seated Fitting). s.past) full.2),
+      ap (λ (s : Seated Fitting). s.pool) full.4 ∙ c.self.invariant.0,
+      viewing-kept seat global puts c.self.invariant.1 c.args.v c.args.entry node fits r new ok err c.put.new.seat c.in-Full.cell full.4,
+      (c.in-Full.cell, ap (λ (s : Seated Fitting). s.past) full.4),
     )
