@@ -15,6 +15,9 @@ use std::alloc::{AllocError, Global};
 use std::marker::Model;
 use walk_laws::Entry;
 
+/// The entries for which a row has room when it begins, so that a short row asks for memory once, and a long one seldom.
+const FIRST_ROOM: usize = 32;
+
 /// A row for each of the nodes 1..n: entries of 8 bytes, and from the first on whose distance is too great for that, entries
 /// of 16. The two parts of a row lie apart, since the second is nearly always empty, and then isn't looked at. Contracts see
 /// the list of the rows, node 1 first.
@@ -43,7 +46,7 @@ impl SplitRows {
     {
         let mut narrow = Vec::with_capacity(alloc, n as usize)?;
         for _ in 0..n {
-            narrow.push(Vec::new(alloc))?;
+            narrow.push(Vec::with_capacity(alloc, FIRST_ROOM)?)?;
         }
         let wide = WideRows::new(alloc, n)?;
         Ok(SplitRows { narrow, wide })
