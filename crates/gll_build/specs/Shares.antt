@@ -1,11 +1,12 @@
 -- The workers of a superstep: what each takes, what each hands back, and what all hand back together.
-use Rattle.std.specs.Prelude.{◌≡◌, ◌⊎◌, ℕ, ◌≤◌, true, false, List, [], Some, None, All, Contains, IfOk, length, map, nat_eq, replicate}
+use Rattle.std.specs.Prelude.{◌≡◌, ◌⊎◌, ℕ, ◌≤◌, true, false, List, [], Some, None, All, Contains, IfOk, length, map, nat_eq}
 use Rattle.std.specs.List.{IsDistinct}
 use Rattle.walk_laws.specs.declared.graph.Edge.{Edge}
 use Rattle.walk_laws.specs.declared.entry.Entry.{Entry}
 use Rattle.walk_laws.specs.Joined.{Joined}
 use Rattle.walk_laws.specs.Labelling.{EntryFits, IsHubEntry}
 use Rattle.hub_index.specs.declared.entry_sink.NodeEntry.{NodeEntry}
+use Rattle.hub_index.specs.PlainRows.{IsGathered}
 use Rattle.hub_index.specs.Sunk.{entries_of_node}
 use Rattle.hub_index.specs.Views.{IsNode}
 use Rattle.root_claims.specs.Seats.{Claimed, ClaimsId, IsSeatOf as IsClaimSeatOf}
@@ -14,6 +15,7 @@ use Rattle.label_clean.specs.Needless.{IsNeedless}
 use Rattle.pool_view.specs.Fitting.{Fitting, IsFittingPool, edges_of, order_of}
 use Rattle.gll_build.specs.declared.share.Seats.{Seats}
 use Rattle.gll_build.specs.declared.share.Share.{Share}
+use Rattle.gll_build.specs.declared.ground.Ground.{Ground}
 use Rattle.gll_build.specs.declared.workers.Bench.{Bench}
 use Rattle.gll_build.specs.declared.workers.Harvest.{Harvest}
 use Rattle.gll_build.specs.declared.workers.Worker.{Worker}
@@ -39,21 +41,28 @@ pub record IsPoolOf (edges : List Edge) (order : List ℕ) (pool : PoolId Fittin
   pub edges_are : edges_of pool.fact ≡ edges
   pub order_is : order_of pool.fact ≡ order
 
+-- the ranking, the claims and the pool are of the nodes of the superstep's graph, and the global rows hold what may stand in them
+pub record IsSoundGround (ground : Ground) : Type 0 where
+  pub nodes : length ground.ranking.now ≡ ground.graph.now.n
+  pub claims : ground.claims.now.n ≡ ground.graph.now.n
+  pub pool : IsPoolOf ground.graph.now.edges ground.ranking.now ground.pool.now
+  pub global : IsGathered ground.graph.now.edges ground.ranking.now ground.global.now
+
 -- memory for trees over n nodes, own rows for as many, and an empty list
 pub record IsBenchFor (n : ℕ) (bench : Bench) : Type 0 where
   pub own : bench.own ≡ n
   pub list : bench.list.items ≡ []
   pub work : bench.work ≡ n
 
--- a worker at such a bench, with new seats
-pub record IsReady (claims : ClaimsId) (pool : PoolId Fitting) (n : ℕ) (worker : Worker) : Type 0 where
+-- a worker at a bench for the superstep's nodes, with new seats
+pub record IsReady (ground : Ground) (worker : Worker) : Type 0 where
   pub share : Share
   pub there : worker.share ≡ Some share
-  pub of : AreSeatsOf claims pool 0 share.seats
+  pub of : AreSeatsOf ground.claims.now ground.pool.now 0 share.seats
   pub new : AreNew share.seats
-  pub own : share.own ≡ n
+  pub own : share.own ≡ length ground.ranking.now
   pub list : share.list.items ≡ []
-  pub work : worker.work ≡ n
+  pub work : worker.work ≡ length ground.ranking.now
 
 -- the global rows of the hub of each entry and of the node v cover none
 abbrev pub AreUncovered : List ℕ → List (List Entry) → ℕ → List Entry → Type 0
@@ -80,23 +89,23 @@ pub record HavePut (edges : List Edge) (at : List ℕ) (global : List (List Entr
   pub put : (v : ℕ) → IsNode (length at) v → IsPutBy edges at roots v (entries_of_node list v)
   pub apart : (v : ℕ) → IsNode (length at) v → AreUncovered at global v (entries_of_node list v)
 
--- some root was claimed with the share, or none was left; the own rows are for as many nodes as before; and where memory sufficed the trees of all roots that were claimed are grown over this global table, and the list is what they put
-pub record IsDone (edges : List Edge) (at : List ℕ) (global : List (List Entry)) (share : Share) : Type 0 where
+-- some root was claimed with the share, or none was left; the own rows are for as many nodes as before; and where memory sufficed the trees of all roots that were claimed are grown over the global table, and the list is what they put
+pub record IsDone (ground : Ground) (share : Share) : Type 0 where
   pub begun : HasBegun share.seats.claims
-  pub own : share.own ≡ length at
-  pub sufficed : IfOk share.memory (λ _. HavePut edges at global share.seats.claims.got share.list.items)
+  pub own : share.own ≡ length ground.ranking.now
+  pub sufficed : IfOk share.memory (λ _. HavePut ground.graph.now.edges ground.ranking.now ground.global.now share.seats.claims.got share.list.items)
 
 -- a worker that has grown all trees of its share
-pub record HasWorked (claims : ClaimsId) (edges : List Edge) (at : List ℕ) (global : List (List Entry)) (worker : Worker) : Type 0 where
+pub record HasWorked (ground : Ground) (worker : Worker) : Type 0 where
   pub share : Share
   pub there : worker.share ≡ Some share
-  pub of : IsClaimSeatOf claims share.seats.claims
+  pub of : IsClaimSeatOf ground.claims.now share.seats.claims
   pub left : share.seats.claims.left ≡ 0
-  pub done : IsDone edges at global share
-  pub work : worker.work ≡ length at
+  pub done : IsDone ground share
+  pub work : worker.work ≡ length ground.ranking.now
 
--- what some workers hand back: a seat with which some root was claimed, or none was left, what the trees of all that were claimed put over this global table, and their benches
-pub record IsHarvest (edges : List Edge) (at : List ℕ) (global : List (List Entry)) (harvest : Harvest) : Type 0 where
+-- what some workers hand back: a seat with which some root was claimed, or none was left, what the trees of all that were claimed put over the global table, and their benches
+pub record IsHarvest (ground : Ground) (harvest : Harvest) : Type 0 where
   pub begun : HasBegun harvest.seat
-  pub whole : HavePut edges at global harvest.seat.got harvest.fresh.items
-  pub benches : All (IsBenchFor (length at)) harvest.benches.items
+  pub whole : HavePut ground.graph.now.edges ground.ranking.now ground.global.now harvest.seat.got harvest.fresh.items
+  pub benches : All (IsBenchFor (length ground.ranking.now)) harvest.benches.items

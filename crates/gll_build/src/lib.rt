@@ -9,6 +9,7 @@
 #![tactic(auto)]
 
 mod build;
+mod ground;
 mod growing;
 mod share;
 mod step;

@@ -3,21 +3,19 @@ ghost use Rattle.std.specs.Prelude.{◌≡◌, ◌⊎◌, ℕ, ◌≤◌, true, 
 ghost use Rattle.std.specs.List.{IsDistinct};
 ghost use Rattle.root_claims.specs.Seats.{IsSeatOf as IsClaimSeatOf};
 ghost use Rattle.pruned_tree.specs.GrownBy.{HasGrown};
-ghost use Rattle.hub_index.specs.PlainRows.{IsGathered};
 ghost use Rattle.pool_view.specs.Fitting.{edges_of, order_of};
 ghost use Rattle.pool_view.specs.Viewing.{puts_row, view_kept};
-ghost use Rattle.gll_build.specs.Shares.{AreSeatsOf, AreNew, IsDone, IsPoolOf, StayUncovered};
+ghost use Rattle.gll_build.specs.Shares.{AreSeatsOf, AreNew, IsDone, IsSoundGround, StayUncovered};
 
+use crate::ground::Ground;
 use desk_io::Gate;
-use hub_index::{NodeEntry, SplitRows};
-use label_pool::{Pool, PoolSeat};
+use hub_index::NodeEntry;
+use label_pool::PoolSeat;
 use pool_view::{Fits, OwnRows, PoolView};
 use pruned_tree::{Work, grow};
-use rank_table::Ranking;
-use root_claims::{Claim, ClaimSeat, Claims};
+use root_claims::{Claim, ClaimSeat};
 use std::alloc::{AllocError, Global};
 use std::sync::Wait;
-use walk_laws::Graph;
 
 /// The seats of a worker: at the claims and at the pool.
 #[derive(Drop)]
@@ -36,35 +34,27 @@ pub struct Share {
     pub memory: Result<(), AllocError>,
 }
 
-/// One worker of a superstep: it claims a root and grows its tree, until it has put at least `cut` entries or no root is
-/// left. Its gate is told of each root when its tree begins, and when it ends with the number of entries put. Where memory
-/// runs out others may go on. Its seat at the claims comes back in any case, with all roots that it claimed.
+/// One worker of a superstep: it claims a root and grows its tree, until it has put at least the superstep's `cut` entries or
+/// no root is left. Its gate is told of each root when its tree begins, and when it ends with the number of entries put. Where
+/// memory runs out others may go on. Its seat at the claims comes back in any case, with all roots that it claimed.
 pub fn grow_share<R: Wait, G: Gate>(
     rt: &R,
     alloc: Global,
-    graph: &Graph,
-    ranking: &Ranking,
-    claims: &Claims,
-    pool: &Pool<Fits>,
-    global: &SplitRows,
-    cut: u32,
+    ground: &Ground<'_>,
     share: Share,
     work: &mut Work,
     gate: &G,
 ) -> Share
-    requires nodes { length ranking.now ≡ graph.now.n }
-    requires work { work.old ≡ graph.now.n }
-    requires claims_to { claims.now.n ≡ graph.now.n }
-    requires pool { IsPoolOf graph.now.edges ranking.now pool.now }
-    requires global { IsGathered graph.now.edges ranking.now global.now }
-    requires seats { AreSeatsOf claims.now pool.now 0 share.seats }
+    requires ground { IsSoundGround ground.now }
+    requires work { work.old ≡ ground.now.graph.now.n }
+    requires seats { AreSeatsOf ground.now.claims.now ground.now.pool.now 0 share.seats }
     requires new { AreNew share.seats }
-    requires own { share.own ≡ length ranking.now }
+    requires own { share.own ≡ length ground.now.ranking.now }
     requires list { share.list.items ≡ [] }
     ensures work { work.new ≡ work.old }
-    ensures seat { IsClaimSeatOf claims.now result.seats.claims }
+    ensures seat { IsClaimSeatOf ground.now.claims.now result.seats.claims }
     ensures left { result.seats.claims.left ≡ 0 }
-    ensures done { IsDone graph.now.edges ranking.now global.now result }
+    ensures done { IsDone ground.now result }
 {
     let Share {
         seats,
@@ -76,19 +66,8 @@ pub fn grow_share<R: Wait, G: Gate>(
         claims: mut claim_seat,
         pool: pool_seat,
     } = seats;
-    let mut view = PoolView::new(rt, pool, global, pool_seat, own, list);
-    let memory = grow_trees(
-        rt,
-        alloc,
-        graph,
-        ranking,
-        claims,
-        cut,
-        &mut claim_seat,
-        &mut view,
-        work,
-        gate,
-    );
+    let mut view = PoolView::new(rt, ground.pool, ground.global, pool_seat, own, list);
+    let memory = grow_trees(rt, alloc, ground, &mut claim_seat, &mut view, work, gate);
     let (pool_seat, own, list) = view.into_parts();
     Share {
         seats: Seats {
@@ -106,36 +85,32 @@ pub fn grow_share<R: Wait, G: Gate>(
 fn grow_trees<R: Wait, G: Gate>(
     rt: &R,
     alloc: Global,
-    graph: &Graph,
-    ranking: &Ranking,
-    claims: &Claims,
-    cut: u32,
+    ground: &Ground<'_>,
     seat: &mut ClaimSeat,
     view: &mut PoolView<'_, R>,
     work: &mut Work,
     gate: &G,
 ) -> Result<(), AllocError>
-    requires nodes { length ranking.now ≡ graph.now.n }
-    requires work { work.old ≡ graph.now.n }
-    requires claims_to { claims.now.n ≡ graph.now.n }
-    requires seat { IsClaimSeatOf claims.now seat.old }
+    requires ground { IsSoundGround ground.now }
+    requires work { work.old ≡ ground.now.graph.now.n }
+    requires seat { IsClaimSeatOf ground.now.claims.now seat.old }
     requires over { seat.old.over ≡ false }
-    requires edges { edges_of view.old.seat.pool.fact ≡ graph.now.edges }
-    requires order { order_of view.old.seat.pool.fact ≡ ranking.now }
+    requires edges { edges_of view.old.seat.pool.fact ≡ ground.now.graph.now.edges }
+    requires order { order_of view.old.seat.pool.fact ≡ ground.now.ranking.now }
     ensures work { work.new ≡ work.old }
-    ensures seat { IsClaimSeatOf claims.now seat.new }
+    ensures seat { IsClaimSeatOf ground.now.claims.now seat.new }
     ensures left { seat.new.left ≡ seat.old.left }
     ensures begun { (seat.new.over ≡ true) ⊎ (1 ≤ length seat.new.got) }
     ensures kept { view_kept view.new ≡ view_kept view.old }
-    ensures grown { HasGrown graph.now.edges ranking.now (IsOk result) seat.old.got seat.new.got (puts_row view.old) (puts_row view.new) }
-    ensures apart { StayUncovered ranking.now view.old.global (puts_row view.old) (puts_row view.new) }
+    ensures grown { HasGrown ground.now.graph.now.edges ground.now.ranking.now (IsOk result) seat.old.got seat.new.got (puts_row view.old) (puts_row view.new) }
+    ensures apart { StayUncovered ground.now.ranking.now view.old.global (puts_row view.old) (puts_row view.new) }
 {
     let mut put = 0u64;
     for _ in rt.forever() {
-        match next_tree(alloc, graph, ranking, claims, seat, view, work, gate) {
+        match next_tree(alloc, ground, seat, view, work, gate) {
             Ok(Some(puts)) => {
                 put = put.saturating_add(u64::from(puts));
-                if put >= u64::from(cut) {
+                if put >= u64::from(ground.cut) {
                     return Ok(());
                 }
             }
@@ -150,37 +125,34 @@ fn grow_trees<R: Wait, G: Gate>(
 /// that memory ran out; the root is then claimed, and the entries put stay.
 fn next_tree<R: Wait, G: Gate>(
     alloc: Global,
-    graph: &Graph,
-    ranking: &Ranking,
-    claims: &Claims,
+    ground: &Ground<'_>,
     seat: &mut ClaimSeat,
     view: &mut PoolView<'_, R>,
     work: &mut Work,
     gate: &G,
 ) -> Result<Option<u32>, AllocError>
-    requires nodes { length ranking.now ≡ graph.now.n }
-    requires work { work.old ≡ graph.now.n }
-    requires claims_to { claims.now.n ≡ graph.now.n }
-    requires seat { IsClaimSeatOf claims.now seat.old }
+    requires ground { IsSoundGround ground.now }
+    requires work { work.old ≡ ground.now.graph.now.n }
+    requires seat { IsClaimSeatOf ground.now.claims.now seat.old }
     requires over { seat.old.over ≡ false }
-    requires edges { edges_of view.old.seat.pool.fact ≡ graph.now.edges }
-    requires order { order_of view.old.seat.pool.fact ≡ ranking.now }
+    requires edges { edges_of view.old.seat.pool.fact ≡ ground.now.graph.now.edges }
+    requires order { order_of view.old.seat.pool.fact ≡ ground.now.ranking.now }
     ensures work { work.new ≡ work.old }
-    ensures seat { IsClaimSeatOf claims.now seat.new }
+    ensures seat { IsClaimSeatOf ground.now.claims.now seat.new }
     ensures left { seat.new.left ≡ seat.old.left }
     ensures once { IsDistinct nat_eq seat.new.got }
     ensures begun { (seat.new.over ≡ true) ⊎ (1 ≤ length seat.new.got) }
     ensures goes_on { IfOk result (λ puts. IfSome puts (λ _. seat.new.over ≡ false)) }
     ensures kept { view_kept view.new ≡ view_kept view.old }
-    ensures grown { HasGrown graph.now.edges ranking.now (IsOk result) seat.old.got seat.new.got (puts_row view.old) (puts_row view.new) }
-    ensures apart { StayUncovered ranking.now view.old.global (puts_row view.old) (puts_row view.new) }
+    ensures grown { HasGrown ground.now.graph.now.edges ground.now.ranking.now (IsOk result) seat.old.got seat.new.got (puts_row view.old) (puts_row view.new) }
+    ensures apart { StayUncovered ground.now.ranking.now view.old.global (puts_row view.old) (puts_row view.new) }
 {
-    let p = match claims.claim(seat) {
+    let p = match ground.claims.claim(seat) {
         Claim::Root(p) => p,
         Claim::End => return Ok(None),
     };
     gate.begins(p);
-    let puts = grow(alloc, graph, ranking, p, view, work)?;
+    let puts = grow(alloc, ground.graph, ground.ranking, p, view, work)?;
     gate.ends(p, puts);
     Ok(Some(puts))
 }

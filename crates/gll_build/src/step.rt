@@ -1,9 +1,11 @@
 //! One superstep, with what a build takes once.
-ghost use Rattle.std.specs.Prelude.{◌≡◌, ◌*◌, ◌/◌, ◌^◌, ◌<◌, ◌≤◌, [], All, IfOk, length, min, vec_len};
+ghost use Rattle.std.specs.Prelude.{◌≡◌, ◌-◌, ◌*◌, ◌/◌, ◌^◌, ◌<◌, ◌≤◌, [], All, IfOk, length, min, vec_len};
 ghost use Rattle.hub_index.specs.PlainRows.{IsGathered};
-ghost use Rattle.gll_build.specs.Shares.{IsBenchFor};
+ghost use Rattle.root_claims.specs.Seats.{IsSeatOf as IsClaimSeatOf};
+ghost use Rattle.gll_build.specs.Shares.{AreNew, AreSeatsOf, IsBenchFor, IsHarvest, IsSoundGround};
 ghost use Rattle.gll_build.specs.Workshops.{IsGrownFrom, IsProgress, IsWorkshopFor};
 
+use crate::ground::Ground;
 use crate::growing::grow_all;
 use crate::share::Seats;
 use crate::workers::{Bench, Harvest, benches_for, bring_in, seated};
@@ -154,20 +156,15 @@ fn grow_roots<R: Threads + Wait + Sync, G: Gate + Sync>(
         claims: claim_seat,
         pool: pool_seat,
     };
-    let mut workers = seated(alloc, n, &claims, &pool, seats, benches)?;
-    grow_all(
-        rt,
-        alloc,
+    let ground = Ground {
         graph,
         ranking,
-        &claims,
-        &pool,
         global,
+        claims: &claims,
+        pool: &pool,
         cut,
-        gate,
-        workers.as_mut_slice(),
-    );
-    let harvest = bring_in(alloc, graph, ranking, &claims, global, spare, workers)?;
+    };
+    let harvest = harvest_on(rt, alloc, &ground, gate, seats, benches, spare)?;
     let Harvest {
         seat,
         fresh,
@@ -179,6 +176,33 @@ fn grow_roots<R: Threads + Wait + Sync, G: Gate + Sync>(
         next,
         benches,
     })
+}
+
+/// Lets a worker at each bench grow trees, with seats that are split from the first ones, and brings in what all have put. The
+/// only error is that memory ran out.
+fn harvest_on<R: Threads + Wait + Sync, G: Gate + Sync>(
+    rt: &R,
+    alloc: Global,
+    ground: &Ground<'_>,
+    gate: &G,
+    first: Seats,
+    benches: Vec<Bench>,
+    spare: Vec<NodeEntry>,
+) -> Result<Harvest, AllocError>
+    requires ground { IsSoundGround ground.now }
+    requires seats { AreSeatsOf ground.now.claims.now ground.now.pool.now (vec_len benches - 1) first }
+    requires new { AreNew first }
+    requires some { 1 ≤ vec_len benches }
+    requires benches { All (IsBenchFor (length ground.now.ranking.now)) benches.items }
+    requires spare { spare.items ≡ [] }
+    ensures seat { IfOk result (λ harvest. IsClaimSeatOf ground.now.claims.now harvest.seat) }
+    ensures left { IfOk result (λ harvest. harvest.seat.left ≡ vec_len benches - 1) }
+    ensures size { IfOk result (λ harvest. vec_len harvest.benches ≡ vec_len benches) }
+    ensures harvest { IfOk result (IsHarvest ground.now) }
+{
+    let mut workers = seated(alloc, ground, first, benches)?;
+    grow_all(rt, alloc, ground, gate, workers.as_mut_slice());
+    bring_in(alloc, ground, spare, workers)
 }
 
 /// How many cells the pool of a superstep has: the workers' cuts together, up to a bound.

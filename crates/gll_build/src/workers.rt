@@ -1,20 +1,17 @@
 //! The workers of a superstep: what each takes, made once for a build, their shares of a superstep, and what they hand back.
 ghost use Rattle.std.specs.Prelude.{◌≡◌, ℕ, ◌+◌, ◌-◌, ◌<◌, ◌≤◌, [], All, IfOk, length, vec_len};
-ghost use Rattle.hub_index.specs.PlainRows.{IsGathered};
 ghost use Rattle.root_claims.specs.Seats.{IsSeatOf as IsClaimSeatOf};
-ghost use Rattle.gll_build.specs.Shares.{AreNew, AreSeatsOf, HasBegun, HasWorked, HavePut, IsBenchFor, IsHarvest, IsPoolOf, IsReady};
+ghost use Rattle.gll_build.specs.Shares.{AreNew, AreSeatsOf, HasBegun, HasWorked, HavePut, IsBenchFor, IsHarvest, IsReady, IsSoundGround};
 
+use crate::ground::Ground;
 use crate::share::{Seats, Share, grow_share};
 use desk_io::Gate;
-use hub_index::{NodeEntry, SplitRows};
-use label_pool::Pool;
-use pool_view::{Fits, OwnRows};
+use hub_index::NodeEntry;
+use pool_view::OwnRows;
 use pruned_tree::Work;
-use rank_table::Ranking;
-use root_claims::{ClaimSeat, Claims};
+use root_claims::ClaimSeat;
 use std::alloc::{AllocError, Global};
 use std::sync::Wait;
-use walk_laws::Graph;
 
 /// What a worker takes for a whole build: the memory in which it grows trees, and rows of its own and a list, which are empty
 /// between two supersteps.
@@ -62,35 +59,15 @@ impl Worker {
         &mut self,
         rt: &R,
         alloc: Global,
-        graph: &Graph,
-        ranking: &Ranking,
-        claims: &Claims,
-        pool: &Pool<Fits>,
-        global: &SplitRows,
-        cut: u32,
+        ground: &Ground<'_>,
         gate: &G,
     )
-        requires nodes { length ranking.now ≡ graph.now.n }
-        requires claims_to { claims.now.n ≡ graph.now.n }
-        requires pool { IsPoolOf graph.now.edges ranking.now pool.now }
-        requires global { IsGathered graph.now.edges ranking.now global.now }
-        requires ready { IsReady claims.now pool.now (length ranking.now) self.old }
-        ensures { HasWorked claims.now graph.now.edges ranking.now global.now self.new }
+        requires ground { IsSoundGround ground.now }
+        requires ready { IsReady ground.now self.old }
+        ensures { HasWorked ground.now self.new }
     {
         if let Some(share) = self.share.take() {
-            self.share = Some(grow_share(
-                rt,
-                alloc,
-                graph,
-                ranking,
-                claims,
-                pool,
-                global,
-                cut,
-                share,
-                &mut self.work,
-                gate,
-            ));
+            self.share = Some(grow_share(rt, alloc, ground, share, &mut self.work, gate));
         }
     }
 }
@@ -98,18 +75,16 @@ impl Worker {
 /// A worker at each bench, whose seats are split from the first ones. The only error is that memory ran out.
 pub fn seated(
     alloc: Global,
-    n: u32,
-    claims: &Claims,
-    pool: &Pool<Fits>,
+    ground: &Ground<'_>,
     first: Seats,
     benches: Vec<Bench>,
 ) -> Result<Vec<Worker>, AllocError>
     requires some { 1 ≤ vec_len benches }
-    requires benches { All (IsBenchFor n) benches.items }
-    requires seats { AreSeatsOf claims.now pool.now (vec_len benches - 1) first }
+    requires benches { All (IsBenchFor (length ground.now.ranking.now)) benches.items }
+    requires seats { AreSeatsOf ground.now.claims.now ground.now.pool.now (vec_len benches - 1) first }
     requires new { AreNew first }
     ensures size { IfOk result (λ workers. vec_len workers ≡ vec_len benches) }
-    ensures ready { IfOk result (λ workers. All (IsReady claims.now pool.now n) workers.items) }
+    ensures ready { IfOk result (λ workers. All (IsReady ground.now) workers.items) }
 {
     let mut first = first;
     let mut benches = benches;
@@ -118,19 +93,19 @@ pub fn seated(
     };
     let mut workers = Vec::with_capacity(alloc, benches.len() + 1)?;
     while let Some(bench) = benches.pop() {
-        let seats = split_off(claims, pool, &mut first);
-        workers.push(worker_at(n, claims, pool, bench, seats))?;
+        let seats = split_off(ground, &mut first);
+        workers.push(worker_at(ground, bench, seats))?;
     }
-    workers.push(worker_at(n, claims, pool, last, first))?;
+    workers.push(worker_at(ground, last, first))?;
     Ok(workers)
 }
 
-/// A worker at a bench for `n` nodes, with these seats.
-fn worker_at(n: u32, claims: &Claims, pool: &Pool<Fits>, bench: Bench, seats: Seats) -> Worker
-    requires bench { IsBenchFor n bench }
-    requires seats { AreSeatsOf claims.now pool.now 0 seats }
+/// A worker at a bench, with these seats.
+fn worker_at(ground: &Ground<'_>, bench: Bench, seats: Seats) -> Worker
+    requires bench { IsBenchFor (length ground.now.ranking.now) bench }
+    requires seats { AreSeatsOf ground.now.claims.now ground.now.pool.now 0 seats }
     requires new { AreNew seats }
-    ensures { IsReady claims.now pool.now n result }
+    ensures { IsReady ground.now result }
 {
     let Bench { own, list, work } = bench;
     let share = Share {
@@ -146,16 +121,16 @@ fn worker_at(n: u32, claims: &Claims, pool: &Pool<Fits>, bench: Bench, seats: Se
 }
 
 /// New seats, from which no more may be split.
-fn split_off(claims: &Claims, pool: &Pool<Fits>, seats: &mut Seats) -> Seats
-    requires seats { (left : ℕ) × (0 < left) × AreSeatsOf claims.now pool.now left seats.old }
+fn split_off(ground: &Ground<'_>, seats: &mut Seats) -> Seats
+    requires seats { (left : ℕ) × (0 < left) × AreSeatsOf ground.now.claims.now ground.now.pool.now left seats.old }
     requires new { AreNew seats.old }
-    ensures seats { (left : ℕ) → AreSeatsOf claims.now pool.now (left + 1) seats.old → AreSeatsOf claims.now pool.now left seats.new }
+    ensures seats { (left : ℕ) → AreSeatsOf ground.now.claims.now ground.now.pool.now (left + 1) seats.old → AreSeatsOf ground.now.claims.now ground.now.pool.now left seats.new }
     ensures new { AreNew seats.new }
-    ensures split { AreSeatsOf claims.now pool.now 0 result × AreNew result }
+    ensures split { AreSeatsOf ground.now.claims.now ground.now.pool.now 0 result × AreNew result }
 {
     Seats {
-        claims: claims.split(&mut seats.claims, 0),
-        pool: pool.split(&mut seats.pool, 0),
+        claims: ground.claims.split(&mut seats.claims, 0),
+        pool: ground.pool.split(&mut seats.pool, 0),
     }
 }
 
@@ -163,28 +138,25 @@ fn split_off(claims: &Claims, pool: &Pool<Fits>, seats: &mut Seats) -> Seats
 /// place. The only error is that memory ran out, here or for one of them.
 pub fn bring_in(
     alloc: Global,
-    graph: &Graph,
-    ranking: &Ranking,
-    claims: &Claims,
-    global: &SplitRows,
+    ground: &Ground<'_>,
     spare: Vec<NodeEntry>,
     workers: Vec<Worker>,
 ) -> Result<Harvest, AllocError>
     requires some { 1 ≤ vec_len workers }
     requires spare { spare.items ≡ [] }
-    requires worked { All (HasWorked claims.now graph.now.edges ranking.now global.now) workers.items }
-    ensures seat { IfOk result (λ harvest. IsClaimSeatOf claims.now harvest.seat) }
+    requires worked { All (HasWorked ground.now) workers.items }
+    ensures seat { IfOk result (λ harvest. IsClaimSeatOf ground.now.claims.now harvest.seat) }
     ensures left { IfOk result (λ harvest. harvest.seat.left ≡ vec_len workers - 1) }
     ensures benches { IfOk result (λ harvest. vec_len harvest.benches ≡ vec_len workers) }
-    ensures harvest { IfOk result (λ harvest. IsHarvest graph.now.edges ranking.now global.now harvest) }
+    ensures harvest { IfOk result (IsHarvest ground.now) }
 {
     let mut workers = workers;
     let Some(last) = workers.pop() else {
         unreachable!()
     };
-    let mut whole = first_of(alloc, graph, ranking, claims, global, spare, last)?;
+    let mut whole = first_of(alloc, ground, spare, last)?;
     while let Some(worker) = workers.pop() {
-        whole = with_worker(graph, ranking, claims, global, whole, worker)?;
+        whole = with_worker(ground, whole, worker)?;
     }
     Ok(whole)
 }
@@ -192,17 +164,14 @@ pub fn bring_in(
 /// What a worker that has grown all its trees hands back: its seat at the claims, the list of what it put, its rows, which are
 /// empty, and the memory in which it grew. The only error is that memory ran out for it.
 fn parts_of(
-    graph: &Graph,
-    ranking: &Ranking,
-    claims: &Claims,
-    global: &SplitRows,
+    ground: &Ground<'_>,
     worker: Worker,
 ) -> Result<(ClaimSeat, Vec<NodeEntry>, OwnRows, Work), AllocError>
-    requires { HasWorked claims.now graph.now.edges ranking.now global.now worker }
-    ensures seat { IfOk result (λ parts. IsClaimSeatOf claims.now parts.0 × (parts.0.left ≡ 0) × HasBegun parts.0) }
-    ensures put { IfOk result (λ parts. HavePut graph.now.edges ranking.now global.now parts.0.got parts.1.items) }
-    ensures own { IfOk result (λ parts. parts.2 ≡ length ranking.now) }
-    ensures work { IfOk result (λ parts. parts.3 ≡ length ranking.now) }
+    requires { HasWorked ground.now worker }
+    ensures seat { IfOk result (λ parts. IsClaimSeatOf ground.now.claims.now parts.0 × (parts.0.left ≡ 0) × HasBegun parts.0) }
+    ensures put { IfOk result (λ parts. HavePut ground.now.graph.now.edges ground.now.ranking.now ground.now.global.now parts.0.got parts.1.items) }
+    ensures own { IfOk result (λ parts. parts.2 ≡ length ground.now.ranking.now) }
+    ensures work { IfOk result (λ parts. parts.3 ≡ length ground.now.ranking.now) }
 {
     let Worker { share, work } = worker;
     let Some(share) = share else { unreachable!() };
@@ -224,21 +193,18 @@ fn parts_of(
 /// the worker.
 fn first_of(
     alloc: Global,
-    graph: &Graph,
-    ranking: &Ranking,
-    claims: &Claims,
-    global: &SplitRows,
+    ground: &Ground<'_>,
     spare: Vec<NodeEntry>,
     worker: Worker,
 ) -> Result<Harvest, AllocError>
     requires spare { spare.items ≡ [] }
-    requires worker { HasWorked claims.now graph.now.edges ranking.now global.now worker }
-    ensures seat { IfOk result (λ harvest. IsClaimSeatOf claims.now harvest.seat) }
+    requires worker { HasWorked ground.now worker }
+    ensures seat { IfOk result (λ harvest. IsClaimSeatOf ground.now.claims.now harvest.seat) }
     ensures left { IfOk result (λ harvest. harvest.seat.left ≡ 0) }
     ensures benches { IfOk result (λ harvest. vec_len harvest.benches ≡ 1) }
-    ensures harvest { IfOk result (λ harvest. IsHarvest graph.now.edges ranking.now global.now harvest) }
+    ensures harvest { IfOk result (IsHarvest ground.now) }
 {
-    let (seat, fresh, own, work) = parts_of(graph, ranking, claims, global, worker)?;
+    let (seat, fresh, own, work) = parts_of(ground, worker)?;
     let mut benches = Vec::new(alloc);
     benches.push(Bench {
         own,
@@ -254,29 +220,22 @@ fn first_of(
 
 /// What some workers hand back, and another one, whose list is emptied into theirs. The only error is that memory ran out,
 /// here or for that one.
-fn with_worker(
-    graph: &Graph,
-    ranking: &Ranking,
-    claims: &Claims,
-    global: &SplitRows,
-    whole: Harvest,
-    worker: Worker,
-) -> Result<Harvest, AllocError>
-    requires seat { IsClaimSeatOf claims.now whole.seat }
-    requires harvest { IsHarvest graph.now.edges ranking.now global.now whole }
-    requires worker { HasWorked claims.now graph.now.edges ranking.now global.now worker }
-    ensures seat { IfOk result (λ harvest. IsClaimSeatOf claims.now harvest.seat) }
+fn with_worker(ground: &Ground<'_>, whole: Harvest, worker: Worker) -> Result<Harvest, AllocError>
+    requires seat { IsClaimSeatOf ground.now.claims.now whole.seat }
+    requires harvest { IsHarvest ground.now whole }
+    requires worker { HasWorked ground.now worker }
+    ensures seat { IfOk result (λ harvest. IsClaimSeatOf ground.now.claims.now harvest.seat) }
     ensures left { IfOk result (λ harvest. harvest.seat.left ≡ whole.seat.left + 1) }
     ensures benches { IfOk result (λ harvest. vec_len harvest.benches ≡ vec_len whole.benches + 1) }
-    ensures harvest { IfOk result (λ harvest. IsHarvest graph.now.edges ranking.now global.now harvest) }
+    ensures harvest { IfOk result (IsHarvest ground.now) }
 {
-    let (other, mut list, own, work) = parts_of(graph, ranking, claims, global, worker)?;
+    let (other, mut list, own, work) = parts_of(ground, worker)?;
     let Harvest {
         mut seat,
         mut fresh,
         mut benches,
     } = whole;
-    claims.join(&mut seat, other);
+    ground.claims.join(&mut seat, other);
     fresh.append(&mut list)?;
     benches.push(Bench { own, list, work })?;
     Ok(Harvest {

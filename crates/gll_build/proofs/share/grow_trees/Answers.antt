@@ -18,8 +18,8 @@ loop-init g c = (
   c.requires.edges,
   c.requires.order,
   refl,
-  ([], sym (append-nil c.args.seat.now.got), λ v node. IsGrownBy-none c.args.graph.now.edges c.args.ranking.now (true ≡ true) v (puts_row c.args.view.now v)),
-  StayUncovered-none c.args.ranking.now c.args.view.now.global (puts_row c.args.view.now),
+  ([], sym (append-nil c.args.seat.now.got), λ v node. IsGrownBy-none c.args.ground.now.graph.now.edges c.args.ground.now.ranking.now (true ≡ true) v (puts_row c.args.view.now v)),
+  StayUncovered-none c.args.ground.now.ranking.now c.args.view.now.global (puts_row c.args.view.now),
 )
 
 pub loop-preserved : goal.loop-preserved
@@ -33,30 +33,30 @@ loop-preserved g c = (
   ap (λ (k : ViewKept). edges_of k.pool.fact) c.next_tree.ensures.kept ∙ c.loop.invariant.6,
   ap (λ (k : ViewKept). order_of k.pool.fact) c.next_tree.ensures.kept ∙ c.loop.invariant.7,
   c.next_tree.ensures.kept ∙ c.loop.invariant.8,
-  HasGrown-then c.args.graph.now.edges c.args.ranking.now _ _ _ c.args.seat.now.got c.loop.seat.got c.next_tree.new.seat.got (puts_row c.args.view.now) (puts_row c.loop.view) (puts_row c.next_tree.new.view) c.loop.invariant.9 c.in-Ok-Some.ensures.grown c.next_tree.ensures.once (λ t. (t, t)),
-  StayUncovered-then c.args.ranking.now c.args.view.now.global c.loop.view.global (puts_row c.args.view.now) (puts_row c.loop.view) (puts_row c.next_tree.new.view) (ap (λ (k : ViewKept). k.global) c.loop.invariant.8) c.loop.invariant.10 c.next_tree.ensures.apart,
+  HasGrown-then c.args.ground.now.graph.now.edges c.args.ground.now.ranking.now _ _ _ c.args.seat.now.got c.loop.seat.got c.next_tree.new.seat.got (puts_row c.args.view.now) (puts_row c.loop.view) (puts_row c.next_tree.new.view) c.loop.invariant.9 c.in-Ok-Some.ensures.grown c.next_tree.ensures.once (λ t. (t, t)),
+  StayUncovered-then c.args.ground.now.ranking.now c.args.view.now.global c.loop.view.global (puts_row c.args.view.now) (puts_row c.loop.view) (puts_row c.next_tree.new.view) (ap (λ (k : ViewKept). k.global) c.loop.invariant.8) c.loop.invariant.10 c.next_tree.ensures.apart,
 )
 
 pub returns-in-Ok-None-clause-grown : goal.returns-in-Ok-None-clause-grown
 returns-in-Ok-None-clause-grown g c =
-    HasGrown-then c.args.graph.now.edges c.args.ranking.now _ _ _ c.args.seat.now.got c.loop.seat.got c.next_tree.new.seat.got (puts_row c.args.view.now) (puts_row c.loop.view) (puts_row c.next_tree.new.view) c.loop.invariant.9 c.in-Ok-None.ensures.grown c.next_tree.ensures.once (λ t. (t, t))
+    HasGrown-then c.args.ground.now.graph.now.edges c.args.ground.now.ranking.now _ _ _ c.args.seat.now.got c.loop.seat.got c.next_tree.new.seat.got (puts_row c.args.view.now) (puts_row c.loop.view) (puts_row c.next_tree.new.view) c.loop.invariant.9 c.in-Ok-None.ensures.grown c.next_tree.ensures.once (λ t. (t, t))
 
 pub returns-in-Err-clause-grown : goal.returns-in-Err-clause-grown
 returns-in-Err-clause-grown g c =
-    HasGrown-then c.args.graph.now.edges c.args.ranking.now _ _ _ c.args.seat.now.got c.loop.seat.got c.next_tree.new.seat.got (puts_row c.args.view.now) (puts_row c.loop.view) (puts_row c.next_tree.new.view) c.loop.invariant.9 c.in-Err.ensures.grown c.next_tree.ensures.once (λ t. absurd (true≢false (sym t)))
+    HasGrown-then c.args.ground.now.graph.now.edges c.args.ground.now.ranking.now _ _ _ c.args.seat.now.got c.loop.seat.got c.next_tree.new.seat.got (puts_row c.args.view.now) (puts_row c.loop.view) (puts_row c.next_tree.new.view) c.loop.invariant.9 c.in-Err.ensures.grown c.next_tree.ensures.once (λ t. absurd (true≢false (sym t)))
 
 pub returns-then-put-from-clause-grown : goal.returns-then-put-from-clause-grown
 returns-then-put-from-clause-grown g c =
-    HasGrown-then c.args.graph.now.edges c.args.ranking.now _ _ _ c.args.seat.now.got c.loop.seat.got c.next_tree.new.seat.got (puts_row c.args.view.now) (puts_row c.loop.view) (puts_row c.next_tree.new.view) c.loop.invariant.9 c.in-Ok-Some.ensures.grown c.next_tree.ensures.once (λ t. (t, t))
+    HasGrown-then c.args.ground.now.graph.now.edges c.args.ground.now.ranking.now _ _ _ c.args.seat.now.got c.loop.seat.got c.next_tree.new.seat.got (puts_row c.args.view.now) (puts_row c.loop.view) (puts_row c.next_tree.new.view) c.loop.invariant.9 c.in-Ok-Some.ensures.grown c.next_tree.ensures.once (λ t. (t, t))
 
 pub returns-in-Ok-None-clause-apart : goal.returns-in-Ok-None-clause-apart
 returns-in-Ok-None-clause-apart g c =
-    StayUncovered-then c.args.ranking.now c.args.view.now.global c.loop.view.global (puts_row c.args.view.now) (puts_row c.loop.view) (puts_row c.next_tree.new.view) (ap (λ (k : ViewKept). k.global) c.loop.invariant.8) c.loop.invariant.10 c.next_tree.ensures.apart
+    StayUncovered-then c.args.ground.now.ranking.now c.args.view.now.global c.loop.view.global (puts_row c.args.view.now) (puts_row c.loop.view) (puts_row c.next_tree.new.view) (ap (λ (k : ViewKept). k.global) c.loop.invariant.8) c.loop.invariant.10 c.next_tree.ensures.apart
 
 pub returns-in-Err-clause-apart : goal.returns-in-Err-clause-apart
 returns-in-Err-clause-apart g c =
-    StayUncovered-then c.args.ranking.now c.args.view.now.global c.loop.view.global (puts_row c.args.view.now) (puts_row c.loop.view) (puts_row c.next_tree.new.view) (ap (λ (k : ViewKept). k.global) c.loop.invariant.8) c.loop.invariant.10 c.next_tree.ensures.apart
+    StayUncovered-then c.args.ground.now.ranking.now c.args.view.now.global c.loop.view.global (puts_row c.args.view.now) (puts_row c.loop.view) (puts_row c.next_tree.new.view) (ap (λ (k : ViewKept). k.global) c.loop.invariant.8) c.loop.invariant.10 c.next_tree.ensures.apart
 
 pub returns-then-put-from-clause-apart : goal.returns-then-put-from-clause-apart
 returns-then-put-from-clause-apart g c =
-    StayUncovered-then c.args.ranking.now c.args.view.now.global c.loop.view.global (puts_row c.args.view.now) (puts_row c.loop.view) (puts_row c.next_tree.new.view) (ap (λ (k : ViewKept). k.global) c.loop.invariant.8) c.loop.invariant.10 c.next_tree.ensures.apart
+    StayUncovered-then c.args.ground.now.ranking.now c.args.view.now.global c.loop.view.global (puts_row c.args.view.now) (puts_row c.loop.view) (puts_row c.next_tree.new.view) (ap (λ (k : ViewKept). k.global) c.loop.invariant.8) c.loop.invariant.10 c.next_tree.ensures.apart

@@ -10,8 +10,8 @@ use Rattle.gll_build.proofs.share.grow_trees.Given as goal
 abbrev pub invariant-loop : goal.invariant-loop
 invariant-loop g l =
     (goal.iterator-loop g).can_next l.iterator' × (goal.iterator-loop g).is_finite l.iterator'
-    × (l.work ≡ l.graph.n)
-    × IsClaimSeatOf l.claims l.seat × (l.seat.left ≡ l.fn.seat.left) × (l.seat.over ≡ false)
-    × (edges_of l.view.seat.pool.fact ≡ l.graph.edges) × (order_of l.view.seat.pool.fact ≡ l.ranking) × (view_kept l.view ≡ view_kept l.fn.view)
-    × HasGrown l.graph.edges l.ranking (true ≡ true) l.fn.seat.got l.seat.got (puts_row l.fn.view) (puts_row l.view)
-    × StayUncovered l.ranking l.fn.view.global (puts_row l.fn.view) (puts_row l.view)
+    × (l.work ≡ l.ground.graph.now.n)
+    × IsClaimSeatOf l.ground.claims.now l.seat × (l.seat.left ≡ l.fn.seat.left) × (l.seat.over ≡ false)
+    × (edges_of l.view.seat.pool.fact ≡ l.ground.graph.now.edges) × (order_of l.view.seat.pool.fact ≡ l.ground.ranking.now) × (view_kept l.view ≡ view_kept l.fn.view)
+    × HasGrown l.ground.graph.now.edges l.ground.ranking.now (true ≡ true) l.fn.seat.got l.seat.got (puts_row l.fn.view) (puts_row l.view)
+    × StayUncovered l.ground.ranking.now l.fn.view.global (puts_row l.fn.view) (puts_row l.view)

@@ -1,22 +1,9 @@
-use Rattle.std.proofs.Common.{◌≡◌, inl, inr, All, length, sym, ap, subst, ◌∙◌, arith}
+use Rattle.std.proofs.Common.{◌≡◌, inl, inr, length, sym, subst, ◌∙◌, arith}
 use Rattle.std.specs.List.Sorted.{IsPermutation}
 use Rattle.hub_index.specs.Sunk.{entries_of_node}
 use Rattle.table_seats.specs.Numbers.{numbers}
-use Rattle.label_clean.proofs.RowItems.{take_filled}
-use Rattle.gll_build.specs.Shares.{HasWorked, IsReady}
 use Rattle.gll_build.proofs.FreshEntries.{HoldsBetween-fresh, further}
 use Rattle.gll_build.proofs.step.grow_roots.Goals as goal
-
-pub grow_all-requires-clause-ready : goal.grow_all-requires-clause-ready
-grow_all-requires-clause-ready g c κs within =
-    subst (All (IsReady c.in_ok-claims.claims c.in_ok-pool.pool (length c.args.ranking.now))) (sym c.as_mut_slice.ensures.value)
-    (subst (λ n. All (IsReady c.in_ok-claims.claims c.in_ok-pool.pool n) c.in_ok-workers.workers.items) (c.n-n.ensures.value ∙ sym c.requires.nodes) c.in_ok-workers.ensures.ready)
-
-pub bring_in-requires-clause-worked : goal.bring_in-requires-clause-worked
-bring_in-requires-clause-worked g c =
-    let size : length c.grow_all.new.workers ≡ length c.in_ok-workers.workers.items = c.grow_all.ensures.size ∙ ap length c.as_mut_slice.ensures.value in
-    let long : length c.in_ok-workers.workers.items ≡ c.in_ok-workers.workers.len = omega (arith, ap length c.as_mut_slice.ensures.value, c.as_mut_slice.ensures.len) in
-    subst (All (HasWorked c.in_ok-claims.claims c.args.graph.now.edges c.args.ranking.now c.args.global.now)) (sym (take_filled c.in_ok-workers.workers.len c.grow_all.new.workers c.in_ok-workers.workers.items size long)) c.grow_all.ensures.worked
 
 pub returns-clause-grown : goal.returns-clause-grown
 returns-clause-grown g c =

@@ -4,7 +4,7 @@ use Rattle.label_clean.proofs.RowItems.{last_apart}
 use Rattle.gll_build.proofs.workers.bring_in.Goals as goal
 
 pub first_of-requires-clause-worker : goal.first_of-requires-clause-worker
-first_of-requires-clause-worker c = (last_apart (HasWorked c.args.claims.now c.args.graph.now.edges c.args.ranking.now c.args.global.now) c.args.workers.items c.pop.new.self.items c.in-Some.last c.in-Some.ensures.items c.requires.worked).1
+first_of-requires-clause-worker c = (last_apart (HasWorked c.args.ground.now) c.args.workers.items c.pop.new.self.items c.in-Some.last c.in-Some.ensures.items c.requires.worked).1
 
 pub loop-worker-init : goal.loop-worker-init
 loop-worker-init c = record {
@@ -12,14 +12,14 @@ loop-worker-init c = record {
   left = omega (arith, c.in-Some.ensures.len, c.in_ok-whole.ensures.left);
   size = omega (arith, c.in-Some.ensures.len, c.in_ok-whole.ensures.benches);
   harvest = c.in_ok-whole.ensures.harvest;
-  worked = (last_apart (HasWorked c.args.claims.now c.args.graph.now.edges c.args.ranking.now c.args.global.now) c.args.workers.items c.pop.new.self.items c.in-Some.last c.in-Some.ensures.items c.requires.worked).0;
+  worked = (last_apart (HasWorked c.args.ground.now) c.args.workers.items c.pop.new.self.items c.in-Some.last c.in-Some.ensures.items c.requires.worked).0;
 }
 
 pub with_worker-requires : goal.with_worker-requires
 with_worker-requires c = record {
   seat = c.loop-worker.invariant.seat;
   harvest = c.loop-worker.invariant.harvest;
-  worker = (last_apart (HasWorked c.args.claims.now c.args.graph.now.edges c.args.ranking.now c.args.global.now) c.loop-worker.workers.items c.pop-in-loop-worker.new.self.items c.in-Some-pop.worker c.in-Some-pop.ensures.items c.loop-worker.invariant.worked).1;
+  worker = (last_apart (HasWorked c.args.ground.now) c.loop-worker.workers.items c.pop-in-loop-worker.new.self.items c.in-Some-pop.worker c.in-Some-pop.ensures.items c.loop-worker.invariant.worked).1;
 }
 
 pub loop-worker-preserved : goal.loop-worker-preserved
@@ -30,5 +30,5 @@ loop-worker-preserved c =
       left = omega (arith, was.left, c.in-Some-pop.ensures.len, c.in_ok-whole-2.ensures.left);
       size = omega (arith, was.size, c.in-Some-pop.ensures.len, c.in_ok-whole-2.ensures.benches);
       harvest = c.in_ok-whole-2.ensures.harvest;
-      worked = (last_apart (HasWorked c.args.claims.now c.args.graph.now.edges c.args.ranking.now c.args.global.now) c.loop-worker.workers.items c.pop-in-loop-worker.new.self.items c.in-Some-pop.worker c.in-Some-pop.ensures.items was.worked).0;
+      worked = (last_apart (HasWorked c.args.ground.now) c.loop-worker.workers.items c.pop-in-loop-worker.new.self.items c.in-Some-pop.worker c.in-Some-pop.ensures.items was.worked).0;
     }

@@ -6,11 +6,11 @@ use Rattle.gll_build.proofs.workers.bring_in.Given as goal
 -- what the workers that were taken so far handed back is one, and the others have worked
 abbrev pub invariant-loop-worker : goal.invariant-loop-worker
 invariant-loop-worker l = record {
-  seat : IsClaimSeatOf l.claims l.whole.seat;
+  seat : IsClaimSeatOf l.ground.claims.now l.whole.seat;
   left : l.whole.seat.left + 1 + vec_len l.workers ≡ vec_len l.fn.workers;
   size : vec_len l.whole.benches + vec_len l.workers ≡ vec_len l.fn.workers;
-  harvest : IsHarvest l.graph.edges l.ranking l.global l.whole;
-  worked : All (HasWorked l.claims l.graph.edges l.ranking l.global) l.workers.items;
+  harvest : IsHarvest l.ground l.whole;
+  worked : All (HasWorked l.ground) l.workers.items;
 }
 
 abbrev pub decreases-loop-worker : goal.decreases-loop-worker

@@ -10,8 +10,8 @@ returns-clause-harvest c =
       begun = parts.seat.2;
       whole = parts.put;
       benches =
-          subst (All (IsBenchFor (length c.args.ranking.now))) (sym c.in_ok-push.ensures.items)
-          (All-push (IsBenchFor (length c.args.ranking.now)) c.new-benches.result.items (record { own = c.in_ok-seat.own; list = c.args.spare; work = c.in_ok-seat.work })
-          (subst (All (IsBenchFor (length c.args.ranking.now))) (sym c.new-benches.ensures.items) (λ k d within. absurd (omega (arith, within))))
+          subst (All (IsBenchFor (length c.args.ground.now.ranking.now))) (sym c.in_ok-push.ensures.items)
+          (All-push (IsBenchFor (length c.args.ground.now.ranking.now)) c.new-benches.result.items (record { own = c.in_ok-seat.own; list = c.args.spare; work = c.in_ok-seat.work })
+          (subst (All (IsBenchFor (length c.args.ground.now.ranking.now))) (sym c.new-benches.ensures.items) (λ k d within. absurd (omega (arith, within))))
           (record { own = parts.own; list = c.requires.spare; work = parts.work }));
     }

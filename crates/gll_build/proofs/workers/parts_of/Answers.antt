@@ -10,5 +10,5 @@ returns-clause-put c =
     let share : Share = c.in-Some.share in
     let both : Some c.in-Some.share ≡ Some c.requires.share = sym c.in-Some.is ∙ c.requires.there in
     let same : c.in-Some.share ≡ c.requires.share = cc in
-    let done = subst (IsDone c.args.graph.now.edges c.args.ranking.now c.args.global.now) (sym same) c.requires.done in
-    IfOk-at_ok (λ _. HavePut c.args.graph.now.edges c.args.ranking.now c.args.global.now share.seats.claims.got share.list.items) c.in_ok-memory.was done.sufficed
+    let done = subst (IsDone c.args.ground.now) (sym same) c.requires.done in
+    IfOk-at_ok (λ _. HavePut c.args.ground.now.graph.now.edges c.args.ground.now.ranking.now c.args.ground.now.global.now share.seats.claims.got share.list.items) c.in_ok-memory.was done.sufficed

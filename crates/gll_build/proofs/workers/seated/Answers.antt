@@ -1,4 +1,4 @@
-use Rattle.std.proofs.Common.{◌≡◌, ◌+◌, ◌-◌, All, sym, subst, arith}
+use Rattle.std.proofs.Common.{◌≡◌, ◌+◌, ◌-◌, All, length, sym, subst, arith}
 use Rattle.std.proofs.lemmas.List.Elements.{All-push}
 use Rattle.gll_build.specs.Shares.{AreSeatsOf, IsBenchFor, IsReady}
 use Rattle.label_clean.proofs.RowItems.{last_apart}
@@ -8,11 +8,11 @@ pub loop-bench-init : goal.loop-bench-init
 loop-bench-init c =
     let left : c.args.benches.len - 1 ≡ c.pop.new.self.len = omega (arith, c.in-Some.ensures.len) in
     record {
-      seats = subst (λ left. AreSeatsOf c.args.claims.now c.args.pool.now left c.args.first) left c.requires.seats;
+      seats = subst (λ left. AreSeatsOf c.args.ground.now.claims.now c.args.ground.now.pool.now left c.args.first) left c.requires.seats;
       new = c.requires.new;
-      left = (last_apart (IsBenchFor c.args.n) c.args.benches.items c.pop.new.self.items c.in-Some.last c.in-Some.ensures.items c.requires.benches).0;
+      left = (last_apart (IsBenchFor (length c.args.ground.now.ranking.now)) c.args.benches.items c.pop.new.self.items c.in-Some.last c.in-Some.ensures.items c.requires.benches).0;
       size = omega (arith, c.in_ok-workers.ensures.len, c.in-Some.ensures.len);
-      ready = subst (All (IsReady c.args.claims.now c.args.pool.now c.args.n)) (sym c.in_ok-workers.ensures.items) (λ k d within. absurd (omega (arith, within)));
+      ready = subst (All (IsReady c.args.ground.now)) (sym c.in_ok-workers.ensures.items) (λ k d within. absurd (omega (arith, within)));
     }
 
 pub split_off-seats-requires-clause-seats : goal.split_off-seats-requires-clause-seats
@@ -20,28 +20,28 @@ split_off-seats-requires-clause-seats c = (c.loop-bench.benches.len, omega (arit
 
 pub worker_at-requires-clause-bench : goal.worker_at-requires-clause-bench
 worker_at-requires-clause-bench c =
-    (last_apart (IsBenchFor c.args.n) c.loop-bench.benches.items c.pop-in-loop-bench.new.self.items c.in-Some-pop.bench c.in-Some-pop.ensures.items c.loop-bench.invariant.left).1
+    (last_apart (IsBenchFor (length c.args.ground.now.ranking.now)) c.loop-bench.benches.items c.pop-in-loop-bench.new.self.items c.in-Some-pop.bench c.in-Some-pop.ensures.items c.loop-bench.invariant.left).1
 
 pub loop-bench-preserved : goal.loop-bench-preserved
 loop-bench-preserved c =
     let was = c.loop-bench.invariant in
-    let Ready = IsReady c.args.claims.now c.args.pool.now c.args.n in
+    let Ready = IsReady c.args.ground.now in
     let more : c.loop-bench.benches.len ≡ c.pop-in-loop-bench.new.self.len + 1 = omega (arith, c.in-Some-pop.ensures.len) in
     record {
-      seats = c.split_off-seats.ensures.seats c.pop-in-loop-bench.new.self.len (subst (λ left. AreSeatsOf c.args.claims.now c.args.pool.now left c.loop-bench.first) more was.seats);
+      seats = c.split_off-seats.ensures.seats c.pop-in-loop-bench.new.self.len (subst (λ left. AreSeatsOf c.args.ground.now.claims.now c.args.ground.now.pool.now left c.loop-bench.first) more was.seats);
       new = c.split_off-seats.ensures.new;
-      left = (last_apart (IsBenchFor c.args.n) c.loop-bench.benches.items c.pop-in-loop-bench.new.self.items c.in-Some-pop.bench c.in-Some-pop.ensures.items was.left).0;
+      left = (last_apart (IsBenchFor (length c.args.ground.now.ranking.now)) c.loop-bench.benches.items c.pop-in-loop-bench.new.self.items c.in-Some-pop.bench c.in-Some-pop.ensures.items was.left).0;
       size = omega (arith, c.in_ok-push.ensures.len, was.size, more);
       ready = subst (All Ready) (sym c.in_ok-push.ensures.items) (All-push Ready c.loop-bench.workers.items c.worker_at.result was.ready c.worker_at.ensures);
     }
 
 pub worker_at-requires-2-clause-bench : goal.worker_at-requires-2-clause-bench
-worker_at-requires-2-clause-bench c = (last_apart (IsBenchFor c.args.n) c.args.benches.items c.pop.new.self.items c.in-Some.last c.in-Some.ensures.items c.requires.benches).1
+worker_at-requires-2-clause-bench c = (last_apart (IsBenchFor (length c.args.ground.now.ranking.now)) c.args.benches.items c.pop.new.self.items c.in-Some.last c.in-Some.ensures.items c.requires.benches).1
 
 pub worker_at-requires-2-clause-seats : goal.worker_at-requires-2-clause-seats
-worker_at-requires-2-clause-seats c = subst (λ left. AreSeatsOf c.args.claims.now c.args.pool.now left c.loop-bench.first) (omega (arith, c.in_default-pop.ensures.cases.0)) c.loop-bench.invariant.seats
+worker_at-requires-2-clause-seats c = subst (λ left. AreSeatsOf c.args.ground.now.claims.now c.args.ground.now.pool.now left c.loop-bench.first) (omega (arith, c.in_default-pop.ensures.cases.0)) c.loop-bench.invariant.seats
 
 pub returns-clause-ready : goal.returns-clause-ready
 returns-clause-ready c =
-    let Ready = IsReady c.args.claims.now c.args.pool.now c.args.n in
+    let Ready = IsReady c.args.ground.now in
     subst (All Ready) (sym c.in_ok-push-2.ensures.items) (All-push Ready c.loop-bench.workers.items c.worker_at-2.result c.loop-bench.invariant.ready c.worker_at-2.ensures)

@@ -1,15 +1,15 @@
-use Rattle.std.proofs.Common.{◌≡◌, ◌+◌, All, vec_len}
+use Rattle.std.proofs.Common.{◌≡◌, ◌+◌, All, length, vec_len}
 use Rattle.gll_build.specs.Shares.{AreNew, AreSeatsOf, IsBenchFor, IsReady}
 use Rattle.gll_build.proofs.workers.seated.Given as goal
 
 -- for each bench that is left there are seats to split, and one more
 abbrev pub invariant-loop-bench : goal.invariant-loop-bench
 invariant-loop-bench l = record {
-  seats : AreSeatsOf l.claims l.pool (vec_len l.benches) l.first;
+  seats : AreSeatsOf l.ground.claims.now l.ground.pool.now (vec_len l.benches) l.first;
   new : AreNew l.first;
-  left : All (IsBenchFor l.n) l.benches.items;
+  left : All (IsBenchFor (length l.ground.ranking.now)) l.benches.items;
   size : vec_len l.workers + vec_len l.benches + 1 ≡ vec_len l.fn.benches;
-  ready : All (IsReady l.claims l.pool l.n) l.workers.items;
+  ready : All (IsReady l.ground) l.workers.items;
 }
 
 abbrev pub decreases-loop-bench : goal.decreases-loop-bench

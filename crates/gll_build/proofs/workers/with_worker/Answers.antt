@@ -14,10 +14,10 @@ returns-clause-harvest c =
     record {
       begun = begun-both one.over two.over c.join.new.seat.over one.got two.got c.join.new.seat.got joined.over joined.got was.begun;
       whole =
-          HavePut-both c.args.graph.now.edges c.args.ranking.now c.args.global.now one.got two.got c.join.new.seat.got c.args.whole.fresh.items c.in_ok-other.list.items c.append.new.self.items
+          HavePut-both c.args.ground.now.graph.now.edges c.args.ground.now.ranking.now c.args.ground.now.global.now one.got two.got c.join.new.seat.got c.args.whole.fresh.items c.in_ok-other.list.items c.append.new.self.items
           was.whole parts.put joined.got joined.once c.in_ok-append.ensures.items;
       benches =
-          subst (All (IsBenchFor (length c.args.ranking.now))) (sym c.in_ok-push.ensures.items)
-          (All-push (IsBenchFor (length c.args.ranking.now)) c.args.whole.benches.items (record { own = c.in_ok-other.own; list = c.append.new.other; work = c.in_ok-other.work }) was.benches
+          subst (All (IsBenchFor (length c.args.ground.now.ranking.now))) (sym c.in_ok-push.ensures.items)
+          (All-push (IsBenchFor (length c.args.ground.now.ranking.now)) c.args.whole.benches.items (record { own = c.in_ok-other.own; list = c.append.new.other; work = c.in_ok-other.work }) was.benches
           (record { own = parts.own; list = c.in_ok-append.ensures.other_items; work = parts.work }));
     }
