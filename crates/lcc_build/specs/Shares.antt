@@ -2,17 +2,25 @@
 use Rattle.std.specs.Prelude.{◌≡◌, ℕ, true, false, List, [], Some, IsOk, OnOk, length}
 use Rattle.walk_laws.specs.declared.graph.Edge.{Edge}
 use Rattle.hub_index.specs.Views.{IsNode}
-use Rattle.root_claims.specs.Seats.{ClaimsId, IsSeatOf as IsClaimSeatOf}
-use Rattle.label_rows.specs.Seats.{RowsId, IsSeatOf}
+use Rattle.root_claims.specs.Seats.{IsSeatOf as IsClaimSeatOf}
+use Rattle.label_rows.specs.Seats.{IsSeatOf}
 use Rattle.label_rows.specs.Visits.{puts_of}
+use Rattle.lcc_build.specs.declared.ground.Ground.{Ground}
 use Rattle.lcc_build.specs.declared.share.Share.{Share}
 use Rattle.lcc_build.specs.declared.workers.Worker.{Worker}
 use Rattle.pruned_tree.specs.GrownBy.{IsGrownBy}
 
--- the seats of the share are of these claims and rows, and so many may still be split from each
-pub record IsShareOf (claims : ClaimsId) (rows : RowsId) (left : ℕ) (share : Share) : Type 0 where
-  pub claim_seat : IsClaimSeatOf claims share.claims
-  pub row_seat : IsSeatOf rows share.rows
+-- the ranking, the claims and the rows are of the nodes of the build's graph, and the rows are those of its edges under that ranking
+pub record IsSoundGround (ground : Ground) : Type 0 where
+  pub nodes : length ground.ranking.now ≡ ground.graph.now.n
+  pub claims : ground.claims.now.n ≡ ground.graph.now.n
+  pub edges : ground.rows.now.edges ≡ ground.graph.now.edges
+  pub order : ground.rows.now.order ≡ ground.ranking.now
+
+-- the seats of the share are of the build's claims and rows, and so many may still be split from each
+pub record IsShareOf (ground : Ground) (left : ℕ) (share : Share) : Type 0 where
+  pub claim_seat : IsClaimSeatOf ground.claims.now share.claims
+  pub row_seat : IsSeatOf ground.rows.now share.rows
   pub claim_left : share.claims.left ≡ left
   pub row_left : share.rows.left ≡ left
 
@@ -27,17 +35,17 @@ pub record IsDone (edges : List Edge) (at : List ℕ) (share : Share) : Type 0 w
   pub over : OnOk share.memory (share.claims.over ≡ true)
   pub grown : (v : ℕ) → IsNode (length at) v → IsGrownBy edges at share.claims.got (IsOk share.memory) v [] (puts_of share.rows.visits v)
 
--- a worker with memory for n nodes that has a new share of these claims and rows
-pub record IsReady (claims : ClaimsId) (rows : RowsId) (n : ℕ) (worker : Worker) : Type 0 where
+-- a worker with a new share, and memory for trees of the build's graph
+pub record IsReady (ground : Ground) (worker : Worker) : Type 0 where
   pub share : Share
   pub there : worker.share ≡ Some share
-  pub of : IsShareOf claims rows 0 share
+  pub of : IsShareOf ground 0 share
   pub new : IsNew share
-  pub work : worker.work ≡ n
+  pub work : worker.work ≡ ground.graph.now.n
 
 -- a worker that has grown all trees of its share
-pub record HasWorked (claims : ClaimsId) (rows : RowsId) (edges : List Edge) (at : List ℕ) (worker : Worker) : Type 0 where
+pub record HasWorked (ground : Ground) (worker : Worker) : Type 0 where
   pub share : Share
   pub there : worker.share ≡ Some share
-  pub of : IsShareOf claims rows 0 share
-  pub done : IsDone edges at share
+  pub of : IsShareOf ground 0 share
+  pub done : IsDone ground.graph.now.edges ground.ranking.now share

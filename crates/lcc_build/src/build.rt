@@ -1,9 +1,10 @@
-ghost use Rattle.std.specs.Prelude.{◌≡◌, ℕ, ◌≤◌, [], All, length, IfOk};
+ghost use Rattle.std.specs.Prelude.{◌≡◌, ℕ, ◌-◌, ◌≤◌, [], All, length, IfOk};
 ghost use Rattle.walk_laws.specs.Joined.{Joined};
 ghost use Rattle.walk_laws.specs.Labelling.{IsChl};
 ghost use Rattle.label_clean.specs.Below.{HoldsBelow, IsChlBelow};
-ghost use Rattle.lcc_build.specs.Shares.{IsReady, HasWorked};
+ghost use Rattle.lcc_build.specs.Shares.{HasWorked, IsDone, IsNew, IsReady, IsShareOf, IsSoundGround};
 
+use crate::ground::Ground;
 use crate::in_order::rows_in_order;
 use crate::share::Share;
 use crate::workers::{Worker, joined, seated};
@@ -96,48 +97,58 @@ fn raw_rows<R: Threads + Wait + Sync, G: Gate + Sync>(
         rows: row_seat,
         memory: Ok(()),
     };
-    let mut seats = seated(alloc, n, workers, &claims, &rows, first)?;
-    grow_all(
-        rt,
-        alloc,
+    let ground = Ground {
         graph,
         ranking,
-        workers,
-        &claims,
-        &rows,
-        seats.as_mut_slice(),
-        gate,
-    );
-    let whole = joined(graph, ranking, &claims, &rows, seats);
+        claims: &claims,
+        rows: &rows,
+    };
+    let whole = grown_share(rt, alloc, workers, &ground, first, gate)?;
     whole.memory?;
     claims.close(whole.claims);
     rows.close(whole.rows)
+}
+
+/// Lets so many workers grow trees, whose shares are split from the first one, and answers their shares as one. The only
+/// error is that memory ran out before they began; in the share stands whether it sufficed for their trees.
+fn grown_share<R: Threads + Wait + Sync, G: Gate + Sync>(
+    rt: &R,
+    alloc: Global,
+    workers: u32,
+    ground: &Ground<'_>,
+    first: Share,
+    gate: &G,
+) -> Result<Share, AllocError>
+    requires ground { IsSoundGround ground.now }
+    requires workers { 1 ≤ workers }
+    requires share { IsShareOf ground.now (workers - 1) first }
+    requires new { IsNew first }
+    ensures share { IfOk result (IsShareOf ground.now (workers - 1)) }
+    ensures done { IfOk result (IsDone ground.now.graph.now.edges ground.now.ranking.now) }
+{
+    let mut seats = seated(alloc, workers, ground, first)?;
+    grow_all(rt, alloc, workers, ground, seats.as_mut_slice(), gate);
+    Ok(joined(ground, seats))
 }
 
 /// Lets all workers grow trees, each in a thread of its own where one can be made.
 fn grow_all<R: Threads + Wait + Sync, G: Gate + Sync>(
     rt: &R,
     alloc: Global,
-    graph: &Graph,
-    ranking: &Ranking,
     workers: u32,
-    claims: &Claims,
-    rows: &Rows,
+    ground: &Ground<'_>,
     seats: &mut [Worker],
     gate: &G,
 )
+    requires ground { IsSoundGround ground.now }
     requires workers { 1 ≤ workers }
-    requires nodes { length ranking.now ≡ graph.now.n }
-    requires claims_to { claims.now.n ≡ graph.now.n }
-    requires edges { rows.now.edges ≡ graph.now.edges }
-    requires order { rows.now.order ≡ ranking.now }
-    requires ready { All (IsReady claims.now rows.now graph.now.n) seats.old }
+    requires ready { All (IsReady ground.now) seats.old }
     ensures size { length seats.new ≡ length seats.old }
-    ensures worked { All (HasWorked claims.now rows.now graph.now.edges ranking.now) seats.new }
+    ensures worked { All (HasWorked ground.now) seats.new }
 {
     let grow = |_place: usize, worker: &mut Worker|
-        requires { (length ranking.now ≡ graph.now.n) × (claims.now.n ≡ graph.now.n) × (rows.now.edges ≡ graph.now.edges) × (rows.now.order ≡ ranking.now) × IsReady claims.now rows.now graph.now.n worker.now }
-        ensures { HasWorked claims.entry.now rows.entry.now graph.entry.now.edges ranking.entry.now worker.exit.now }
-    { worker.grow_trees(rt, alloc, graph, ranking, claims, rows, gate) };
+        requires { IsSoundGround ground.now × IsReady ground.now worker.now }
+        ensures { HasWorked ground.entry.now worker.exit.now }
+    { worker.grow_trees(rt, alloc, ground, gate) };
     thread::for_each_mut(rt, seats, workers as usize, &grow);
 }

@@ -9,6 +9,7 @@
 #![tactic(auto)]
 
 mod build;
+mod ground;
 mod in_order;
 mod share;
 #[cfg(test)]

@@ -4,9 +4,9 @@ use Rattle.lcc_build.proofs.build.grow_all.Goals as goal
 
 pub for_each_mut-requires-clause-accepts : goal.for_each_mut-requires-clause-accepts
 for_each_mut-requires-clause-accepts g c κs within =
-    λ i p lt is. (c.requires.nodes, c.requires.claims_to, c.requires.edges, c.requires.order, subst (IsReady c.args.claims.now c.args.rows.now c.args.graph.now.n) (sym is) (c.requires.ready i p.now lt))
+    λ i p lt is. (c.requires.ground, subst (IsReady c.args.ground.now) (sym is) (c.requires.ready i p.now lt))
 
 pub returns-clause-worked : goal.returns-clause-worked
 returns-clause-worked g c = λ k d lt.
     let call = (c.for_each_mut.ensures k d (omega (arith, lt, c.for_each_mut.auto.s))).1 in
-    subst (HasWorked c.args.claims.now c.args.rows.now c.args.graph.now.edges c.args.ranking.now) call.left call.call
+    subst (HasWorked c.args.ground.now) call.left call.call

@@ -5,9 +5,9 @@ use Rattle.lcc_build.proofs.workers.joined.Given as goal
 -- the shares of the workers that were taken so far are one, and the others have worked
 abbrev pub invariant-loop-worker : goal.invariant-loop-worker
 invariant-loop-worker l = record {
-  share : (left : ℕ) × (left + 1 + vec_len l.workers ≡ vec_len l.fn.workers) × IsShareOf l.claims l.rows left l.whole;
-  done : IsDone l.graph.edges l.ranking l.whole;
-  worked : All (HasWorked l.claims l.rows l.graph.edges l.ranking) l.workers.items;
+  share : (left : ℕ) × (left + 1 + vec_len l.workers ≡ vec_len l.fn.workers) × IsShareOf l.ground left l.whole;
+  done : IsDone l.ground.graph.now.edges l.ground.ranking.now l.whole;
+  worked : All (HasWorked l.ground) l.workers.items;
 }
 
 abbrev pub decreases-loop-worker : goal.decreases-loop-worker

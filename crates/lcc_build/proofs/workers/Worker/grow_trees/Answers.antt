@@ -7,11 +7,11 @@ pub returns-in-Some : goal.returns-in-Some
 returns-in-Some g c =
     let ready = c.requires.ready in
     let same : ready.share ≡ c.in-Some.share = let value = c.in-Some.ensures.value in let there = ready.there in cc in
-    let of : IsShareOf c.args.claims.now c.args.rows.now 0 c.in-Some.share = subst (IsShareOf c.args.claims.now c.args.rows.now 0) same ready.of in
+    let of : IsShareOf c.args.ground.now 0 c.in-Some.share = subst (IsShareOf c.args.ground.now 0) same ready.of in
     let done = c.lcc_share.ensures in
     record {
       share = c.lcc_share.result;
       there = refl;
       of = record { claim_seat = done.claim_seat; row_seat = done.row_seat; claim_left = done.claim_left ∙ of.claim_left; row_left = done.row_left ∙ of.row_left };
-      done = IsDone-from_new c.args.graph.now.edges c.args.ranking.now c.in-Some.share c.lcc_share.result (subst IsNew same ready.new) done.over done.grown;
+      done = IsDone-from_new c.args.ground.now.graph.now.edges c.args.ground.now.ranking.now c.in-Some.share c.lcc_share.result (subst IsNew same ready.new) done.over done.grown;
     }
