@@ -21,9 +21,10 @@ use std::thread::{self, Threads};
 use walk_laws::Graph;
 
 /// The index of the canonical hub labelling of a graph under a ranking of its nodes, by planted trees of all roots. It
-/// begins with a copy of both in which neighbours stand near one another ([`WorkingCopy`]). The roots are dealt in batches of at most `cut` to so many workers, and who has none left steals from the others. The
-/// caller itself plants each batch that came from nobody. The gate sees each root begin, and end with the number of its
-/// entries. The only error is that memory ran out.
+/// begins with a copy of both in which neighbours stand near one another ([`WorkingCopy`]). The roots are dealt in batches of
+/// at most `cut` to so many workers, and who has none left steals from the others. The caller itself plants each batch that
+/// came from nobody. The gate sees each root begin, and end with the number of its entries. The only error is that memory
+/// ran out.
 pub fn build_plant<R: Threads + Wait + Sync, G: Gate + Sync>(
     rt: &R,
     alloc: Global,
