@@ -1,5 +1,5 @@
 -- The workers of a superstep: what each takes, what each hands back, and what all hand back together.
-use Rattle.std.specs.Prelude.{◌≡◌, ◌⊎◌, ℕ, ◌≤◌, true, false, List, [], Some, None, All, Contains, IfOk, length, map, nat_eq}
+use Rattle.std.specs.Prelude.{◌≡◌, ◌⊎◌, ℕ, ◌*◌, ◌≤◌, true, false, List, [], Some, None, All, Contains, IfOk, length, map, nat_eq}
 use Rattle.std.specs.List.{IsDistinct}
 use Rattle.walk_laws.specs.declared.graph.Edge.{Edge}
 use Rattle.walk_laws.specs.declared.entry.Entry.{Entry}
@@ -35,11 +35,12 @@ pub record AreNew (seats : Seats) : Type 0 where
   pub past : seats.pool.past ≡ None
   pub seen : (seats.pool.looks ≡ []) × (seats.pool.marks ≡ [])
 
--- the pool is of the nodes of this graph under this ranking, and its entries may stand in their rows
+-- the pool is of the nodes of this graph under this ranking, its entries may stand in their rows, and each seat can draw a block
 pub record IsPoolOf (edges : List Edge) (order : List ℕ) (pool : PoolId Fitting) : Type 0 where
   pub fitting : IsFittingPool pool
   pub edges_are : edges_of pool.fact ≡ edges
   pub order_is : order_of pool.fact ≡ order
+  pub each : pool.seats * pool.block ≤ pool.cells
 
 -- the ranking, the claims and the pool are of the nodes of the superstep's graph, and the global rows hold what may stand in them
 pub record IsSoundGround (ground : Ground) : Type 0 where

@@ -150,7 +150,7 @@ fn grow_roots<R: Threads + Wait + Sync, G: Gate + Sync>(
     let (claims, claim_seat) = Claims::new(alloc, first, n, count)?;
     let fact = Fits::of(graph, ranking);
     let cells = cells_for(count, cut);
-    let block = block_for(cells, cut);
+    let block = block_for(cells, cut, count);
     let (pool, pool_seat) = Pool::in_blocks(alloc, n, cells / block, block, count, fact)?;
     let seats = Seats {
         claims: claim_seat,
@@ -216,10 +216,13 @@ fn cells_for(workers: u32, cut: u32) -> u32
 
 /// How many of the cells a worker draws from the pool at once: one, unless they can be drawn in blocks that take no more than
 /// a worker's cut.
-fn block_for(cells: u32, cut: u32) -> u32
-    requires { 1 ≤ cells }
+fn block_for(cells: u32, cut: u32, workers: u32) -> u32
+    requires cells { cells ≡ min (workers * cut) 1048576 }
+    requires workers { (1 ≤ workers) × (workers ≤ 64) }
+    requires cut { 1 ≤ cut }
     ensures some { 1 ≤ result }
     ensures whole { cells / result * result ≡ cells }
+    ensures each { workers * result ≤ cells }
 {
     if cut >= BLOCK && cells % BLOCK == 0 {
         return BLOCK;

@@ -2,7 +2,9 @@
 use Rattle.std.proofs.Common.{◌≡◌, ◌≢◌, ⊎_elim, ℕ, ◌+◌, ◌*◌, mul-le-mul_left, ◌%◌, ◌^◌, ◌<◌, ◌≤◌, List, [], ◌∷◌, ◌++◌, ◌==◌, All, get_or, set, refl, sym, ap, ◌∙◌, subst, arith}
 use Rattle.std.specs.Prelude.{Some, None, Contains, drop, slice_index}
 use Rattle.std.proofs.lemmas.List.{append_assoc, set-get_or}
-use Rattle.std.proofs.lemmas.List.Elements.{All-contains, All-weaker}
+use Rattle.std.proofs.lemmas.List.Elements.{All-contains, All-weaker, Contains-get_or}
+use Rattle.std.proofs.lemmas.List.Sorted.{Contains-permutation}
+use Rattle.label_pool.proofs.Permuted.{one-of-all}
 use prog.Atomic.{either}
 use mathlib.Core.Option.{none, some}
 use lib.ListN.{get_elem?}
@@ -19,7 +21,7 @@ use Rattle.label_pool.specs.declared.rule.Filling.{Filling}
 use Rattle.label_pool.specs.declared.rule.Linked.{Linked}
 use Rattle.label_pool.specs.declared.rule.Look.{Look}
 use Rattle.label_pool.specs.declared.rule.View.{View}
-use Rattle.label_pool.specs.Chains.{named, first_cell, IsChain, IsWithin, IsTailOf}
+use Rattle.label_pool.specs.Chains.{named, first_cell, IsChain, IsWithin, IsTailOf, puts_at}
 use Rattle.label_pool.specs.Fillings.{linked_of, with_next}
 use Rattle.label_pool.specs.Layout.{head_at, next_at, dist_at, name_in, pos_in}
 use Rattle.label_pool.specs.Lawful.{Table, Sitter, IsSeated, IsChainOf, IsLawful, drawn_by, is_past, given, both, nothing}
@@ -114,6 +116,8 @@ module _ {F : Type 0} (fact : F → ℕ → Entry → Type 0) (about : About F) 
                 within = subst (λ k. All (λ l. l.cell < k) chain) (sym seated.cells) (All-weaker (IsWithin about.cells) (λ l. l.cell < about.cells) (λ l w. w.cell) chain old.within);
                 met = subst (λ value. All (λ l. IsMet fact value v l.entry) chain) (sym seated.fact) old.met;
                 goes_on = seen-still v chain me.0.knows.marks (old.seen id me.0 at);
+                known = old.found id me.0 at;
+                all_put = λ k d lt. Contains-permutation _ chain _ old.each_once (one-of-all (λ (seat : SeatView (View F)). puts_at seat.knows.puts v) s.views id me.0 _ at (Contains-get_or (puts_at me.0.knows.puts v) k d lt));
                 view = refl;
                 slots = refl;
               })

@@ -1,6 +1,6 @@
 -- What one call did, as contracts see a seat before and after.
 use Rattle.std.proofs.Common.{◌≡◌, ℕ, ◌*◌, ◌<◌, ◌≤◌, Bool, List, [], ◌∷◌, ◌++◌, All, length, refl, ap, ◌∙◌, subst}
-use Rattle.std.specs.Prelude.{Option, Some, None, if◌then◌else◌}
+use Rattle.std.specs.Prelude.{Option, Some, None, Contains, if◌then◌else◌}
 use Rattle.std.proofs.lemmas.Bool.{lt-ltb, le-ltb}
 use Rattle.atomic_table.specs.Seated.{TableId}
 use Rattle.walk_laws.specs.declared.entry.Entry.{Entry}
@@ -9,7 +9,7 @@ use Rattle.table_seats.specs.Seats.{knowing}
 use Rattle.label_pool.specs.declared.rule.Filling.{Filling}
 use Rattle.label_pool.specs.declared.rule.Linked.{Linked}
 use Rattle.label_pool.specs.declared.rule.View.{View}
-use Rattle.label_pool.specs.Chains.{IsTailOf, seen_of}
+use Rattle.label_pool.specs.Chains.{IsTailOf, puts_at, seen_of}
 use Rattle.label_pool.specs.Fillings.{block_cells, linked_of, with_next}
 use Rattle.label_pool.specs.Seats.{PoolId, Seated, seated, IsMet, HasFound, HasPut, HasTaken}
 use Rattle.label_pool.specs.Steps.{with_drawn, with_look, with_link}
@@ -29,11 +29,14 @@ module _ {F : Type 0} where
 
   module _ (id id' : TableId) (left : ℕ) (me after : SeatView (View F)) (before : Seated F) (is : seated id left me.knows ≡ before) (same : id' ≡ id) where
     pub has-found : (fact : F → ℕ → Entry → Type 0) (pool : PoolId F) → before.pool ≡ pool → (v : ℕ) (found : List Linked) → IsTailOf (seen_of me.knows.marks v) found → All (λ l. IsMet fact me.knows.fact v l.entry) found → length found ≤ me.knows.cells
+        → All (λ look. look.node ≡ v → IsTailOf look.found found) me.knows.looks → All (Contains found) (puts_at me.knows.puts v)
         → after ≡ knowing me (with_look me.knows v found) → HasFound fact pool before v found (seated id' left after.knows)
-    has-found fact pool whose v found goes_on met most after_is = record {
+    has-found fact pool whose v found goes_on met most known all_put after_is = record {
       goes_on = subst (λ marks. IsTailOf (seen_of marks v) found) (ap (λ b. b.marks) is) goes_on;
       met = subst (λ value. All (λ l. IsMet fact value v l.entry) found) (ap (λ b. b.pool.fact) is ∙ ap (λ p. p.fact) whose) met;
       most = subst (λ cells. length found ≤ cells) (ap (λ b. b.pool.cells) is ∙ ap (λ p. p.cells) whose) most;
+      known = subst (λ looks. All (λ look. look.node ≡ v → IsTailOf look.found found) looks) (ap (λ b. b.looks) is) known;
+      all_put = subst (λ puts. All (Contains found) (puts_at puts v)) (ap (λ b. b.puts) is) all_put;
       after_is = (λ k. seated (same k) left (after_is k).knows) ∙ ap (λ (b : Seated F). record b { looks = b.looks ++ record { node = v; found = found } ∷ []; marks = record { node = v; found = found } ∷ b.marks }) is;
     }
 

@@ -1,8 +1,10 @@
 -- What the last seat gets where the pool is closed.
-use Rattle.std.proofs.Common.{◌≡◌, ℕ, List, All, IsPermutation, sym, ap, subst}
-use Rattle.std.specs.Prelude.{Result, Ok, Err, IfOk, slice_index}
+use Rattle.std.proofs.Common.{◌≡◌, ℕ, ◌*◌, ◌-◌, ◌∙◌, List, All, IsPermutation, length, min, sym, ap, subst, arith}
+use Rattle.table_seats.specs.Numbers.{numbers}
+use Rattle.std.proofs.lemmas.List.FromFn.{length-range_with_len}
+use Rattle.std.specs.Prelude.{Result, Ok, Err, Some, IfOk, slice_index}
 use Rattle.std.proofs.lemmas.List.Elements.{All-map}
-use Rattle.std.proofs.lemmas.List.Sorted.{IsPermutation-map}
+use Rattle.std.proofs.lemmas.List.Sorted.{IsPermutation-map, length_permutation}
 use Rattle.atomic_table.specs.Table.{Final, Seen}
 use Rattle.walk_laws.specs.declared.entry.Entry.{Entry}
 use Rattle.hub_index.specs.Views.{IsNode}
@@ -13,7 +15,7 @@ use Rattle.label_pool.specs.declared.rule.About.{About}
 use Rattle.label_pool.specs.declared.rule.Linked.{Linked}
 use Rattle.label_pool.specs.declared.rule.View.{View}
 use Rattle.label_pool.specs.Chains.{IsWritten, entries_of, entries_at, puts_at}
-use Rattle.label_pool.specs.Lawful.{IsSeated, IsChainOf, IsLawful, nothing}
+use Rattle.label_pool.specs.Lawful.{IsSeated, IsChainOf, IsLawful, is_some, nothing}
 use Rattle.label_pool.proofs.Blocks.{got-once}
 use Rattle.label_pool.proofs.Cells.{chain-most}
 
@@ -36,6 +38,24 @@ module _ {F : Type 0} (fact : F → ℕ → Entry → Type 0) (about : About F) 
           within = c.1.within;
           most = chain-most about.cells final.0.views (got-once about (slice_index final.0.words 0) final.0.views lawful.drawn lawful.got lawful.blocked) v c.0 c.1.each_once;
         }),
+      )
+
+  -- the blocks that the last seat drew are the first so many, each once, and all where it drew past them
+  pub drawn : me.seats ≡ about.seats → (IsPermutation me.knows.blocks (numbers 0 (length me.knows.blocks))) × ((cell : ℕ) → me.knows.past ≡ Some cell → length me.knows.blocks * about.block ≡ about.cells)
+  unfolding lawful
+  drawn last =
+      let count : ℕ = slice_index final.0.words 0 in
+      let alone = flat_map-one (λ (seat : SeatView (View F)). seat.knows.blocks) final.0.views id me final.1.1
+      (λ j w apart there. ap (λ (k : View F). k.blocks) (others_empty about.seats (IsSeated about) nothing final.0.views id me lawful.seating final.1.1 last j w apart there)) in
+      let all : IsPermutation me.knows.blocks (numbers 0 (min count about.blocks)) = subst (λ ls. IsPermutation ls (numbers 0 (min count about.blocks))) alone lawful.drawn.each_once in
+      let len = length_permutation _ _ all in
+      let as_many = length-range_with_len 0 (min count about.blocks - 0) in
+      let long : length me.knows.blocks ≡ min count about.blocks = omega (arith, len, as_many) in (
+        subst (λ k. IsPermutation me.knows.blocks (numbers 0 k)) (sym long) all,
+        λ cell is.
+            let ended = lawful.drawn.ended id me final.1.1 (ap is_some is) in
+            let full : length me.knows.blocks ≡ about.blocks = omega (arith, long, ended) in
+            ap (λ k. k * about.block) full ∙ sym lawful.blocked,
       )
 
   module _ (rows : ℕ → List Entry) (row_is : (v : ℕ) (chain : List Linked) → IsNode about.n v → IsWritten about.n about.cells words v chain → rows v ≡ entries_of chain) (v : ℕ) (node : IsNode about.n v) where

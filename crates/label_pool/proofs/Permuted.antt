@@ -6,6 +6,8 @@ use Rattle.std.proofs.lemmas.Grind.{flat_map-append}
 use Rattle.std.proofs.lemmas.List.{append_assoc, append-nil, set-set, set_comm}
 use Rattle.std.proofs.lemmas.List.Concat.{flat_map-cons}
 use Rattle.std.proofs.lemmas.List.Sorted.{IsPermutation-sym, IsPermutation-trans, IsPermutation-append_left, IsPermutation-append_right, IsPermutation-append_comm}
+use Rattle.std.specs.Prelude.{Contains}
+use Rattle.std.proofs.lemmas.List.Elements.{Contains-append_left, Contains-append_right}
 use mathlib.Core.Option.{some, some-injective, some-ne-none}
 use lib.ListN.{get_elem?}
 use Rattle.atomic_table.proofs.Lists.{set_again, set_else, set_here}
@@ -60,6 +62,13 @@ module _ {X Y : Type 0} (f : X → List Y) where
   flat_map-nothing : (xs : List X) → ((j : ℕ) (w : X) → get_elem? xs j ≡ some w → f w ≡ []) → flat_map f xs ≡ []
   flat_map-nothing [] none = refl
   flat_map-nothing (x ∷ xs) none = flat_map-cons f x xs ∙ ap (λ ys. ys ++ flat_map f xs) (none 0 x refl) ∙ flat_map-nothing xs (λ j w at. none (suc j) w at)
+
+  -- what one has is among what all have
+  pub one-of-all : (xs : List X) (i : ℕ) (v : X) (y : Y) → get_elem? xs i ≡ some v → Contains (f v) y → Contains (flat_map f xs) y
+  one-of-all [] i v y at there = absurd (some-ne-none v (sym at))
+  one-of-all (x ∷ xs) zero v y at there =
+      subst (λ zs. Contains zs y) (sym (flat_map-cons f x xs)) (Contains-append_left (f x) (flat_map f xs) y (subst (λ z. Contains (f z) y) (sym (some-injective x v at)) there))
+  one-of-all (x ∷ xs) (suc i) v y at there = subst (λ zs. Contains zs y) (sym (flat_map-cons f x xs)) (Contains-append_right (f x) (flat_map f xs) y (one-of-all xs i v y at there))
 
   -- where the others have nothing
   pub flat_map-one : (xs : List X) (i : ℕ) (v : X) → get_elem? xs i ≡ some v → ((j : ℕ) (w : X) → j ≢ i → get_elem? xs j ≡ some w → f w ≡ []) → flat_map f xs ≡ f v

@@ -95,7 +95,7 @@ module _ {F : Type 0} (fact : F → ℕ → Entry → Type 0) (about : About F) 
           each_once = subst (λ ls. IsPermutation ls chain)
               (sym (flat_map-none (λ (seat : SeatView (View F)). puts_at seat.knows.puts v) (set s.views id (kept_of give me)) (given_of given give me) refl ∙ flat_map-same (λ (seat : SeatView (View F)). puts_at seat.knows.puts v) s.views id me (kept_of give me) at refl)) old.each_once;
           found = Each-split (λ seat. StillIn v chain seat.knows.looks) s.views id (kept_of give me) (given_of given give me) old.found (old.found id me at) (All-nil (λ look. look.node ≡ v → IsTailOf look.found chain));
-          seen = Each-split (λ seat. StillIn v chain seat.knows.marks) s.views id (kept_of give me) (given_of given give me) old.seen (old.seen id me at) (All-nil (λ look. look.node ≡ v → IsTailOf look.found chain));
+          seen = Each-split (λ seat. StillIn v chain seat.knows.marks) s.views id (kept_of give me) (given_of given give me) old.seen (old.seen id me at) (old.seen id me at);
         }
 
     module _ (other : ℕ) (u : SeatView (View F)) (apart : other ≢ id) (there : get_elem? s.views other ≡ some u) (empty : me.knows.filling ≡ None) (empty_too : u.knows.filling ≡ None) where

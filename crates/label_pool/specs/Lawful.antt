@@ -58,9 +58,9 @@ module _ {F : Type 0} where
     pub all : v.all ≡ about.seats
     pub fact : v.fact ≡ Some about.fact
 
-  -- what a seat knows that was just split from one: whose it is, and whether that drew past the cells
+  -- what a seat knows that was just split from one: whose it is, what that saw, and whether it drew past the cells
   abbrev pub given : View F → View F
-  given v = record v { blocks = []; reserve = []; spare = []; filling = None; puts = []; looks = []; marks = [] }
+  given v = record v { blocks = []; reserve = []; spare = []; filling = None; puts = []; looks = [] }
 
   -- what a seat knows into which another was joined
   abbrev pub both : View F → View F → View F

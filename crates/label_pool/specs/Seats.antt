@@ -1,5 +1,5 @@
 -- What contracts see of pools and of their seats.
-use Rattle.std.specs.Prelude.{◌≡◌, ◌⊎◌, ℕ, ◌+◌, ◌<◌, ◌≤◌, Option, Some, None, List, [], ◌∷◌, ◌++◌, All, length}
+use Rattle.std.specs.Prelude.{◌≡◌, ◌⊎◌, ℕ, ◌+◌, ◌<◌, ◌≤◌, Option, Some, None, List, [], ◌∷◌, ◌++◌, All, Contains, length}
 use Rattle.atomic_table.specs.Seated.{TableId}
 use Rattle.walk_laws.specs.declared.entry.Entry.{Entry}
 use Rattle.table_seats.specs.Numbers.{numbers}
@@ -9,7 +9,7 @@ use Rattle.label_pool.specs.declared.rule.Linked.{Linked}
 use Rattle.label_pool.specs.declared.rule.Look.{Look}
 use Rattle.label_pool.specs.declared.rule.Put.{Put}
 use Rattle.label_pool.specs.declared.rule.View.{View}
-use Rattle.label_pool.specs.Chains.{IsTailOf, seen_of}
+use Rattle.label_pool.specs.Chains.{IsTailOf, seen_of, puts_at}
 use Rattle.label_pool.specs.Fillings.{block_cells}
 
 -- A pool: its table, which no others have, how many nodes, cells and seats there are, how many cells are drawn at once, and the value of the fact that its entries meet
@@ -76,11 +76,13 @@ module _ {F : Type 0} where
     pub goes_on : IsTailOf (seen_of before.marks v) older
     pub after_is : after ≡ record before { blocks = blocks; reserve = reserve; puts = before.puts ++ record { node = v; linked = record { cell = cell; entry = e } } ∷ []; marks = record { node = v; found = record { cell = cell; entry = e } ∷ older } ∷ before.marks }
 
-  -- The seat found this chain at the node v: what it had seen before is its end, all its entries meet the fact, and it has no more cells than the pool
+  -- The seat found this chain at the node v: what it had seen before is its end, and so is each chain that it, or a seat joined into it, found there before; what these put there stands in it; all its entries meet the fact, and it has no more cells than the pool
   pub record HasFound (fact : F → ℕ → Entry → Type 0) (pool : PoolId F) (before : Seated F) (v : ℕ) (found : List Linked) (after : Seated F) : Type 0 where
     pub goes_on : IsTailOf (seen_of before.marks v) found
     pub met : All (λ l. IsMet fact pool.fact v l.entry) found
     pub most : length found ≤ pool.cells
+    pub known : All (λ look. look.node ≡ v → IsTailOf look.found found) before.looks
+    pub all_put : All (Contains found) (puts_at before.puts v)
     pub after_is : after ≡ record before { looks = before.looks ++ record { node = v; found = found } ∷ []; marks = record { node = v; found = found } ∷ before.marks }
 
 -- where the entry was put, the fact holds

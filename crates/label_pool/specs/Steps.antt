@@ -8,7 +8,7 @@ use Rattle.label_pool.specs.declared.rule.Filling.{Filling}
 use Rattle.label_pool.specs.declared.rule.Linked.{Linked}
 use Rattle.label_pool.specs.declared.rule.Look.{Look}
 use Rattle.label_pool.specs.declared.rule.View.{View}
-use Rattle.label_pool.specs.Chains.{named, first_cell, IsTailOf, seen_of}
+use Rattle.label_pool.specs.Chains.{named, first_cell, IsTailOf, puts_at, seen_of}
 use Rattle.label_pool.specs.Fillings.{block_cells, filled, linked_of, with_next}
 use Rattle.label_pool.specs.Layout.{head_at, next_at, dist_at, name_in, pos_in}
 use Rattle.label_pool.specs.Lawful.{Sitter}
@@ -58,7 +58,7 @@ module _ {F : Type 0} where
   abbrev pub with_look : View F → ℕ → List Linked → View F
   with_look v node found = record v { looks = v.looks ++ record { node = node; found = found } ∷ []; marks = record { node = node; found = found } ∷ v.marks }
 
-  -- What the load of a head tells: the chain that it names, whose end is what the seat had seen before
+  -- What the load of a head tells: the chain that it names, whose end is what the seat had seen and found before, and in which all stands that it put
   pub record IsFound (fact : F → ℕ → Entry → Type 0) (me : Sitter F) (v number : ℕ) (after : Sitter F) : Type 0 where
     pub found : List Linked
     pub first : number ≡ named (first_cell found)
@@ -67,6 +67,8 @@ module _ {F : Type 0} where
     pub within : All (λ l. l.cell < me.0.knows.cells) found
     pub met : All (λ l. IsMet fact me.0.knows.fact v l.entry) found
     pub goes_on : IsTailOf (seen_of me.0.knows.marks v) found
+    pub known : All (λ look. look.node ≡ v → IsTailOf look.found found) me.0.knows.looks
+    pub all_put : All (Contains found) (puts_at me.0.knows.puts v)
     pub view : after.0 ≡ knowing me.0 (with_look me.0.knows v found)
     pub slots : after.1 ≡ me.1
 

@@ -2,6 +2,7 @@ ghost use Rattle.std.specs.Prelude.{◌≡◌, ℕ, ◌+◌, ◌*◌, ◌^◌, �
 ghost use Rattle.walk_laws.specs.Labelling.{label_row};
 ghost use Rattle.hub_index.specs.Views.{IsNode};
 ghost use Rattle.label_pool.specs.declared.rule.Linked.{Linked};
+ghost use Rattle.table_seats.specs.Numbers.{numbers};
 ghost use Rattle.label_pool.specs.Chains.{IsRest, entries_at};
 ghost use Rattle.label_pool.specs.Seats.{IsSeatOf, IsMet, HasPut, HasFound, IfPut, IfFull, first_some};
 
@@ -173,7 +174,8 @@ impl<F: LinkFact> Pool<F> {
         PoolPut::Put
     }
 
-    /// Begins a walk of the entries of the node `v`, a number from 1, by one load. It never waits.
+    /// Begins a walk of the entries of the node `v`, a number from 1, by one load. It never waits. The walk has all that the
+    /// seat, and those that were joined into it, put and found there.
     pub fn visit(&self, seat: &mut PoolSeat<F>, v: u32) -> Visit
         requires seat { IsSeatOf self.now seat.old }
         requires node { IsNode self.now.n v }
@@ -187,7 +189,7 @@ impl<F: LinkFact> Pool<F> {
     }
 
     /// Splits a new seat off, from which `give` more may be split; the old one loses those and one for the new seat
-    /// itself. It takes no memory and never waits.
+    /// itself. What the old one saw counts as seen by the new one, too. It takes no memory and never waits.
     pub fn split(&self, seat: &mut PoolSeat<F>, give: u32) -> PoolSeat<F>
         requires seat { IsSeatOf self.now seat.old }
         requires enough { give < seat.old.left }
@@ -198,7 +200,7 @@ impl<F: LinkFact> Pool<F> {
         ensures new_seat { IsSeatOf self.now result }
         ensures new_left { result.left ≡ give }
         ensures new_drawn { (result.blocks ≡ []) × (result.reserve ≡ []) × (result.spare ≡ []) }
-        ensures new { (result.puts ≡ []) × (result.looks ≡ []) × (result.marks ≡ []) × (result.past ≡ seat.old.past) }
+        ensures new { (result.puts ≡ []) × (result.looks ≡ []) × (result.marks ≡ seat.old.marks) × (result.past ≡ seat.old.past) }
     {
         let given = split_off::<Handing, _, _, _, _>(&self.table.shared, &mut seat.seat, give);
         seat.left -= give + 1;
@@ -235,10 +237,13 @@ impl<F: LinkFact> Pool<F> {
     }
 
     /// The raw rows, by the last seat, into which all others were joined: in each row the entries that the seats put there,
-    /// each once and nothing else. The only error is that memory ran out, and then the cells are given up.
+    /// each once and nothing else. What they drew are the first blocks, each once, and all where one of them drew past the
+    /// cells. The only error is that memory ran out, and then the cells are given up.
     pub fn close(self, seat: PoolSeat<F>) -> Result<RowList, AllocError>
         requires seat { IsSeatOf self seat }
         requires last { seat.left + 1 ≡ self.seats }
+        ensures drawn { IsPermutation seat.blocks (numbers 0 (length seat.blocks)) }
+        ensures past { (cell : ℕ) → seat.past ≡ Some cell → length seat.blocks * self.block ≡ self.cells }
         ensures size { IfOk result (λ rows. length rows ≡ self.n) }
         ensures puts { IfOk result (λ rows. (v : ℕ) → IsNode self.n v → IsPermutation (entries_at seat.puts v) (label_row rows v)) }
         ensures fact { IfOk result (λ rows. (v : ℕ) → IsNode self.n v → All (IsMet F.fact self.fact v) (label_row rows v)) }

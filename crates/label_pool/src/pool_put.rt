@@ -1,5 +1,5 @@
-/// What became of a put: the entry was put; or no cell was left, where the first one of the block that was drawn would be
-/// `cell`, a number from 0, and there are `cells`.
+/// What became of a put: the entry was put; or no block was left to draw, where the first cell of the one that was drawn
+/// would be `cell`, a number from 0, and there are `cells`. Other seats may have cells in reserve then.
 #[derive(Clone, Copy, Debug, PartialEq, Eq)]
 pub enum PoolPut {
     Put,

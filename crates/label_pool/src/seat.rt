@@ -6,8 +6,10 @@ use std::marker::Model;
 use table_seats::SeatView;
 
 /// The right of one worker to put entries into a pool, to walk its chains, and to split seats off. It goes from thread to
-/// thread and is never copied. Between two calls it has less than a block of cells in reserve. Contracts see whose it is, how many seats may still be split from it, what it put and what it
-/// found, both with what was joined into it, what it saw by itself, and whether it drew past the last cell.
+/// thread and is never copied. Between two calls it has less than a block of cells in reserve. Contracts see whose it is, how
+/// many seats may still be split from it, what it drew, put and found, each with what was joined into it, which cells it has
+/// in reserve and which were left to those seats, what it and the seat that it was split from saw, and whether it drew past
+/// the last cell.
 #[derive(Drop)]
 pub struct PoolSeat<F> {
     pub(crate) seat: Seat<(), SeatView<View<F>>>,

@@ -1,3 +1,6 @@
+use Rattle.std.specs.Prelude.{Some}
+use Rattle.table_seats.specs.Numbers.{numbers}
+use Rattle.std.proofs.Common.{◌*◌, length}
 use Rattle.std.proofs.Common.{◌≡◌, ◌+◌, ℕ, List, All, IsPermutation, ap, ◌∙◌, sym, subst}
 use Rattle.std.specs.Slots.{slots_items}
 use Rattle.walk_laws.specs.declared.entry.Entry.{Entry}
@@ -6,7 +9,7 @@ use Rattle.hub_index.specs.Views.{IsNode}
 use Rattle.label_pool.specs.declared.rule.Linked.{Linked}
 use Rattle.label_pool.specs.Chains.{IsWritten, entries_of, entries_at}
 use Rattle.label_pool.specs.Seats.{IsMet}
-use Rattle.label_pool.proofs.Closes.{written, puts, met, if-ok}
+use Rattle.label_pool.proofs.Closes.{drawn, written, puts, met, if-ok}
 use Rattle.label_pool.proofs.pool.Pool.close.Goals as goal
 use Rattle.label_pool.proofs.pool.Pool.close.Given
 use Rattle.label_pool.proofs.pool.Pool.close.Goals.{After-close_with-closed}
@@ -28,6 +31,23 @@ rows_of g c rows are = let i = c.self.invariant in subst (λ (t : ℕ × ℕ). A
 
 node_of : (g : Given.Over) (c : After-close_with-closed g) (v : ℕ) → IsNode c.args.self.n v → IsNode c.self.inside.table.shared.key.n v
 node_of g c v node = subst (λ n. IsNode n v) (sym (ap (λ d. d.n) c.self.view_is)) node
+
+ends : (g : Given.Over) (c : After-close_with-closed g) → c.seat.inside.seat.me.0.seats ≡ c.self.inside.table.shared.key.seats
+    → (IsPermutation c.seat.inside.seat.me.0.knows.blocks (numbers 0 (length c.seat.inside.seat.me.0.knows.blocks))) × ((cell : ℕ) → c.seat.inside.seat.me.0.knows.past ≡ Some cell → length c.seat.inside.seat.me.0.knows.blocks * c.self.inside.table.shared.key.block ≡ c.self.inside.table.shared.key.cells)
+ends g c last = drawn g.F.LinkFact.fact c.self.inside.table.shared.key c.seat.inside.seat.id c.seat.inside.seat.me.0 (slots_items c.close_with-closed.result.words) (slots_items c.close_with-closed.result.slots) c.close_with-closed.ensures.values.2 last
+
+pub returns-clause-drawn : goal.returns-clause-drawn
+returns-clause-drawn g c =
+    let before = (goal.at.returns-clause-drawn g c).After-close_with-closed in
+    let left = ap (λ d. d.left + 1) c.seat.view_is ∙ c.requires.last ∙ sym (ap (λ d. d.seats) c.self.view_is) in
+    subst (λ bs. IsPermutation bs (numbers 0 (length bs))) (ap (λ d. d.blocks) c.seat.view_is) (ends g before (c.seat.invariant.0 ∙ left)).0
+
+pub returns-clause-past : goal.returns-clause-past
+returns-clause-past g c = λ cell is.
+    let before = (goal.at.returns-clause-past g c).After-close_with-closed in
+    let left = ap (λ d. d.left + 1) c.seat.view_is ∙ c.requires.last ∙ sym (ap (λ d. d.seats) c.self.view_is) in
+    let e = (ends g before (c.seat.invariant.0 ∙ left)).1 cell (ap (λ d. d.past) c.seat.view_is ∙ is) in
+    (λ k. length ((sym c.seat.view_is k).blocks) * (sym c.self.view_is k).block) ∙ e ∙ ap (λ d. d.cells) c.self.view_is
 
 pub returns-clause-puts : goal.returns-clause-puts
 returns-clause-puts g c =

@@ -56,7 +56,7 @@ invariant_of-seat g c =
 pub returns : goal.returns
 returns g c =
     let t = told g (goal.at.returns g c).After-load-head in
-    let found = has-found _ _ _ _ _ _ c.seat.view_is c.load-head.ensures.0 g.F.LinkFact.fact c.args.self.now c.requires.seat c.args.v t.found t.goes_on t.met t.most t.view in
+    let found = has-found _ _ _ _ _ _ c.seat.view_is c.load-head.ensures.0 g.F.LinkFact.fact c.args.self.now c.requires.seat c.args.v t.found t.goes_on t.met t.most t.known t.all_put t.view in
     let looks = ap (λ b. b.looks) found.after_is in
     record {
       found = (
