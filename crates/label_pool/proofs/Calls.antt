@@ -40,13 +40,14 @@ module _ {F : Type 0} where
       after_is = (λ k. seated (same k) left (after_is k).knows) ∙ ap (λ (b : Seated F). record b { looks = b.looks ++ record { node = v; found = found } ∷ []; marks = record { node = v; found = found } ∷ b.marks }) is;
     }
 
-    pub has-put : (v : ℕ) (e : Entry) (cell : ℕ) (blocks reserve : List ℕ) → HasTaken me.knows.block me.knows.blocks me.knows.reserve cell blocks reserve → (older : List Linked) → IsTailOf (seen_of me.knows.marks v) older → (filling : Option Filling) → linked_of filling ≡ record { cell = cell; entry = e }
+    pub has-put : (v : ℕ) (e : Entry) (cell : ℕ) (blocks reserve : List ℕ) → HasTaken me.knows.block me.knows.blocks me.knows.reserve cell blocks reserve → cell < me.knows.cells → (older : List Linked) → IsTailOf (seen_of me.knows.marks v) older → (filling : Option Filling) → linked_of filling ≡ record { cell = cell; entry = e }
         → after ≡ knowing me (with_link (record me.knows { blocks = blocks; reserve = reserve; filling = filling }) v older) → HasPut before v e (seated id' left after.knows)
-    has-put v e cell blocks reserve took older goes_on filling linked after_is = record {
+    has-put v e cell blocks reserve took within older goes_on filling linked after_is = record {
       cell = cell;
       blocks = blocks;
       reserve = reserve;
       took = subst (λ (b : Seated F). HasTaken b.pool.block b.blocks b.reserve cell blocks reserve) is took;
+      within = subst (λ (b : Seated F). cell < b.pool.cells) is within;
       older = older;
       goes_on = subst (λ marks. IsTailOf (seen_of marks v) older) (ap (λ b. b.marks) is) goes_on;
       after_is =

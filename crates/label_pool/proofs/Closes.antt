@@ -1,8 +1,9 @@
 -- What the last seat gets where the pool is closed.
-use Rattle.std.proofs.Common.{◌≡◌, ℕ, ◌*◌, ◌-◌, ◌∙◌, List, All, IsPermutation, length, min, sym, ap, subst, arith}
+use Rattle.std.proofs.Common.{◌≡◌, ℕ, ◌*◌, ◌-◌, ◌∙◌, List, All, IsPermutation, get_or, length, min, refl, sym, ap, subst, arith}
 use Rattle.table_seats.specs.Numbers.{numbers}
 use Rattle.std.proofs.lemmas.List.FromFn.{length-range_with_len}
 use Rattle.std.specs.Prelude.{Result, Ok, Err, Some, IfOk, slice_index}
+use Rattle.std.proofs.lemmas.List.{map-append}
 use Rattle.std.proofs.lemmas.List.Elements.{All-map}
 use Rattle.std.proofs.lemmas.List.Sorted.{IsPermutation-map, length_permutation}
 use Rattle.atomic_table.specs.Table.{Final, Seen}
@@ -13,8 +14,9 @@ use Rattle.label_pool.proofs.Permuted.{flat_map-one}
 use Rattle.table_seats.proofs.Seating.{others_empty}
 use Rattle.label_pool.specs.declared.rule.About.{About}
 use Rattle.label_pool.specs.declared.rule.Linked.{Linked}
+use Rattle.label_pool.specs.declared.rule.Look.{Look}
 use Rattle.label_pool.specs.declared.rule.View.{View}
-use Rattle.label_pool.specs.Chains.{IsWritten, entries_of, entries_at, puts_at}
+use Rattle.label_pool.specs.Chains.{EndsIn, IsTailOf, IsWritten, entries_of, entries_at, puts_at}
 use Rattle.label_pool.specs.Lawful.{IsSeated, IsChainOf, IsLawful, is_some, nothing}
 use Rattle.label_pool.proofs.Blocks.{got-once}
 use Rattle.label_pool.proofs.Cells.{chain-most}
@@ -76,6 +78,19 @@ module _ {F : Type 0} (fact : F → ℕ → Entry → Type 0) (about : About F) 
     pub met : All (λ e. fact about.fact v e) (rows v)
     unfolding written chain_of
     met = subst (All (λ e. fact about.fact v e)) (sym row) (All-map (λ e. fact about.fact v e) (λ (l : Linked). l.entry) (chain_of v node).0 (chain_of v node).1.met)
+
+  -- each chain that was found, by the last seat or one that was joined into it, is the end of its row
+  pub ends_in : (rows : ℕ → List Entry) → ((v : ℕ) (chain : List Linked) → IsNode about.n v → IsWritten about.n about.cells words v chain → rows v ≡ entries_of chain) → All (λ look. EndsIn (rows look.node) look.found) me.knows.looks
+  unfolding written chain_of lawful
+  ends_in rows row_is = λ k d lt.
+      let look : Look = get_or me.knows.looks k d in
+      let node : IsNode about.n look.node = lawful.noded id me final.1.1 k d lt in
+      let c = chain_of look.node node in
+      let tail : IsTailOf look.found c.0 = c.1.found id me final.1.1 k d lt refl in
+      record {
+        newer = entries_of tail.prefix;
+        parted = row_is look.node c.0 node (written look.node node).1 ∙ ap entries_of tail.parted ∙ map-append (λ (l : Linked). l.entry) tail.prefix look.found;
+      }
 
 -- a fact of what is there where nothing failed
 pub if-ok : {X E : Type 0} (r : Result X E) (P Q : X → Type 0) → ((x : X) → P x → Q x) → IfOk r P → IfOk r Q

@@ -47,6 +47,11 @@ pub record IsTailOf (tail whole : List Linked) : Type 0 where
   pub prefix : List Linked
   pub parted : whole ≡ prefix ++ tail
 
+-- the entries of the chain, newest first, are the end of the row
+pub record EndsIn (row : List Entry) (chain : List Linked) : Type 0 where
+  pub newer : List Entry
+  pub parted : row ≡ newer ++ entries_of chain
+
 -- the chain of the node v as it was last seen, by the last of these marks, which come newest first
 abbrev pub seen_of : List Look → ℕ → List Linked
 seen_of [] v = []

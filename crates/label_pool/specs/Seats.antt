@@ -66,12 +66,13 @@ module _ {F : Type 0} where
   IsMet fact None v e = ⊥
   IsMet fact (Some value) v e = fact value v e
 
-  -- The seat put the entry at the node v, in a cell that it took: the chain that it saw by that has its cell first, then what others put meanwhile, and what it had seen before at the end
+  -- The seat put the entry at the node v, in a cell of the pool that it took: the chain that it saw by that has its cell first, then what others put meanwhile, and what it had seen before at the end
   pub record HasPut (before : Seated F) (v : ℕ) (e : Entry) (after : Seated F) : Type 0 where
     pub cell : ℕ
     pub blocks : List ℕ
     pub reserve : List ℕ
     pub took : HasTaken before.pool.block before.blocks before.reserve cell blocks reserve
+    pub within : cell < before.pool.cells
     pub older : List Linked
     pub goes_on : IsTailOf (seen_of before.marks v) older
     pub after_is : after ≡ record before { blocks = blocks; reserve = reserve; puts = before.puts ++ record { node = v; linked = record { cell = cell; entry = e } } ∷ []; marks = record { node = v; found = record { cell = cell; entry = e } ∷ older } ∷ before.marks }

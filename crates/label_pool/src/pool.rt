@@ -3,7 +3,7 @@ ghost use Rattle.walk_laws.specs.Labelling.{label_row};
 ghost use Rattle.hub_index.specs.Views.{IsNode};
 ghost use Rattle.label_pool.specs.declared.rule.Linked.{Linked};
 ghost use Rattle.table_seats.specs.Numbers.{numbers};
-ghost use Rattle.label_pool.specs.Chains.{IsRest, entries_at};
+ghost use Rattle.label_pool.specs.Chains.{EndsIn, IsRest, entries_at};
 ghost use Rattle.label_pool.specs.Seats.{IsSeatOf, IsMet, HasPut, HasFound, IfPut, IfFull, first_some};
 
 use crate::gathering::gathered;
@@ -237,8 +237,9 @@ impl<F: LinkFact> Pool<F> {
     }
 
     /// The raw rows, by the last seat, into which all others were joined: in each row the entries that the seats put there,
-    /// each once and nothing else. What they drew are the first blocks, each once, and all where one of them drew past the
-    /// cells. The only error is that memory ran out, and then the cells are given up.
+    /// each once and nothing else. Each chain that one of them found is the end of its row. What they drew are the first
+    /// blocks, each once, and all where one of them drew past the cells. The only error is that memory ran out, and then the
+    /// cells are given up.
     pub fn close(self, seat: PoolSeat<F>) -> Result<RowList, AllocError>
         requires seat { IsSeatOf self seat }
         requires last { seat.left + 1 ≡ self.seats }
@@ -246,6 +247,7 @@ impl<F: LinkFact> Pool<F> {
         ensures past { (cell : ℕ) → seat.past ≡ Some cell → length seat.blocks * self.block ≡ self.cells }
         ensures size { IfOk result (λ rows. length rows ≡ self.n) }
         ensures puts { IfOk result (λ rows. (v : ℕ) → IsNode self.n v → IsPermutation (entries_at seat.puts v) (label_row rows v)) }
+        ensures found { IfOk result (λ rows. All (λ look. EndsIn (label_row rows look.node) look.found) seat.looks) }
         ensures fact { IfOk result (λ rows. (v : ℕ) → IsNode self.n v → All (IsMet F.fact self.fact v) (label_row rows v)) }
     {
         let Pool {

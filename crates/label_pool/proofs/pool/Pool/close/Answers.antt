@@ -7,9 +7,9 @@ use Rattle.walk_laws.specs.declared.entry.Entry.{Entry}
 use Rattle.walk_laws.specs.Labelling.{label_row}
 use Rattle.hub_index.specs.Views.{IsNode}
 use Rattle.label_pool.specs.declared.rule.Linked.{Linked}
-use Rattle.label_pool.specs.Chains.{IsWritten, entries_of, entries_at}
+use Rattle.label_pool.specs.Chains.{EndsIn, IsWritten, entries_of, entries_at}
 use Rattle.label_pool.specs.Seats.{IsMet}
-use Rattle.label_pool.proofs.Closes.{drawn, written, puts, met, if-ok}
+use Rattle.label_pool.proofs.Closes.{drawn, ends_in, written, puts, met, if-ok}
 use Rattle.label_pool.proofs.pool.Pool.close.Goals as goal
 use Rattle.label_pool.proofs.pool.Pool.close.Given
 use Rattle.label_pool.proofs.pool.Pool.close.Goals.{After-close_with-closed}
@@ -58,6 +58,15 @@ returns-clause-puts g c =
     (λ rows are v node. subst (λ ps. IsPermutation (entries_at ps v) (label_row rows v)) (ap (λ d. d.puts) c.seat.view_is)
     (puts g.F.LinkFact.fact c.self.inside.table.shared.key c.seat.inside.seat.id c.seat.inside.seat.me.0 (slots_items c.close_with-closed.result.words) (slots_items c.close_with-closed.result.slots) c.close_with-closed.ensures.values.2
     (label_row rows) (rows_of g before rows are) v (node_of g before v node) last))
+    c.gathered-rows.ensures.rows
+
+pub returns-clause-found : goal.returns-clause-found
+returns-clause-found g c =
+    let before = (goal.at.returns-clause-found g c).After-close_with-closed in
+    if-ok c.gathered-rows.result _ _
+    (λ rows are. subst (λ looks. All (λ look. EndsIn (label_row rows look.node) look.found) looks) (ap (λ d. d.looks) c.seat.view_is)
+    (ends_in g.F.LinkFact.fact c.self.inside.table.shared.key c.seat.inside.seat.id c.seat.inside.seat.me.0 (slots_items c.close_with-closed.result.words) (slots_items c.close_with-closed.result.slots) c.close_with-closed.ensures.values.2
+    (label_row rows) (rows_of g before rows are)))
     c.gathered-rows.ensures.rows
 
 pub returns-clause-fact : goal.returns-clause-fact

@@ -46,7 +46,7 @@ returns-clause-put g c =
     let goes_on = subst (λ (m : Sitter g.row.F.Denot). IsTailOf (seen_of m.0.knows.marks c.args.v) l.0) opened l.3 in
     let after = ap (λ m. m.0) l.4 ∙ ap (λ (m : Sitter g.row.F.Denot). knowing m.0 (with_link (with_filling m.0.knows (with_next (Some l.1) m.0.knows.filling)) c.args.v l.0)) opened in
     has-put c.seat.inside.seat.table_id c.link.new.seat.table_id c.seat.inside.left k0.0 c.link.new.seat.me.0 c.args.seat.now c.seat.view_is (c.link.ensures.same.0 ∙ c.open_first.ensures.same.0 ∙ c.refill-room.ensures.same.0)
-    c.args.v c.args.entry next r.blocks rest (taken k0 next end c.refill-room.new.seat.me r) l.0 goes_on (Some (filled next (Some l.1) dist)) linked after
+    c.args.v c.args.entry next r.blocks rest (taken k0 next end c.refill-room.new.seat.me r) (omega (arith, r.some, r.within)) l.0 goes_on (Some (filled next (Some l.1) dist)) linked after
 
 pub invariant_of-seat-2 : goal.invariant_of-seat-2
 invariant_of-seat-2 g c =
