@@ -21,7 +21,7 @@ pub record PoolId (F : Type 0) : Type 0 where
   pub seats : ℕ
   pub fact : Option F
 
--- A seat: whose it is, how many seats may still be split from it, the blocks that it drew and the cells of its last one that it has in reserve, the cells that nobody uses, what it put and what it found, both with those of the seats that were joined into it, what it saw by itself, newest first, and the number past the cells that it drew
+-- A seat: whose it is, how many seats may still be split from it, the blocks that it drew and the cells of its last one that it has in reserve, the cells that nobody uses, what it put and what it found, both with those of the seats that were joined into it, what it and the seat that it was split from saw, newest first, and the number past the cells that it drew
 pub record Seated (F : Type 0) : Type 0 where
   pub pool : PoolId F
   pub left : ℕ

@@ -72,7 +72,8 @@ pub struct View<F> {
     pub puts: LinkedList<Put>,
     /// What it found at each of its visits, with those of the seats that were joined into it.
     pub looks: LinkedList<Look>,
-    /// The chain of a node as its own visit found it or its own put left it, newest first. A join adds none.
+    /// The chain of a node as its own visit found it or its own put left it, newest first, and at the end those of
+    /// the seat that it was split from. A join adds none.
     pub marks: LinkedList<Look>,
     /// The number of a cell past the cells that it drew; or that of a seat from which it was split, or with which it was
     /// joined.
@@ -143,8 +144,8 @@ impl<F: LinkFact> Play<(), SeatView<View<F>>> for Reads {
     ghost then = { Read };
 }
 
-/// A split seat has drawn, put and seen nothing; a join puts together what both drew, put and found, and keeps the marks and
-/// the reserve of the one that stays.
+/// A split seat has drawn, put and found nothing, and has the marks of the other one; a join puts together what both drew, put
+/// and found, and keeps the marks and the reserve of the one that stays.
 pub struct Handing;
 
 impl<F> Shares<View<F>> for Handing {
