@@ -93,12 +93,17 @@ fn a_pool_of_no_nodes_closes_empty(rt: HostRuntime) -> Result<(), Fail> {
     Ok(())
 }
 
+/// The second seat finds what the first one put before it has put anything itself.
 #[test]
 fn two_seats_find_what_both_put(rt: HostRuntime) -> Result<(), Fail> {
     let (pool, mut one) = Pool::new(rt.alloc(), 3, 4, 2, Anything)?;
     let mut two = pool.split(&mut one, 0);
     assert_eq!(rt; (one.left(), two.left()), (0, 0));
     assert_eq!(rt; pool.put(&rt, &mut one, 3, entry(1)), PoolPut::Put);
+    assert_eq!(rt;
+        walked(rt.alloc(), &pool, &mut two, 3)?.as_slice(),
+        [entry(1)].as_slice()
+    );
     assert_eq!(rt; pool.put(&rt, &mut two, 3, entry(2)), PoolPut::Put);
     let both = [entry(2), entry(1)];
     assert_eq!(rt;
