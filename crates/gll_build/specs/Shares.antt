@@ -13,6 +13,7 @@ use Rattle.root_claims.specs.Seats.{Claimed, ClaimsId, IsSeatOf as IsClaimSeatOf
 use Rattle.label_pool.specs.Seats.{PoolId, IsSeatOf}
 use Rattle.label_clean.specs.Needless.{IsNeedless}
 use Rattle.pool_view.specs.Fitting.{Fitting, IsFittingPool, edges_of, order_of}
+use Rattle.pool_view.specs.Putting.{IsListOf}
 use Rattle.gll_build.specs.declared.share.Seats.{Seats}
 use Rattle.gll_build.specs.declared.share.Share.{Share}
 use Rattle.gll_build.specs.declared.ground.Ground.{Ground}
@@ -90,10 +91,12 @@ pub record HavePut (edges : List Edge) (at : List ℕ) (global : List (List Entr
   pub put : (v : ℕ) → IsNode (length at) v → IsPutBy edges at roots v (entries_of_node list v)
   pub apart : (v : ℕ) → IsNode (length at) v → AreUncovered at global v (entries_of_node list v)
 
--- some root was claimed with the share, or none was left; the own rows are for as many nodes as before; and where memory sufficed the trees of all roots that were claimed are grown over the global table, and the list is what they put
+-- some root was claimed with the share, or none was left; the own rows are for as many nodes as before; the list is what its seat put in the superstep's pool, where all workers see it, and after that what there was no cell for; and where memory sufficed the trees of all roots that were claimed are grown over the global table, and the list is what they put
 pub record IsDone (ground : Ground) (share : Share) : Type 0 where
   pub begun : HasBegun share.seats.claims
   pub own : share.own ≡ length ground.ranking.now
+  pub seat : IsSeatOf ground.pool.now share.seats.pool
+  pub puts : IsListOf share.seats.pool share.list.items
   pub sufficed : IfOk share.memory (λ _. HavePut ground.graph.now.edges ground.ranking.now ground.global.now share.seats.claims.got share.list.items)
 
 -- a worker that has grown all trees of its share

@@ -13,9 +13,9 @@ use Rattle.label_pool.specs.declared.rule.Linked.{Linked}
 use Rattle.label_pool.specs.Chains.{entries_of}
 use Rattle.label_pool.specs.Seats.{PoolId, Seated, HasFound}
 use Rattle.pool_view.specs.Fitting.{Fitting, MayStand, edges_of, order_of}
-use Rattle.pool_view.specs.Putting.{Putting, listed}
+use Rattle.pool_view.specs.Putting.{IsPooledBy, Putting, listed}
 use Rattle.pool_view.specs.Viewing.{Viewing, IsViewing, IsOpen, HasVisited, HasGained, IsPast, IsAfter, IsOfferedToAll, fact_of, seen_row, whole_row}
-use Rattle.pool_view.proofs.KeptViews.{viewing-looked, visited-seen, pooled-seen, stays_open}
+use Rattle.pool_view.proofs.KeptViews.{viewing-looked, visited-seen, pooled-seen, stays_open, stays_pooled}
 use Rattle.pool_view.proofs.NotedTables.{HoldsRow-same, HoldsRow-three}
 use Rattle.pool_view.proofs.Offered.{owned-seen}
 use Rattle.pool_view.proofs.WholeRows.{All-reversed, chain-stands, whole-all, whole-found, noting-whole, whole-noting}
@@ -60,6 +60,9 @@ module _ (before : Viewing) (v : ℕ) (seat : Seated Fitting) (found : List Link
 
   pub open_kept : (past : Bool) (puts : Putting) → IsOpen past before.seat puts → IsOpen past seat puts
   open_kept past puts opened = stays_open past before.seat seat puts puts (ap (λ (s : Seated Fitting). s.past) is.visit.after_is) refl opened
+
+  pub puts_kept : (puts : Putting) → IsPooledBy before.seat puts → IsPooledBy seat puts
+  puts_kept puts by = stays_pooled before.seat seat puts (ap (λ (s : Seated Fitting). s.puts) is.visit.after_is) by
 
   -- the chain, the own row with the newest entry first, and the global row were noted in an empty table
   pub row_held : (n : ℕ) → n ≡ length (order_of before.seat.pool.fact) → HoldsRow (noted (noted (noted (replicate n None) (entries_of found)) (reverse (label_row before.own v))) (label_row before.global v)) (whole_row before found v)

@@ -1,7 +1,8 @@
 -- A view that is made of a seat, a global table and what the worker put, and what one entry more changes of it.
-use Rattle.std.proofs.Common.{◌≡◌, inr, Bool, true, false, true≢false, ℕ, ◌≤◌, List, [], ◌∷◌, ◌++◌, append_assoc, All, Contains, length, sym, ap, subst, ◌∙◌}
+use Rattle.std.proofs.Common.{◌≡◌, inr, Bool, true, false, true≢false, ℕ, ◌≤◌, List, [], ◌∷◌, ◌++◌, append_assoc, All, Contains, length, map, sym, ap, subst, ◌∙◌}
 use Rattle.std.specs.Prelude.{None, Some, Result, Ok, Err, OnErr, OnOk}
-use Rattle.std.proofs.lemmas.List.{append-nil}
+use Rattle.std.proofs.lemmas.List.{append-nil, map-append}
+use Rattle.std.proofs.lemmas.Option.{none-some}
 use Rattle.std.proofs.lemmas.List.Elements.{All-contains, All-contains_itself, All-push, All-weaker, Contains-append_right}
 use Rattle.walk_laws.specs.declared.entry.Entry.{Entry}
 use Rattle.walk_laws.specs.Labelling.{label_row}
@@ -11,9 +12,10 @@ use Rattle.hub_index.specs.PlainRows.{IsGathered}
 use Rattle.hub_index.specs.Sunk.{entries_of_node}
 use Rattle.hub_index.specs.Views.{IsNode}
 use Rattle.hub_index.proofs.RowsGathered.{IsGathered-gains}
+use Rattle.label_pool.specs.declared.rule.Put.{Put}
 use Rattle.label_pool.specs.Seats.{Seated, HasPut}
 use Rattle.pool_view.specs.Fitting.{Fitting, edges_of, order_of}
-use Rattle.pool_view.specs.Putting.{Putting, all_put, listed, own_rows}
+use Rattle.pool_view.specs.Putting.{Putting, IsListOf, IsPooledBy, all_put, listed, own_rows, put_entry}
 use Rattle.pool_view.specs.Viewing.{Viewing, IsOpen, IsViewing, HasGained, fact_of}
 use Rattle.pool_view.proofs.KeptViews.{viewing-put}
 use Rattle.pool_view.proofs.PutRows.{length-own, own_row, own-more}
@@ -52,6 +54,27 @@ stays_past false seat puts new is opened = absurd (true≢false (sym is))
 pub not_past : (past : Bool) (seat : Seated Fitting) (puts : Putting) → past ≡ false → IsOpen past seat puts → (seat.past ≡ None) × (puts.kept ≡ [])
 not_past true seat puts is opened = absurd (true≢false is)
 not_past false seat puts is opened = opened
+
+-- an entry more in the pool
+pub pooled-more : (seat now : Seated Fitting) (puts : Putting) (v : ℕ) (e : Entry) → HasPut seat v e now → IsPooledBy seat puts → IsPooledBy now (pooling puts v e)
+pooled-more seat now puts v e put by =
+    let one : Put = record { node = v; linked = record { cell = put.cell; entry = e } } in
+    ap (λ list. listed list v e) by
+    ∙ sym (map-append put_entry seat.puts (one ∷ []))
+    ∙ sym (ap (λ (s : Seated Fitting). map put_entry s.puts) put.after_is)
+
+-- an entry that the worker keeps, or none
+pub pooled-kept : {E : Type 0} (seat now : Seated Fitting) (puts new : Putting) (v : ℕ) (e : Entry) (r : Result (Unit {0}) E) → OnOk r (new ≡ keeping puts v e) → OnErr r (new ≡ puts) → now.puts ≡ seat.puts → IsPooledBy seat puts → IsPooledBy now new
+pooled-kept seat now puts new v e (Ok t) ok err same by = ap (λ (w : Putting). w.pooled) ok ∙ by ∙ ap (map put_entry) (sym same)
+pooled-kept seat now puts new v e (Err t) ok err same by = ap (λ (w : Putting). w.pooled) err ∙ by ∙ ap (map put_entry) (sym same)
+
+none_kept : (past : Bool) (seat : Seated Fitting) (puts : Putting) → IsOpen past seat puts → seat.past ≡ None → puts.kept ≡ []
+none_kept false seat puts opened none = opened.1
+none_kept true seat puts opened none = absurd (none-some opened.0 (sym none ∙ opened.1))
+
+-- the list of a view
+pub list_of : (past : Bool) (seat : Seated Fitting) (puts : Putting) → IsOpen past seat puts → IsPooledBy seat puts → IsListOf seat (all_put puts)
+list_of past seat puts opened by = record { kept = puts.kept; list_is = ap (λ list. list ++ puts.kept) by; none = none_kept past seat puts opened }
 
 module _ (seat : Seated Fitting) (global : List (List Entry)) (puts : Putting) (viewing : IsViewing (view_of seat global puts)) where
   pub nodes_are : puts.n ≡ length (order_of seat.pool.fact)

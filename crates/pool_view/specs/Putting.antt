@@ -1,5 +1,5 @@
 -- What one worker puts in a superstep, in the pool and in rows of its own.
-use Rattle.std.specs.Prelude.{ℕ, List, [], ◌∷◌, ◌++◌, All, length, replicate}
+use Rattle.std.specs.Prelude.{◌≡◌, ℕ, List, [], ◌∷◌, ◌++◌, All, None, length, map, replicate}
 use Rattle.walk_laws.specs.declared.entry.Entry.{Entry}
 use Rattle.hub_index.specs.declared.entry_sink.NodeEntry.{NodeEntry}
 use Rattle.hub_index.specs.HubIndex.{with_entry}
@@ -7,6 +7,9 @@ use Rattle.hub_index.specs.Sunk.{entry_of}
 use Rattle.hub_index.specs.Views.{IsNode}
 use Rattle.entry_chains.specs.declared.chains.Chains.{Chains}
 use Rattle.entry_chains.specs.Chains.{AreChained}
+use Rattle.label_pool.specs.declared.rule.Put.{Put}
+use Rattle.label_pool.specs.Seats.{Seated}
+use Rattle.pool_view.specs.Fitting.{Fitting}
 
 -- the number of nodes, what was put in the pool, and what was kept after that
 pub record Putting : Type 0 where
@@ -35,3 +38,17 @@ all_put puts = puts.pooled ++ puts.kept
 pub record AreKept (entries : List NodeEntry) (chains : Chains) : Type 0 where
   pub nodes : All (λ e. IsNode (length chains.heads.items) e.node) entries
   pub chained : AreChained entries (length entries) chains
+
+-- what was put in the pool, as it is listed
+abbrev pub put_entry : Put → NodeEntry
+put_entry put = record { node = put.node; pos = put.linked.entry.pos; dist = put.linked.entry.dist }
+
+-- what is told of the pool is what the seat put there, in that order
+abbrev pub IsPooledBy : Seated Fitting → Putting → Type 0
+IsPooledBy seat puts = puts.pooled ≡ map put_entry seat.puts
+
+-- the list has what the seat put in the pool, in that order, and after it what was kept: nothing, where the seat has not drawn past the last cell
+pub record IsListOf (seat : Seated Fitting) (list : List NodeEntry) : Type 0 where
+  pub kept : List NodeEntry
+  pub list_is : list ≡ map put_entry seat.puts ++ kept
+  pub none : seat.past ≡ None → kept ≡ []

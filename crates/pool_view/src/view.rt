@@ -6,6 +6,7 @@ ghost use Rattle.hub_index.specs.declared.row_view.Offer.TheVariants.{Covered};
 ghost use Rattle.label_pool.specs.declared.rule.Linked.{Linked};
 ghost use Rattle.label_pool.specs.Seats.{IsSeatOf};
 ghost use Rattle.pool_view.specs.Fitting.{IsFittingPool, edges_of, order_of};
+ghost use Rattle.pool_view.specs.Putting.{IsListOf};
 ghost use Rattle.pool_view.specs.Viewing.{HasGained, HasVisited, IsPast, IsOfferedToAll, IsOfferedToGlobal, fact_of, seen_row, whole_row};
 
 use crate::chain::{covered_in_chain, note_chain};
@@ -37,18 +38,18 @@ pub struct PoolView<'a, R: Wait> {
 impl<'a, R: Wait> Model for PoolView<'a, R> {
     ghost use Rattle.std.specs.Prelude.{◌≡◌};
     ghost use Rattle.label_pool.specs.Seats.{IsSeatOf};
-    ghost use Rattle.pool_view.specs.Putting.{all_put, own_rows};
+    ghost use Rattle.pool_view.specs.Putting.{IsPooledBy, all_put, own_rows};
     ghost use Rattle.pool_view.specs.Viewing.{Viewing, IsViewing, IsOpen};
 
     ghost Value = { Viewing };
 
     ghost view = { λ v. record { seat = v.seat; global = v.global.now; own = own_rows v.puts; list = all_put v.puts } };
 
-    ghost invariant = { λ v. IsSeatOf v.pool.now v.seat × IsViewing (record { seat = v.seat; global = v.global.now; own = own_rows v.puts; list = all_put v.puts }) × IsOpen v.past v.seat v.puts };
+    ghost invariant = { λ v. IsSeatOf v.pool.now v.seat × IsViewing (record { seat = v.seat; global = v.global.now; own = own_rows v.puts; list = all_put v.puts }) × IsOpen v.past v.seat v.puts × IsPooledBy v.seat v.puts };
 }
 
 impl<'a, R: Wait> PoolView<'a, R> {
-    /// A view by a seat that has visited no chain and put nothing by itself, with own rows and a list that are empty. By `rt`
+    /// A view by a seat that has visited no chain and put nothing, with own rows and a list that are empty. By `rt`
     /// its puts wait for one another.
     pub fn new(
         rt: &'a R,
@@ -62,6 +63,7 @@ impl<'a, R: Wait> PoolView<'a, R> {
         requires seat { IsSeatOf pool.now seat }
         requires past { seat.past ≡ None }
         requires fresh { (seat.looks ≡ []) × (seat.marks ≡ []) }
+        requires puts { seat.puts ≡ [] }
         requires global { IsGathered (edges_of pool.now.fact) (order_of pool.now.fact) global.now }
         requires own { own ≡ length global.now }
         requires list { list.items ≡ [] }
@@ -86,6 +88,7 @@ impl<'a, R: Wait> PoolView<'a, R> {
         ensures seat { result.0 ≡ self.entry.seat }
         ensures own { result.1 ≡ length (order_of self.entry.seat.pool.fact) }
         ensures list { result.2.items ≡ self.entry.list }
+        ensures puts { IsListOf self.entry.seat self.entry.list }
         ensures nodes { All (λ e. IsNode (length (order_of self.entry.seat.pool.fact)) e.node) self.entry.list }
     {
         let PoolView {

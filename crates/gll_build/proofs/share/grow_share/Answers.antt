@@ -3,7 +3,9 @@ use Rattle.std.specs.Prelude.{IsOk}
 use Rattle.hub_index.specs.declared.entry_sink.NodeEntry.{NodeEntry}
 use Rattle.hub_index.specs.Sunk.{entries_of_node}
 use Rattle.hub_index.specs.Views.{IsNode}
-use Rattle.pool_view.specs.Fitting.{order_of}
+use Rattle.label_pool.specs.Seats.{Seated}
+use Rattle.pool_view.specs.Fitting.{Fitting, order_of}
+use Rattle.pool_view.specs.Putting.{IsListOf}
 use Rattle.pool_view.specs.Viewing.{ViewKept, puts_row}
 use Rattle.gll_build.proofs.DoneShares.{grown_from_nothing, sufficed_by}
 use Rattle.gll_build.specs.Shares.{AreUncovered}
@@ -32,5 +34,7 @@ returns-clause-done g c =
     record {
       begun = c.grow_trees-memory.ensures.begun;
       own = parts.own ∙ ap length order_is;
+      seat = ap (λ (s : Seated Fitting). s.pool) parts.seat ∙ ap (λ (k : ViewKept). k.pool) c.grow_trees-memory.ensures.kept ∙ pool_is;
+      puts = subst (λ s. IsListOf s c.into_parts-pool_seat.result.2.items) (sym parts.seat) (subst (IsListOf c.grow_trees-memory.new.view.seat) (sym parts.list) parts.puts);
       sufficed = sufficed_by edges at c.args.ground.now.global.now c.grow_trees-memory.new.seat.got list c.grow_trees-memory.result nodes grown apart;
     }

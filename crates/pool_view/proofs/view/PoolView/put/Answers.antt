@@ -1,14 +1,14 @@
-use Rattle.std.proofs.Common.{◌≡◌, ◌-◌, length, take, sym, ap, subst, ◌∙◌}
+use Rattle.std.proofs.Common.{◌≡◌, ◌-◌, length, take, refl, sym, ap, subst, ◌∙◌}
 use Rattle.std.specs.Prelude.{OnOk, OnErr}
 use Rattle.hub_index.specs.declared.entry_sink.NodeEntry.{NodeEntry}
 use Rattle.hub_index.specs.Views.{IsNode}
 use Rattle.label_pool.specs.Seats.{Seated}
 use Rattle.pool_view.specs.Fitting.{Fitting, order_of}
-use Rattle.pool_view.specs.Putting.{Putting}
+use Rattle.pool_view.specs.Putting.{Putting, IsPooledBy}
 use Rattle.pool_view.specs.Viewing.{Viewing, HasGained, IsViewing, fact_of}
 use Rattle.pool_view.proofs.KeptViews.{stays_open}
 use Rattle.pool_view.proofs.PutRows.{unlisted}
-use Rattle.pool_view.proofs.PutViews.{gained-kept, is_node, is_past, keeping, not_past, stays_past, view_of, viewing-kept, viewing-pooled}
+use Rattle.pool_view.proofs.PutViews.{gained-kept, is_node, is_past, keeping, not_past, pooled-kept, pooled-more, stays_past, view_of, viewing-kept, viewing-pooled}
 use Rattle.pool_view.proofs.view.PoolView.put.Goals as goal
 
 pub keep-requires : goal.keep-requires
@@ -26,6 +26,7 @@ invariant_of-self g c =
       c.self.invariant.0,
       viewing-kept seat c.self.inside.global.now puts c.self.invariant.1 c.args.v c.args.entry node fits c.keep.result c.keep.new.self c.keep.ensures.ok c.keep.ensures.err seat past.0 (ap (λ p. record seat { past = p }) past.1),
       stays_past c.self.inside.past seat puts c.keep.new.self c.if-self.true c.self.invariant.2,
+      pooled-kept seat seat puts c.keep.new.self c.args.v c.args.entry c.keep.result c.keep.ensures.ok c.keep.ensures.err refl c.self.invariant.3,
     )
 
 pub returns-then-self-clause-ok : goal.returns-then-self-clause-ok
@@ -51,6 +52,7 @@ invariant_of-self-in-Put g c =
       ap (λ (s : Seated Fitting). s.pool) p.after_is ∙ c.self.invariant.0,
       subst (λ w. IsViewing (view_of c.put.new.seat global w)) (sym c.in_ok-list.ensures.ok) (viewing-pooled seat global puts c.self.invariant.1 c.args.v c.args.entry node fits none.1 c.put.new.seat p),
       stays_open c.self.inside.past seat c.put.new.seat puts c.list.new.self (ap (λ (s : Seated Fitting). s.past) p.after_is) (ap (λ (w : Putting). w.kept) c.in_ok-list.ensures.ok) c.self.invariant.2,
+      subst (IsPooledBy c.put.new.seat) (sym c.in_ok-list.ensures.ok) (pooled-more seat c.put.new.seat puts c.args.v c.args.entry p c.self.invariant.3),
     )
 
 pub invariant_of-self-in-Full : goal.invariant_of-self-in-Full
@@ -71,4 +73,5 @@ invariant_of-self-in-Full g c =
       ap (λ (s : Seated Fitting). s.pool) full.4 ∙ c.self.invariant.0,
       viewing-kept seat global puts c.self.invariant.1 c.args.v c.args.entry node fits r new ok err c.put.new.seat c.in-Full.cell full.4,
       (c.in-Full.cell, ap (λ (s : Seated Fitting). s.past) full.4),
+      pooled-kept seat c.put.new.seat puts new c.args.v c.args.entry r ok err (ap (λ (s : Seated Fitting). s.puts) full.4) c.self.invariant.3,
     )

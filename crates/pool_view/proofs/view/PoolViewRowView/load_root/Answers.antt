@@ -13,7 +13,7 @@ use Rattle.label_pool.specs.Chains.{entries_of}
 use Rattle.pool_view.specs.Fitting.{edges_of, order_of}
 use Rattle.pool_view.specs.Putting.{own_rows}
 use Rattle.pool_view.specs.Viewing.{Viewing, HasVisited, fact_of, seen_row, whole_row}
-use Rattle.pool_view.proofs.Answered.{IsVisit, visit-by, visited, row_found, seen_now, viewing_now, pool_kept, open_kept, row_held}
+use Rattle.pool_view.proofs.Answered.{IsVisit, visit-by, visited, row_found, seen_now, viewing_now, pool_kept, open_kept, puts_kept, row_held}
 use Rattle.pool_view.proofs.PutViews.{is_node, own_is, view_of}
 use Rattle.pool_view.proofs.view.PoolViewRowView.load_root.Given as given
 use Rattle.pool_view.proofs.view.PoolViewRowView.load_root.Goals as goal
@@ -67,6 +67,7 @@ invariant_of-self g c =
       pool_kept (viewed g up) c.args.h c.note_chain.new.seat found is c.self.inside.pool.now c.self.invariant.0,
       viewing_now (viewed g up) c.args.h c.note_chain.new.seat found is,
       open_kept (viewed g up) c.args.h c.note_chain.new.seat found is c.self.inside.past c.self.inside.puts c.self.invariant.2,
+      puts_kept (viewed g up) c.args.h c.note_chain.new.seat found is c.self.inside.puts c.self.invariant.3,
     )
 
 pub returns-clause-visit : goal.returns-clause-visit

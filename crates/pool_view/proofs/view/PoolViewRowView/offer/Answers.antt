@@ -12,7 +12,7 @@ use Rattle.label_pool.specs.Seats.{Seated, HasFound}
 use Rattle.pool_view.specs.Fitting.{Fitting, MayStand, order_of}
 use Rattle.pool_view.specs.Putting.{own_rows}
 use Rattle.pool_view.specs.Viewing.{Viewing, IsOfferedToGlobal, IsOfferedToAll}
-use Rattle.pool_view.proofs.Answered.{IsVisit, visit-by, viewing_now, pool_kept, open_kept, offered_covered, offered_put, offered_none}
+use Rattle.pool_view.proofs.Answered.{IsVisit, visit-by, viewing_now, pool_kept, open_kept, puts_kept, offered_covered, offered_put, offered_none}
 use Rattle.pool_view.proofs.PutViews.{is_node, own_is, view_of}
 use Rattle.pool_view.proofs.WholeRows.{seen-found, of_chain, of_own}
 use Rattle.pool_view.proofs.view.PoolViewRowView.offer.Given as given
@@ -77,7 +77,7 @@ invariant_of-self g c =
     let up = (goal.at.invariant_of-self g c).After-cover in
     let chain = c.in-Some-covered_in_chain.ensures.chain in
     let is = visit_by g up c.covered_in_chain.new.seat chain.0 chain.1 in
-    (pool_kept (viewed g up) c.args.v c.covered_in_chain.new.seat chain.0 is c.self.inside.pool.now c.self.invariant.0, viewing_now (viewed g up) c.args.v c.covered_in_chain.new.seat chain.0 is, open_kept (viewed g up) c.args.v c.covered_in_chain.new.seat chain.0 is c.self.inside.past c.self.inside.puts c.self.invariant.2)
+    (pool_kept (viewed g up) c.args.v c.covered_in_chain.new.seat chain.0 is c.self.inside.pool.now c.self.invariant.0, viewing_now (viewed g up) c.args.v c.covered_in_chain.new.seat chain.0 is, open_kept (viewed g up) c.args.v c.covered_in_chain.new.seat chain.0 is c.self.inside.past c.self.inside.puts c.self.invariant.2, puts_kept (viewed g up) c.args.v c.covered_in_chain.new.seat chain.0 is c.self.inside.puts c.self.invariant.3)
 
 pub returns-in-Some-covered_in_chain : goal.returns-in-Some-covered_in_chain
 returns-in-Some-covered_in_chain g c =
@@ -96,7 +96,7 @@ invariant_of-self-in-Some-cover g c =
     let up = (goal.at.invariant_of-self-in-Some-cover g c).After-cover in
     let chain = c.in_default-covered_in_chain.ensures.chain in
     let is = visit_by g up c.covered_in_chain.new.seat chain.0 chain.1 in
-    (pool_kept (viewed g up) c.args.v c.covered_in_chain.new.seat chain.0 is c.self.inside.pool.now c.self.invariant.0, viewing_now (viewed g up) c.args.v c.covered_in_chain.new.seat chain.0 is, open_kept (viewed g up) c.args.v c.covered_in_chain.new.seat chain.0 is c.self.inside.past c.self.inside.puts c.self.invariant.2)
+    (pool_kept (viewed g up) c.args.v c.covered_in_chain.new.seat chain.0 is c.self.inside.pool.now c.self.invariant.0, viewing_now (viewed g up) c.args.v c.covered_in_chain.new.seat chain.0 is, open_kept (viewed g up) c.args.v c.covered_in_chain.new.seat chain.0 is c.self.inside.past c.self.inside.puts c.self.invariant.2, puts_kept (viewed g up) c.args.v c.covered_in_chain.new.seat chain.0 is c.self.inside.puts c.self.invariant.3)
 
 pub returns-in-Some-cover : goal.returns-in-Some-cover
 returns-in-Some-cover g c =
@@ -117,7 +117,7 @@ invariant_of-self-2 g c =
     let up = (goal.at.invariant_of-self-2 g c).After-cover in
     let chain = c.in_default-covered_in_chain.ensures.chain in
     let is = visit_by g up c.covered_in_chain.new.seat chain.0 chain.1 in
-    (pool_kept (viewed g up) c.args.v c.covered_in_chain.new.seat chain.0 is c.self.inside.pool.now c.self.invariant.0, viewing_now (viewed g up) c.args.v c.covered_in_chain.new.seat chain.0 is, open_kept (viewed g up) c.args.v c.covered_in_chain.new.seat chain.0 is c.self.inside.past c.self.inside.puts c.self.invariant.2)
+    (pool_kept (viewed g up) c.args.v c.covered_in_chain.new.seat chain.0 is c.self.inside.pool.now c.self.invariant.0, viewing_now (viewed g up) c.args.v c.covered_in_chain.new.seat chain.0 is, open_kept (viewed g up) c.args.v c.covered_in_chain.new.seat chain.0 is c.self.inside.past c.self.inside.puts c.self.invariant.2, puts_kept (viewed g up) c.args.v c.covered_in_chain.new.seat chain.0 is c.self.inside.puts c.self.invariant.3)
 
 pub returns-in-Ok : goal.returns-in-Ok
 returns-in-Ok g c =
