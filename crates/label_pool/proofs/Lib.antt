@@ -3,6 +3,7 @@ mod Blocks
 mod Calls
 mod Cells
 mod Closes
+mod Found
 mod Permuted
 mod Puts
 mod Rests

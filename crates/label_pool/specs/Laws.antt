@@ -2,7 +2,7 @@
 use Rattle.std.specs.Prelude.{◌≡◌, ◌≢◌, ℕ, ◌+◌, ◌*◌, ◌^◌, ◌<◌, ◌≤◌, Some, None, List, [], ◌∷◌, ◌++◌, All, length, replicate, slice_index, slice_set}
 use mathlib.Core.Option.{some}
 use lib.ListN.{get_elem?}
-use Rattle.atomic_table.specs.Table.{opening}
+use Rattle.atomic_table.specs.Table.{Step, opening}
 use Rattle.walk_laws.specs.declared.entry.Entry.{Entry}
 use Rattle.hub_index.specs.Views.{IsNode}
 use Rattle.table_seats.specs.declared.seat_view.SeatView.{SeatView}
@@ -13,7 +13,7 @@ use Rattle.label_pool.specs.declared.rule.Linked.{Linked}
 use Rattle.label_pool.specs.declared.rule.View.{View}
 use Rattle.label_pool.specs.Fillings.{filled}
 use Rattle.label_pool.specs.Layout.{head_at, next_at, dist_at, name_in, pos_in, word_count}
-use Rattle.label_pool.specs.Lawful.{Table, IsChainOf, IsLawful, first_view, given, both, nothing}
+use Rattle.label_pool.specs.Lawful.{Table, Sitter, IsChainOf, IsLawful, first_view, given, both, nothing}
 use Rattle.label_pool.specs.Steps.{with_drawn, with_filling, with_opened, with_look, with_link}
 
 module _ {F : Type 0} where
@@ -49,6 +49,12 @@ module _ {F : Type 0} (fact : F → ℕ → Entry → Type 0) where
   abbrev pub FindsKeep : Type 0
   FindsKeep = (about : About F) (s : Table F) (id : ℕ) (me : SeatView (View F)) (v : ℕ) → IsLawful fact about s → IsSeat s.views id me → IsNode about.n v
       → (chain : List Linked) × IsChainOf fact about s v chain × IsLawful fact about (with_view s id me (with_look me.knows v chain))
+
+  -- a seat that loads a head and learns what the step tells has found the whole chain that stands there then, with all that was put there, by whichever seat
+  abbrev pub FindsAll : (Step (Unit {0}) → Sitter F → ℕ → Sitter F → Type 0) → Type 0
+  FindsAll tells = (about : About F) (s : Table F) (id v : ℕ) (step : Step (Unit {0})) (me after : Sitter F) → IsLawful fact about s → IsSeat s.views id me.0 → IsNode about.n v → step.word ≡ head_at v
+      → tells step me (slice_index s.words (head_at v)) after → IsLawful fact about (record { words = s.words; homes = s.homes; views = slice_set s.views id after.0 })
+      → (chain : List Linked) × IsChainOf fact about s v chain × (after.0 ≡ knowing me.0 (with_look me.0.knows v chain))
 
   -- a seat links its filled cell, which names the head that it finds, before the chain
   abbrev pub LinksKeep : Type 0

@@ -4,9 +4,11 @@ ghost use Rattle.atomic_table.specs.Table.{Step};
 ghost use Rattle.label_pool.specs.declared.rule.About.{About as AboutPool};
 ghost use Rattle.label_pool.specs.Layout.{head_at};
 ghost use Rattle.label_pool.specs.Lawful.{IsLawful, Sitter, Table as PoolTable};
-ghost use Rattle.label_pool.specs.Laws.{HoldsAtFirst, DrawsKeep, FillsKeep, OpensKeep, FindsKeep, LinksKeep, SplitsKeep, JoinsKeep, ChainsAreShort, ChainsAreApart};
+ghost use Rattle.label_pool.specs.Laws.{HoldsAtFirst, DrawsKeep, FillsKeep, OpensKeep, FindsKeep, FindsAll, LinksKeep, SplitsKeep, JoinsKeep, ChainsAreShort, ChainsAreApart};
 
-use crate::rule::{About, Draws, FillsNext, Handing, Law, LinkFact, Links, Opens, Reads, View};
+use crate::rule::{
+    About, Draws, FillsNext, Finds, Handing, Law, LinkFact, Links, Opens, Reads, View,
+};
 use atomic_table::{Play, TableRule};
 use table_seats::{Looks, SeatView};
 
@@ -25,10 +27,12 @@ pub fn the_rule_is_kept<F: LinkFact>()
     ensures apart { ChainsAreApart F.fact }
 {}
 
-/// The rule is the one that the table of a pool is held to, between any two steps; and of the steps that a seat takes by
-/// itself only the load of a head adds a look: no draw, no opening, no fill, no link, no load of a cell's word, and not being looked at.
+/// The rule is the one that the table of a pool is held to, between any two steps. The load of a head finds the whole chain
+/// that stands there then; and of the steps that a seat takes by itself it alone adds a look: no draw, no opening, no fill,
+/// no link, no load of a cell's word, and no look at word 0.
 pub fn the_table_is_held_to_the_rule<F: LinkFact>()
     ensures rule { (about : AboutPool F) (words : PoolTable F) → ⟦<Law as TableRule<(), SeatView<View<F>>, About<F>>>⟧.holds about words ↔ IsLawful F.fact about words }
+    ensures find { FindsAll F.fact (λ step me number after. ⟦<Finds as Play<(), SeatView<View<F>>>>⟧.then step me number after) }
     ensures draw { (step : Step (Unit {0})) (me : Sitter F) (number : ℕ) (after : Sitter F) → ⟦<Draws as Play<(), SeatView<View<F>>>>⟧.then step me number after → after.0.knows.looks ≡ me.0.knows.looks }
     ensures next { (step : Step (Unit {0})) (me : Sitter F) (number : ℕ) (after : Sitter F) → ⟦<FillsNext as Play<(), SeatView<View<F>>>>⟧.then step me number after → after.0.knows.looks ≡ me.0.knows.looks }
     ensures opened { (step : Step (Unit {0})) (me : Sitter F) (number : ℕ) (after : Sitter F) (cell : ℕ) (rest : List ℕ) → me.0.knows.reserve ≡ cell ∷ rest → ⟦<Opens as Play<(), SeatView<View<F>>>>⟧.then step me number after → after.0.knows.looks ≡ me.0.knows.looks }
