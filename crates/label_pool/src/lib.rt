@@ -5,7 +5,7 @@
 //! is fixed when it begins, whatever others put meanwhile. Every entry put meets a fact of the pool's own, its [`LinkFact`].
 //! The words of the pool are a table of atomic_table under a rule (`rule`, `specs/Lawful`), which holds between any two steps
 //! of any number of seats; how these are counted, split and joined is table_seats' matter. Its callers' clauses use
-//! `specs/Seats` (`IsSeatOf`, `IsMet`) and `specs/Chains` (`seen_of`, `entries_at`, `IsRest`).
+//! `specs/Seats` (`IsSeatOf`, `IsMet`, `HasPut`, `HasFound`) and `specs/Chains` (`seen_of`, `entries_at`, `IsRest`, `EndsIn`).
 #![tactic(auto)]
 
 mod gathering;

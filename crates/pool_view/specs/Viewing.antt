@@ -77,7 +77,7 @@ pub record IsInPool (before : Viewing) (v : ℕ) (e : Entry) (after : Viewing) :
 abbrev pub IsPast : Viewing → Viewing → Type 0
 IsPast before after = (cell : ℕ) × (after ≡ record before { seat = record before.seat { past = Some cell } })
 
--- the pool was full, and the entry was put in the worker's own row
+-- the pool had no cell for it, and the entry was put in the worker's own row
 pub record IsInOwn (before : Viewing) (v : ℕ) (e : Entry) (after : Viewing) : Type 0 where
   pub within : v ≤ length before.own
   pub cell : ℕ
@@ -91,7 +91,7 @@ IsPlaced before v e after = IsInPool before v e after ⊎ IsInOwn before v e aft
 abbrev pub HasGained : Viewing → ℕ → Entry → Viewing → Type 0
 HasGained before v e after = IsPlaced (record before { list = listed before.list v e }) v e after
 
--- what an offer changes after its visit: nothing where an entry covers; the entry is put in the pool, or, where that is full, in the worker's own row, and listed; where that finds no memory nothing is gained
+-- what an offer changes after its visit: nothing where an entry covers; the entry is put in the pool, or, where that has no cell for it, in the worker's own row, and listed; where that finds no memory nothing is gained
 abbrev pub IsAfter : Viewing → ℕ → Entry → Offer → Viewing → Type 0
 IsAfter before v e IsPut after = HasGained before v e after
 IsAfter before v e (Covered pos dist) after = after ≡ before

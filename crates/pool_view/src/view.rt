@@ -49,8 +49,8 @@ impl<'a, R: Wait> Model for PoolView<'a, R> {
 }
 
 impl<'a, R: Wait> PoolView<'a, R> {
-    /// A view by a seat that has visited no chain and put nothing, with own rows and a list that are empty. By `rt`
-    /// its puts wait for one another.
+    /// A view by a seat that has seen and put nothing, and neither have those that were joined into it or the one that it was
+    /// split from. The own rows and the list are empty. By `rt` its puts wait for one another.
     pub fn new(
         rt: &'a R,
         pool: &'a Pool<Fits>,
