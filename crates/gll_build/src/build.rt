@@ -65,7 +65,9 @@ fn all_steps<R: Threads + Wait + Sync, G: Gate + Sync>(
         next: 0,
     };
     while progress.next < n {
-        (progress, workshop) = next_step(rt, alloc, graph, ranking, progress, cut, workshop, gate)?;
+        (progress, workshop) = next_step(
+            rt, alloc, graph, ranking, progress, workers, cut, workshop, gate,
+        )?;
     }
     progress.rows.into_rows(alloc)
 }
@@ -103,7 +105,7 @@ pub fn superstep<R: Threads + Wait + Sync, G: Gate + Sync>(
         next: first,
     };
     let (progress, _workshop) = next_step(
-        rt, alloc, graph, ranking, progress, cut, workshop, gate,
+        rt, alloc, graph, ranking, progress, workers, cut, workshop, gate,
     )?;
     let Progress { rows, next } = progress;
     Ok((rows.into_rows(alloc)?, next))

@@ -68,7 +68,7 @@ impl Workshop {
     }
 }
 
-/// One superstep: the workers grow the trees of the next roots, and the new entries are cleaned and join the rows. It costs
+/// One superstep: so many workers grow the trees of the next roots, and the new entries are cleaned and join the rows. It costs
 /// its entries, and one pass over the heads of its pool, which are made empty. The only error is that memory ran out.
 pub fn next_step<R: Threads + Wait + Sync, G: Gate + Sync>(
     rt: &R,
@@ -76,6 +76,7 @@ pub fn next_step<R: Threads + Wait + Sync, G: Gate + Sync>(
     graph: &Graph,
     ranking: &Ranking,
     progress: Progress,
+    workers: u32,
     cut: u32,
     workshop: Workshop,
     gate: &G,
@@ -85,10 +86,11 @@ pub fn next_step<R: Threads + Wait + Sync, G: Gate + Sync>(
     requires more { progress.next < length ranking.now }
     requires cut { 1 ≤ cut }
     requires workshop { IsWorkshopFor (length ranking.now) workshop }
+    requires size { vec_len workshop.benches ≡ workers }
     ensures progress { IfOk result (λ done. IsProgress graph.now.edges ranking.now done.0) }
     ensures more { IfOk result (λ done. progress.next < done.0.next) }
     ensures workshop { IfOk result (λ done. IsWorkshopFor (length ranking.now) done.1) }
-    ensures size { IfOk result (λ done. vec_len done.1.benches ≡ vec_len workshop.benches) }
+    ensures size { IfOk result (λ done. vec_len done.1.benches ≡ workers) }
 {
     let ranked = ranking.n();
     prove!(progress.next < ranked);
@@ -99,7 +101,7 @@ pub fn next_step<R: Threads + Wait + Sync, G: Gate + Sync>(
         spare,
     } = workshop;
     let grown = grow_roots(
-        rt, alloc, graph, ranking, &rows, first, cut, benches, spare, gate,
+        rt, alloc, graph, ranking, &rows, first, workers, cut, benches, spare, gate,
     )?;
     let Grown {
         mut fresh,
@@ -117,7 +119,7 @@ pub fn next_step<R: Threads + Wait + Sync, G: Gate + Sync>(
     Ok((Progress { rows, next }, workshop))
 }
 
-/// Lets the workers grow the trees of the next roots over the global rows. What they put comes in one list, and one that is
+/// Lets so many workers grow the trees of the next roots over the global rows. What they put comes in one list, and one that is
 /// empty takes its place. The only error is that memory ran out.
 fn grow_roots<R: Threads + Wait + Sync, G: Gate + Sync>(
     rt: &R,
@@ -126,6 +128,7 @@ fn grow_roots<R: Threads + Wait + Sync, G: Gate + Sync>(
     ranking: &Ranking,
     global: &SplitRows,
     first: u32,
+    workers: u32,
     cut: u32,
     benches: Vec<Bench>,
     spare: Vec<NodeEntry>,
@@ -135,23 +138,22 @@ fn grow_roots<R: Threads + Wait + Sync, G: Gate + Sync>(
     requires global { IsGathered graph.now.edges ranking.now global.now }
     requires first { first < length ranking.now }
     requires cut { 1 ≤ cut }
-    requires some { 1 ≤ vec_len benches }
-    requires few { vec_len benches ≤ 64 }
+    requires workers { (1 ≤ workers) × (workers ≤ 64) }
+    requires size { vec_len benches ≡ workers }
     requires benches { All (IsBenchFor (length ranking.now)) benches.items }
     requires spare { spare.items ≡ [] }
     ensures grown { IfOk result (IsGrownFrom graph.now.edges ranking.now global.now first) }
-    ensures size { IfOk result (λ grown. vec_len grown.benches ≡ vec_len benches) }
+    ensures size { IfOk result (λ grown. vec_len grown.benches ≡ workers) }
     ensures benches { IfOk result (λ grown. All (IsBenchFor (length ranking.now)) grown.benches.items) }
 {
     let n = graph.n();
     let ranked = ranking.n();
     prove!(n == ranked);
-    let count = benches.len() as u32;
-    let (claims, claim_seat) = Claims::new(alloc, first, n, count)?;
+    let (claims, claim_seat) = Claims::new(alloc, first, n, workers)?;
     let fact = Fits::of(graph, ranking);
-    let cells = cells_for(count, cut);
-    let block = block_for(cells, cut, count);
-    let (pool, pool_seat) = Pool::in_blocks(alloc, n, cells / block, block, count, fact)?;
+    let cells = cells_for(workers, cut);
+    let block = block_for(cells, cut, workers);
+    let (pool, pool_seat) = Pool::in_blocks(alloc, n, cells / block, block, workers, fact)?;
     let seats = Seats {
         claims: claim_seat,
         pool: pool_seat,

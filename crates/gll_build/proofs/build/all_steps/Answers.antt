@@ -14,6 +14,7 @@ loop-progress-init g c =
         rows = subst (IsChlBelow c.args.graph.now.edges c.args.ranking.now 0) (sym c.in_ok-new.ensures) (IsChlBelow-none c.args.graph.now.edges c.args.ranking.now c.n-n.result n_is);
       };
       workshop = subst (λ n. IsWorkshopFor n c.in_ok-workshop.workshop) n_is c.in_ok-workshop.ensures.workshop;
+      size = c.in_ok-workshop.ensures.size;
     }
 
 pub returns : goal.returns

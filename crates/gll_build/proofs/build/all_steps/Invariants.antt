@@ -1,4 +1,5 @@
-use Rattle.std.proofs.Common.{◌-◌, length}
+use Rattle.std.proofs.Common.{◌≡◌, ◌-◌, length}
+use Rattle.std.specs.Prelude.{vec_len}
 use Rattle.gll_build.specs.Workshops.{IsProgress, IsWorkshopFor}
 use Rattle.gll_build.proofs.build.all_steps.Given as goal
 
@@ -7,6 +8,7 @@ abbrev pub invariant-loop-progress : goal.invariant-loop-progress
 invariant-loop-progress g l = record {
   progress : IsProgress l.graph.edges l.ranking l.progress;
   workshop : IsWorkshopFor (length l.ranking) l.workshop;
+  size : vec_len l.workshop.benches ≡ l.workers;
 }
 
 abbrev pub decreases-loop-progress : goal.decreases-loop-progress
