@@ -1,4 +1,4 @@
-ghost use Rattle.std.specs.Prelude.{◌≡◌, ℕ, ◌+◌, ◌/◌, ◌≤◌, [], ◌++◌, length, IfOk, OnOk};
+ghost use Rattle.std.specs.Prelude.{◌≡◌, ℕ, ◌+◌, ◌/◌, ◌≤◌, [], ◌++◌, length, IfOk, OnErr, OnOk};
 ghost use Rattle.hub_index.specs.Sunk.{sunk_at, entry_if, entry_of, lists_of, range_width as width_of};
 
 use std::alloc::{AllocError, Global};
@@ -76,12 +76,14 @@ impl EntrySink {
         Ok(EntrySink { n, ranges })
     }
 
-    /// Puts an entry of the row of a node, a number from 1. The only error is that memory ran out.
+    /// Puts an entry of the row of a node, a number from 1. The only error is that memory ran out, and then nothing has
+    /// changed.
     pub fn push(&mut self, node: u32, entry: Entry) -> Result<(), AllocError>
         requires node { 1 ≤ node }
         requires within { node ≤ self.old.n }
         ensures n { self.new.n ≡ self.old.n }
         ensures put { OnOk result ((v : ℕ) → sunk_at self.new v ≡ sunk_at self.old v ++ entry_if node v entry) }
+        ensures err { OnErr result (self.new ≡ self.old) }
     {
         let range = (node - 1) / range_width(self.n);
         self.ranges[range as usize].push(NodeEntry::of(node, entry))?;

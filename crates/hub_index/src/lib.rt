@@ -1,11 +1,15 @@
 //! Label rows as they are gathered, and the index: a ranking with a well formed row of hubs for each node.
 //!
-//! A [`RowList`] has a row of entries for each of the nodes 1..n, to which entries are pushed; a [`RowView`] is what one
-//! worker sees of such rows while it grows trees, [`PlainRows`] being that of one thread, where most entries take half the
-//! room, and a [`Row`] is one row, to which entries are offered; an [`Index`] is a ranking with its rows, and keeps that they are well formed. `laws` has the law that canonical hub labellings are well formed.
+//! A [`RowList`] has a row of entries for each of the nodes 1..n, to which entries are pushed; [`SplitRows`] are such rows in
+//! which most entries take half the room. A [`RootTable`] has the least distances of a row by position, by which entries of
+//! another row are seen to cover. A [`RowView`] is what one worker sees of rows while it grows trees, [`PlainRows`] being that
+//! of one thread over split rows, and a [`Row`] is one row, to which entries are offered. An [`EntrySink`] takes what one worker
+//! puts, in any order, and [`gather`] makes rows of what many put. An [`Index`] is a ranking with its rows, and keeps that they
+//! are well formed. `laws` has the law that canonical hub labellings are well formed.
 //! It stands on walk_laws (`Entry`, `label_row`) and rank_table (`Ranking`). Its callers' clauses use `specs/HubIndex`
 //! (`HubIndex`, `with_entry`), `specs/WellFormed` (`IsWellFormed`, `IsWellFormedRow`, `own_entry`), `specs/RootDistances`
-//! (`root_distance`, `IsCover`, `HoldsRow`) and `specs/Views` (`IsFound`, `IsFoundOnward`, `IsAnswerOf`, `with_put`).
+//! (`root_distance`, `noted`, `IsCover`, `HoldsRow`), `specs/Views` (`IsNode`, `IsFound`, `IsFoundOnward`, `IsAnswerOf`,
+//! `with_put`), `specs/Sunk` (`sunk_at`, `entries_of_node`) and `specs/PlainRows` (`IsGathered`).
 #![tactic(auto)]
 
 mod entry_sink;

@@ -66,10 +66,11 @@ impl RowList {
         Ok(RowList { rows })
     }
 
-    /// Puts the rows of others after these. The only error is that memory ran out.
+    /// Puts the rows of others after these. The only error is that memory ran out, and then nothing has changed.
     pub fn append(&mut self, others: RowList) -> Result<(), AllocError>
         requires { length self.old + length others < 2 ^ 32 }
-        ensures { OnOk result (self.new ≡ self.old ++ others) }
+        ensures ok { OnOk result (self.new ≡ self.old ++ others) }
+        ensures err { OnErr result (self.new ≡ self.old) }
     {
         let mut rows = others.rows;
         self.rows.append(&mut rows)?;

@@ -19,8 +19,8 @@ use walk_laws::Entry;
 const FIRST_ROOM: usize = 32;
 
 /// A row for each of the nodes 1..n: entries of 8 bytes, and from the first on whose distance is too great for that, entries
-/// of 16. The two parts of a row lie apart, since the second is nearly always empty, and then isn't looked at. Contracts see
-/// the list of the rows, node 1 first.
+/// of 16. The two parts of a row lie apart, since the second is nearly always empty; while those of all rows are, none is
+/// looked at. Contracts see the list of the rows, node 1 first.
 #[derive(Debug, Drop)]
 pub struct SplitRows {
     narrow: Vec<Vec<NarrowEntry>>,

@@ -7,8 +7,8 @@
 //! hub that ranks above its own is shared by the rows of its hub and of its node at no greater length. `laws` has the step of
 //! a builder who goes on with a global table. It stands on walk_laws (`Entry`, the laws of covers), rank_table (`Ranking`),
 //! hub_index (`RowList`, `SplitRows`, `RootTable`, `NodeEntry`) and entry_chains (`Chains`). Its callers' clauses use
-//! `HoldsBelow` and `IsChlBelow` (specs/Below), `HoldsBetween` (specs/Between), `IsRawRow` and `both_rows` (specs/RawRows),
-//! `IsNeedless` and `IsSurvivingRow` (specs/Needless).
+//! `HoldsBelow` and `IsChlBelow` (specs/Below), `HoldsBetween`, `IsEarlierRow` and `IsLaterRow` (specs/Between), `IsRawRow` and
+//! `both_rows` (specs/RawRows), `IsNeedless` and `IsSurvivingRow` (specs/Needless).
 #![tactic(auto)]
 
 mod chained_rows;

@@ -1,6 +1,3 @@
-use Rattle.std.proofs.Common.{[], ◌++◌, length, sym, ap, ◌∙◌}
-use Rattle.std.proofs.lemmas.List.{append-nil, set-get_or, take_all}
-use Rattle.walk_laws.specs.Labelling.{label_row}
 use Rattle.hub_index.proofs.PartedRows.{put_next}
 use Rattle.hub_index.proofs.split_rows.SplitRows.push_all.Goals as goal
 
