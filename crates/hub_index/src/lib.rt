@@ -1,11 +1,12 @@
 //! Label rows as they are gathered, and the index: a ranking with a well formed row of hubs for each node.
 //!
 //! A [`RowList`] has a row of entries for each of the nodes 1..n, to which entries are pushed; [`SplitRows`] are such rows in
-//! which most entries take half the room. A [`RootTable`] has the least distances of a row by position, by which entries of
-//! another row are seen to cover. A [`RowView`] is what one worker sees of rows while it grows trees, [`PlainRows`] being that
-//! of one thread over split rows, and a [`Row`] is one row, to which entries are offered. An [`EntrySink`] takes what one worker
-//! puts, in any order, and [`gather`] makes rows of what many put. An [`Index`] is a ranking with its rows, and keeps that they
-//! are well formed. `laws` has the law that canonical hub labellings are well formed.
+//! which most entries take half the room, and [`FromLast`] gives those of one row from the last one on. A [`RootTable`] has
+//! the least distances of a row by position, by which entries of another row are seen to cover. A [`RowView`] is what one
+//! worker sees of rows while it grows trees, [`PlainRows`] being that of one thread over split rows, and a [`Row`] is one row,
+//! to which entries are offered. An [`EntrySink`] takes what one worker puts, in any order, and [`gather`] makes rows of what
+//! many put. An [`Index`] is a ranking with its rows, and keeps that they are well formed. `laws` has the law that canonical
+//! hub labellings are well formed.
 //! It stands on walk_laws (`Entry`, `label_row`) and rank_table (`Ranking`). Its callers' clauses use `specs/HubIndex`
 //! (`HubIndex`, `with_entry`), `specs/WellFormed` (`IsWellFormed`, `IsWellFormedRow`, `own_entry`), `specs/RootDistances`
 //! (`root_distance`, `noted`, `IsCover`, `HoldsRow`), `specs/Views` (`IsNode`, `IsFound`, `IsFoundOnward`, `IsAnswerOf`,
@@ -13,6 +14,7 @@
 #![tactic(auto)]
 
 mod entry_sink;
+mod from_last;
 mod gathering;
 mod index;
 pub mod laws;
@@ -28,6 +30,7 @@ mod tests;
 mod wide_rows;
 
 pub use entry_sink::{EntrySink, NodeEntry};
+pub use from_last::FromLast;
 pub use gathering::gather;
 pub use index::Index;
 pub use plain_rows::PlainRows;

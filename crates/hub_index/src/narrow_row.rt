@@ -17,7 +17,7 @@ pub struct NarrowEntry {
 
 impl NarrowEntry {
     /// The same entry in full room.
-    fn widened(self) -> Entry
+    pub fn widened(self) -> Entry
         ensures { result ≡ widened self }
     {
         Entry {

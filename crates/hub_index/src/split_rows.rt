@@ -1,11 +1,12 @@
 //! The rows of a graph's nodes, split at the first entry whose distance doesn't fit in half the room.
-ghost use Rattle.std.specs.Prelude.{◌≡◌, ◌-◌, ◌^◌, ◌<◌, ◌≤◌, [], ◌++◌, All, Contains, length, map, replicate, slice_set, vec_len, IfOk, IfSome, IfNone, OnOk, OnErr};
+ghost use Rattle.std.specs.Prelude.{◌≡◌, ◌-◌, ◌^◌, ◌<◌, ◌≤◌, [], ◌++◌, All, Contains, length, map, replicate, reverse, slice_set, vec_len, IfOk, IfSome, IfNone, OnOk, OnErr};
 ghost use Rattle.walk_laws.specs.declared.entry.Entry.{Entry as AnEntry};
 ghost use Rattle.walk_laws.specs.Labelling.{label_row};
 ghost use Rattle.hub_index.specs.HubIndex.{with_entry};
 ghost use Rattle.hub_index.specs.RootDistances.{noted, IsCover, HoldsRow};
 ghost use Rattle.hub_index.specs.Views.{IsAnswerOf, with_put};
 
+use crate::from_last::FromLast;
 use crate::narrow_row::{NarrowEntry, joined_parts, narrow_cover, note_parts};
 use crate::root_table::{RootTable, covered};
 use crate::row_list::RowList;
@@ -60,6 +61,18 @@ impl SplitRows {
         ensures { table.new ≡ noted table.old (label_row self.now v) }
     {
         note_parts(&self.narrow[v as usize - 1], self.wide.row(v), table);
+    }
+
+    /// The entries of the row of the node `v`, a number from 1, from the last one on. It takes no memory.
+    pub fn from_last(&self, v: u32) -> FromLast<'_>
+        requires node { 1 ≤ v }
+        requires within { v ≤ length self.now }
+        ensures { result ≡ reverse (label_row self.now v) }
+    {
+        FromLast {
+            narrow: &self.narrow[v as usize - 1],
+            wide: self.wide.row(v),
+        }
     }
 
     /// The rows of a list, with most entries in half the room. The only error is that memory ran out.
