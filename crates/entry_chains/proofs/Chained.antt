@@ -1,9 +1,8 @@
 -- Chains through a list of entries, and what a walk of one finds.
-use Rattle.std.proofs.Common.{◌≡◌, ◌≢◌, ◌↔◌, ℕ, ◌+◌, ◌-◌, ◌<◌, ◌≤◌, inl, inr, List, [], ◌∷◌, ◌++◌, Contains, length, get_or, set, take, reverse, sym, ap, subst, ◌∙◌, arith}
+use Rattle.std.proofs.Common.{◌≡◌, ◌≢◌, ℕ, ◌+◌, ◌-◌, ◌<◌, ◌≤◌, inl, inr, List, [], ◌∷◌, ◌++◌, length, get_or, set, take, reverse, sym, ap, subst, ◌∙◌, arith}
 use Rattle.std.proofs.Math.ListN.{length-set}
 use Rattle.std.proofs.lemmas.Bool.{cases_lt, cases_eq}
 use Rattle.std.proofs.lemmas.List.{append-nil, get_or_default, get_or_push, get_or-set_same, get_or-set_other, length-append, reverse-append, take_all}
-use Rattle.std.proofs.lemmas.List.Sorted.{Contains-permutation, IsPermutation-reverse, IsPermutation-sym}
 use Rattle.walk_laws.specs.declared.entry.Entry.{Entry}
 use Rattle.hub_index.specs.declared.entry_sink.NodeEntry.{NodeEntry}
 use Rattle.hub_index.specs.Sunk.{entries_of_node, entry_if, entry_of}
@@ -93,14 +92,6 @@ AreChained-none entries chains empty none = record {
   chain = λ v v_in. empty.none (v - 1) (omega (arith, v_in.from_one, v_in.up_to_n));
   head = λ v x v_in some. let is = empty.none (v - 1) (omega (arith, v_in.from_one, v_in.up_to_n)) in absurd (omega (arith, is, some));
 }
-
--- the entries are the same ones from the last one on
-pub Contains-backwards : (entries : List Entry) (e : Entry) → Contains entries e ↔ Contains (reverse entries) e
-Contains-backwards entries e =
-    let moved = IsPermutation-reverse entries in (
-      λ h. Contains-permutation entries (reverse entries) e moved h,
-      λ h. Contains-permutation (reverse entries) entries e (IsPermutation-sym entries (reverse entries) moved) h,
-    )
 
 -- all entries are chained
 pub whole_chain : (entries : List NodeEntry) (chains : Chains) → AreChained entries (length entries) chains → (v : ℕ) → IsNode (length chains.heads.items) v → IsChain entries chains.nexts.items (head_of chains v) (reverse (entries_of_node entries v))

@@ -10,15 +10,16 @@ use Rattle.walk_laws.specs.Ranking.{IsRanking}
 use Rattle.walk_laws.specs.Labelling.{label_row}
 use Rattle.hub_index.specs.declared.entry_sink.NodeEntry.{NodeEntry}
 use Rattle.hub_index.specs.PlainRows.{IsGathered}
-use Rattle.hub_index.specs.Sunk.{entries_of_node}
+use Rattle.hub_index.specs.Sunk.{entries_of_node, entry_of}
 use Rattle.hub_index.specs.Views.{IsNode}
 use Rattle.hub_index.proofs.GatheredRows.{entries_of_node-append}
 use Rattle.pruned_tree.proofs.GrownPuts.{AreApart, AreApart-distinct}
-use Rattle.std.proofs.lemmas.List.Elements.{All-append, All-weaker, All-contains_itself}
+use Rattle.std.proofs.lemmas.List.Elements.{All-append, All-contains, All-weaker, All-contains_itself}
 use Rattle.walk_laws.specs.Labelling.{EntryFits}
 use Rattle.label_clean.specs.Below.{IsChlBelow}
-use Rattle.label_clean.specs.Between.{HoldsBetween, IsEarlierRow, IsLaterRow}
+use Rattle.label_clean.specs.Between.{HoldsBetween}
 use Rattle.label_clean.proofs.GoneOnWith.{EntryFits-from_hub}
+use Rattle.label_clean.proofs.TimesOf.{to_node}
 use Rattle.std.proofs.Common.{All, Contains, ◌<◌}
 use Rattle.label_clean.specs.Needless.{IsNeedless}
 use Rattle.gll_build.specs.Shares.{AreUncovered, HavePut, IsPutBy}
@@ -50,15 +51,9 @@ IsGathered-below edges at p rows ranking chl = record {
   fit = λ v from_one up_to_n. All-weaker (Contains (label_row rows v)) (EntryFits (Joined edges) at v) (λ e there. EntryFits-from_hub edges at ranking v e (((chl.row v from_one up_to_n).each e).0 there).0) (label_row rows v) (All-contains_itself (label_row rows v));
 }
 
-pub earlier-below : (edges : List Edge) (at : List ℕ) (p : ℕ) (rows : List (List Entry)) → IsChlBelow edges at p rows → (v : ℕ) → IsNode (length at) v → IsEarlierRow p (label_row rows v)
-earlier-below edges at p rows chl v node = record {
-  rising = (chl.row v node.from_one node.up_to_n).rising;
-  before = All-weaker (Contains (label_row rows v)) (λ (e : Entry). e.pos < p) (λ e there. (((chl.row v node.from_one node.up_to_n).each e).0 there).1) (label_row rows v) (All-contains_itself (label_row rows v));
-}
-
-pub later-between : (edges : List Edge) (at : List ℕ) (p c : ℕ) (entries : ℕ → List Entry) → c ≤ length at → HoldsBetween edges at p c entries → (v : ℕ) → IsNode (length at) v → IsLaterRow p (length at) (entries v)
-later-between edges at p c entries within holds v node = record {
-  from = holds.from v node.from_one node.up_to_n;
-  within = All-weaker (λ (e : Entry). e.pos < c) (λ e. e.pos < length at) (λ e below. omega (arith, below, within)) (entries v) (holds.below v node.from_one node.up_to_n);
-  once = holds.once v node.from_one node.up_to_n;
-}
+-- entries of nodes, of which each node's have positions before c, have such positions
+pub all_below : (edges : List Edge) (at : List ℕ) (p c : ℕ) (entries : List NodeEntry) → c ≤ length at → All (λ e. IsNode (length at) e.node) entries → HoldsBetween edges at p c (entries_of_node entries) → All (λ e. e.pos < length at) entries
+all_below edges at p c entries within nodes holds =
+    All-weaker (Contains entries) (λ (e : NodeEntry). e.pos < length at) (λ x there.
+    let node = All-contains (λ (e : NodeEntry). IsNode (length at) e.node) entries x nodes there in
+    omega (arith, within, All-contains (λ (e : Entry). e.pos < c) (entries_of_node entries x.node) (entry_of x) (holds.below x.node node.from_one node.up_to_n) (to_node entries x there))) entries (All-contains_itself entries)

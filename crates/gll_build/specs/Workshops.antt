@@ -11,12 +11,11 @@ use Rattle.gll_build.specs.declared.step.Progress.{Progress}
 use Rattle.gll_build.specs.declared.step.Workshop.{Workshop}
 use Rattle.gll_build.specs.Shares.{AreUncovered, IsBenchFor}
 
--- benches for 1 to 64 workers, and a cleaner, all for n nodes, and an empty list
+-- benches for 1 to 64 workers, all for n nodes, and an empty list
 pub record IsWorkshopFor (n : ℕ) (workshop : Workshop) : Type 0 where
   pub some : 1 ≤ length workshop.benches.items
   pub few : length workshop.benches.items ≤ 64
   pub benches : All (IsBenchFor n) workshop.benches.items
-  pub cleaner : workshop.cleaner ≡ n
   pub spare : workshop.spare.items ≡ []
 
 -- what the trees of the roots from the first up to the next one put over this global table, which covers none of it; there is one root at least

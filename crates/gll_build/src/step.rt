@@ -59,7 +59,7 @@ impl Workshop {
         ensures size { IfOk result (λ workshop. vec_len workshop.benches ≡ workers) }
     {
         let benches = benches_for(alloc, n, workers)?;
-        let cleaner = Cleaner::new(alloc, n)?;
+        let cleaner = Cleaner::new(alloc);
         Ok(Workshop {
             benches,
             cleaner,

@@ -11,3 +11,4 @@ pub mod Parts
 pub mod PartsOfLabellings
 pub mod NarrowEntries
 pub mod PartedRows
+pub mod Backwards

@@ -8,7 +8,7 @@ use Rattle.walk_laws.specs.declared.entry.Entry.{Entry}
 use Rattle.hub_index.specs.RootDistances.{IsCover}
 use Rattle.label_clean.specs.RawRows.{both_rows}
 use Rattle.label_clean.specs.Needless.{IsCovered, IsNeedless}
-use Rattle.label_clean.specs.Tested.{HoldsLeast, HasCover, Meets}
+use Rattle.label_clean.specs.Tested.{HoldsLeast, HasCover}
 
 abbrev pub pos_of : Entry → ℕ
 pos_of e = e.pos
@@ -33,13 +33,6 @@ IsCovered-more xs ys first second p d first_has second_has c =
     (first_has (entry c.position c.shared.before) c.shared.in_first)
     (second_has (entry c.position c.shared.after) c.shared.in_second)
     (omega (arith, c.shared.long, c.short))
-
--- an entry above p that meets one of the second row covers
-pub IsCovered-from_meeting : (first second : List Entry) (p d : ℕ) (e : Entry) → Contains first e → e.pos < p → Meets second e d → IsCovered first second p d
-IsCovered-from_meeting first second p d e there above meets = covered first second p d e.pos e.dist meets.0 above there meets.1 meets.2
-
-pub meeting_of : (first second : List Entry) (p d : ℕ) → IsCovered first second p d → (e : Entry) × Contains first e × (e.pos < p) × Meets second e d
-meeting_of first second p d c = (entry c.position c.shared.before, c.shared.in_first, c.above, (c.shared.after, c.shared.in_second, omega (arith, c.shared.long, c.short)))
 
 module _ (table : List (Option ℕ)) (first second : List Entry) (p d : ℕ) (held : HoldsLeast table second) where
   -- an entry that covers by way of the table shares its position with the row of the table

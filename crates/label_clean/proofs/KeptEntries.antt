@@ -19,7 +19,7 @@ pub record IsKept (P : Entry → Type 0) (row kept : List Entry) : Type 0 where
   pub each : (e : Entry) → Contains kept e ↔ (Contains row e × ¬ P e)
 
 -- a rising row still rises with an entry after it that is above all others
-Rises-push : (xs : List Entry) (x : Entry) → Rises pos_of xs → ((e : Entry) → Contains xs e → e.pos < x.pos) → Rises pos_of (xs ++ x ∷ [])
+pub Rises-push : (xs : List Entry) (x : Entry) → Rises pos_of xs → ((e : Entry) → Contains xs e → e.pos < x.pos) → Rises pos_of (xs ++ x ∷ [])
 Rises-push xs x up below =
     subst (λ ks. (i j d : ℕ) → i < j → j < length ks → get_or ks i d < get_or ks j d) (sym (map-append pos_of xs (x ∷ [])))
     (all_pairs_push (λ a b. a < b) (map pos_of xs) x.pos up far)

@@ -8,7 +8,10 @@ pub mod TestRows
 pub mod GoneOn
 pub mod RowItems
 pub mod KeptRows
-pub mod Backwards
 pub mod GoneOnWith
-pub mod TakenRows
 pub mod Meetings
+pub mod ListedTrees
+pub mod LateParts
+pub mod TimesOf
+pub mod TakenTrees
+pub mod TreeOrder

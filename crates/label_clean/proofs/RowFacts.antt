@@ -1,5 +1,5 @@
 -- Rows whose positions differ: each position has one entry, and sorted they rise.
-use Rattle.std.proofs.Common.{◌≡◌, ℕ, ◌-◌, ◌<◌, ◌≤◌, true, false, eqb, List, [], All, Contains, length, map, get_or, replicate, sym, ap, ◌∙◌, inl, inr, arith}
+use Rattle.std.proofs.Common.{◌≡◌, ◌≢◌, ℕ, ◌+◌, ◌-◌, ◌<◌, ◌≤◌, true, false, eqb, List, [], ◌∷◌, All, Contains, length, map, get_or, replicate, add-one, refl, sym, ap, ◌∙◌, inl, inr, arith}
 use Rattle.std.specs.List.Sorted.{IsPermutation, IsNonDecreasing, IsNonDecreasingBy}
 use Rattle.std.proofs.lemmas.Bool.{eq-eqb, cases_eq, cases_lt}
 use Rattle.std.proofs.lemmas.Bool.Decides.{eqb_tells}
@@ -68,3 +68,9 @@ All-sorted P entries row is = All-each P entries row (λ e. (is.each e).0)
 
 pub length_empty : (rows : List (List Entry)) (n : ℕ) → rows ≡ replicate n [] → length rows ≡ n
 length_empty rows n is = let none : List Entry = [] in ap length is ∙ length-replicate n none
+
+-- a first entry has another position than those after it
+pub first_apart : (e f : Entry) (es : List Entry) → HasEachOnce (e ∷ es) → Contains es f → e.pos ≢ f.pos
+first_apart e f es once (k, within, is) same =
+    let there : get_or (e ∷ es) (k + 1) f ≡ f = rw add-one is in
+    one_place (e ∷ es) 0 (k + 1) e f once (omega arith) (omega (arith, within)) refl there same

@@ -1,21 +1,17 @@
 -- The rows of the tests may be cleaned.
-use Rattle.std.proofs.Common.{◌≡◌, ℕ, zero, suc, ◌+◌, ◌<◌, ◌≤◌, Some, List, [], ◌∷◌, All, Contains, replicate, refl, sym, ap, subst, ◌∙◌, arith, rules}
+use Rattle.std.proofs.Common.{◌≡◌, ℕ, zero, suc, ◌+◌, ◌<◌, Some, List, [], ◌∷◌, All, Contains, replicate, refl, sym, ap, subst, ◌∙◌, arith}
 use Rattle.std.specs.Prelude.{slice_get}
-use Rattle.std.specs.List.{IsDistinct, AllByRecursion}
 use Rattle.std.proofs.lemmas.List.Elements.{All-contains_itself, All-from_recursion, All-weaker}
 use Rattle.std.proofs.lemmas.Option.{same_Some}
 use Rattle.walk_laws.specs.declared.entry.Entry.{Entry}
 use Rattle.walk_laws.specs.Labelling.{label_row}
-use Rattle.walk_laws.specs.Ranking.{IsRanking}
 use Rattle.walk_laws.specs.Worked.{entry, first_four}
 use Rattle.walk_laws.proofs.Members.{Contains-empty}
 use Rattle.hub_index.specs.declared.entry_sink.NodeEntry.{NodeEntry}
 use Rattle.hub_index.specs.Sunk.{entries_of_node}
 use Rattle.hub_index.specs.Views.{IsNode}
 use Rattle.hub_index.proofs.TouchedPositions.{one_of}
-use Rattle.label_clean.specs.Between.{IsEarlierRow, IsLaterRow}
 use Rattle.label_clean.specs.Needless.{IsNeedless}
-use Rattle.label_clean.specs.RawRows.{HasEachOnce, IsRawRow, both_rows}
 use Rattle.label_clean.proofs.RowFacts.{label_row-replicate}
 
 -- the ten entries of the square
@@ -34,7 +30,7 @@ abbrev at_node : ℕ → ℕ → ℕ → NodeEntry
 at_node v p d = record { node = v; pos = p; dist = d }
 
 abbrev pub fresh : List NodeEntry
-fresh = at_node 4 3 0 ∷ at_node 3 2 0 ∷ at_node 4 2 1 ∷ at_node 2 1 0 ∷ at_node 3 1 1 ∷ []
+fresh = at_node 4 3 0 ∷ at_node 4 2 1 ∷ at_node 2 1 0 ∷ at_node 3 2 0 ∷ at_node 3 1 1 ∷ []
 
 abbrev pub one_hub : List (List Entry)
 one_hub = (entry 0 0 ∷ []) ∷ (entry 0 1 ∷ []) ∷ (entry 0 2 ∷ []) ∷ (entry 0 1 ∷ []) ∷ []
@@ -42,27 +38,6 @@ one_hub = (entry 0 0 ∷ []) ∷ (entry 0 1 ∷ []) ∷ (entry 0 2 ∷ []) ∷ (
 -- and what those of all four roots put
 abbrev pub all_fresh : List NodeEntry
 all_fresh = at_node 4 3 0 ∷ at_node 3 2 0 ∷ at_node 4 2 1 ∷ at_node 2 1 0 ∷ at_node 3 1 1 ∷ at_node 4 1 2 ∷ at_node 1 0 0 ∷ at_node 2 0 1 ∷ at_node 4 0 1 ∷ at_node 3 0 2 ∷ []
-
-later_row : (p : ℕ) (row : List Entry) → AllByRecursion (λ e. p ≤ e.pos) row → AllByRecursion (λ e. e.pos < 4) row → HasEachOnce row → IsLaterRow p 4 row
-later_row p row from within once = record { from = All-from_recursion (λ (e : Entry). p ≤ e.pos) row from; within = All-from_recursion (λ (e : Entry). e.pos < 4) row within; once = once }
-
-pub fresh_later : (v : ℕ) → IsNode 4 v → IsLaterRow 1 4 (entries_of_node fresh v)
-unfolding IsDistinct
-fresh_later zero node = absurd (omega (arith, node.from_one))
-fresh_later (suc zero) node = later_row 1 [] (search rules) (search rules) (search rules)
-fresh_later (suc (suc zero)) node = later_row 1 (entry 1 0 ∷ []) (search rules) (search rules) (search rules)
-fresh_later (suc (suc (suc zero))) node = later_row 1 (entry 2 0 ∷ entry 1 1 ∷ []) (search rules) (search rules) (search rules)
-fresh_later (suc (suc (suc (suc zero)))) node = later_row 1 (entry 3 0 ∷ entry 2 1 ∷ []) (search rules) (search rules) (search rules)
-fresh_later (suc (suc (suc (suc (suc v))))) node = absurd (omega (arith, node.up_to_n))
-
-pub all_fresh_later : (v : ℕ) → IsNode 4 v → IsLaterRow 0 4 (entries_of_node all_fresh v)
-unfolding IsDistinct
-all_fresh_later zero node = absurd (omega (arith, node.from_one))
-all_fresh_later (suc zero) node = later_row 0 (entry 0 0 ∷ []) (search rules) (search rules) (search rules)
-all_fresh_later (suc (suc zero)) node = later_row 0 (entry 1 0 ∷ entry 0 1 ∷ []) (search rules) (search rules) (search rules)
-all_fresh_later (suc (suc (suc zero))) node = later_row 0 (entry 2 0 ∷ entry 1 1 ∷ entry 0 2 ∷ []) (search rules) (search rules) (search rules)
-all_fresh_later (suc (suc (suc (suc zero)))) node = later_row 0 (entry 3 0 ∷ entry 2 1 ∷ entry 1 2 ∷ entry 0 1 ∷ []) (search rules) (search rules) (search rules)
-all_fresh_later (suc (suc (suc (suc (suc v))))) node = absurd (omega (arith, node.up_to_n))
 
 -- an entry is not needless where both rows have the first hub alone, and the way over it is longer
 not_needless : (at : List ℕ) (global : List (List Entry)) (v h a b : ℕ) (e : Entry) → slice_get at e.pos ≡ Some h → label_row global h ≡ entry 0 a ∷ [] → label_row global v ≡ entry 0 b ∷ [] → e.dist < a + b → ¬ IsNeedless at [] global v e
@@ -94,49 +69,3 @@ apart_from_none n at entries v node =
     let shared = needless.covered.shared in
     Contains-empty (entry needless.covered.position shared.after) (subst (λ xs. Contains xs (entry needless.covered.position shared.after)) (label_row-replicate n v node.from_one node.up_to_n) shared.in_second))
     (entries v) (All-contains_itself (entries v))
-
-pub none_earlier : (n p v : ℕ) → IsNode n v → IsEarlierRow p (label_row (replicate n []) v)
-none_earlier n p v node = subst (IsEarlierRow p) (sym (label_row-replicate n v node.from_one node.up_to_n)) (record { rising = λ k within. absurd (omega (arith, within)); before = λ k d within. absurd (omega (arith, within)) })
-
-raw_row : (row : List Entry) → AllByRecursion (λ e. e.pos < 4) row → HasEachOnce row → IsRawRow 4 row
-raw_row row within once = record { within = All-from_recursion (λ (e : Entry). e.pos < 4) row within; once = once }
-
-pub ten_may : (v : ℕ) → 1 ≤ v → v ≤ 4 → IsRawRow 4 (label_row ten v)
-unfolding IsDistinct
-ten_may zero low high = absurd (omega (arith, low))
-ten_may (suc zero) low high = raw_row (label_row ten 1) (search rules) (search rules)
-ten_may (suc (suc zero)) low high = raw_row (label_row ten 2) (search rules) (search rules)
-ten_may (suc (suc (suc zero))) low high = raw_row (label_row ten 3) (search rules) (search rules)
-ten_may (suc (suc (suc (suc zero)))) low high = raw_row (label_row ten 4) (search rules) (search rules)
-ten_may (suc (suc (suc (suc (suc v))))) low high = absurd (omega (arith, high))
-
-pub ten_beside_none_may : (v : ℕ) → 1 ≤ v → v ≤ 4 → IsRawRow 4 (both_rows (replicate 4 []) ten v)
-unfolding IsDistinct
-ten_beside_none_may zero low high = absurd (omega (arith, low))
-ten_beside_none_may (suc zero) low high = raw_row (label_row ten 1) (search rules) (search rules)
-ten_beside_none_may (suc (suc zero)) low high = raw_row (label_row ten 2) (search rules) (search rules)
-ten_beside_none_may (suc (suc (suc zero))) low high = raw_row (label_row ten 3) (search rules) (search rules)
-ten_beside_none_may (suc (suc (suc (suc zero)))) low high = raw_row (label_row ten 4) (search rules) (search rules)
-ten_beside_none_may (suc (suc (suc (suc (suc v))))) low high = absurd (omega (arith, high))
-
-pub both_may : (v : ℕ) → 1 ≤ v → v ≤ 4 → IsRawRow 4 (both_rows two_hubs later v)
-unfolding IsDistinct
-both_may zero low high = absurd (omega (arith, low))
-both_may (suc zero) low high = raw_row (both_rows two_hubs later 1) (search rules) (search rules)
-both_may (suc (suc zero)) low high = raw_row (both_rows two_hubs later 2) (search rules) (search rules)
-both_may (suc (suc (suc zero))) low high = raw_row (both_rows two_hubs later 3) (search rules) (search rules)
-both_may (suc (suc (suc (suc zero)))) low high = raw_row (both_rows two_hubs later 4) (search rules) (search rules)
-both_may (suc (suc (suc (suc (suc v))))) low high = absurd (omega (arith, high))
-
-pub later_may : (v : ℕ) → 1 ≤ v → v ≤ 4 → IsRawRow 4 (label_row later v)
-unfolding IsDistinct
-later_may zero low high = absurd (omega (arith, low))
-later_may (suc zero) low high = raw_row [] (search rules) (search rules)
-later_may (suc (suc zero)) low high = raw_row [] (search rules) (search rules)
-later_may (suc (suc (suc zero))) low high = raw_row (label_row later 3) (search rules) (search rules)
-later_may (suc (suc (suc (suc zero)))) low high = raw_row (label_row later 4) (search rules) (search rules)
-later_may (suc (suc (suc (suc (suc v))))) low high = absurd (omega (arith, high))
-
-pub no_nodes : IsRanking []
-unfolding IsDistinct
-no_nodes = record { node = λ k d within. absurd (omega (arith, within)); once = search rules }

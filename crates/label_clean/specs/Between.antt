@@ -1,23 +1,11 @@
 -- Entries that join a table that is the labelling up to a position.
-use Rattle.std.specs.Prelude.{ℕ, ◌<◌, ◌≤◌, List, All, Contains, length, map}
-use Rattle.std.specs.List.Sorted.{IsStrictlyIncreasing}
+use Rattle.std.specs.Prelude.{ℕ, ◌<◌, ◌≤◌, List, All, Contains, length}
 use Rattle.walk_laws.specs.declared.graph.Edge.{Edge}
 use Rattle.walk_laws.specs.declared.entry.Entry.{Entry}
 use Rattle.walk_laws.specs.Joined.{Joined}
 use Rattle.walk_laws.specs.Labelling.{EntryFits, IsHubEntry}
 use Rattle.walk_laws.specs.Laws.{WeighAtLeastOne}
 use Rattle.label_clean.specs.RawRows.{HasEachOnce}
-
--- by rising position, all before p
-pub record IsEarlierRow (p : ℕ) (row : List Entry) : Type 0 where
-  pub rising : IsStrictlyIncreasing (map (λ e. e.pos) row)
-  pub before : All (λ e. e.pos < p) row
-
--- from the position p on, below n, and no two entries have one position
-pub record IsLaterRow (p n : ℕ) (row : List Entry) : Type 0 where
-  pub from : All (λ e. p ≤ e.pos) row
-  pub within : All (λ e. e.pos < n) row
-  pub once : HasEachOnce row
 
 -- each edge weighs at least 1, and the entries of each node are only such as may stand in its row, with positions from p on and below c, at most one of each hub, and every hub of the node there
 pub record HoldsBetween (edges : List Edge) (at : List ℕ) (p c : ℕ) (entries : ℕ → List Entry) : Type 0 where

@@ -38,8 +38,7 @@ pub fn is_covered(row: &[Entry], table: &RootTable, pos: u32, dist: u64) -> bool
 
 /// Whether an entry and one of a row by rising position cover one at the position `pos`, from 0, with the distance `dist`.
 pub fn covers(other: Entry, row: &[Entry], pos: u32, dist: u64) -> bool
-    requires { IsStrictlyIncreasing (map (λ e. e.pos) row.now) }
-    ensures { IsTrue result ↔ IsCovering row.now pos dist other }
+    ensures { IsStrictlyIncreasing (map (λ e. e.pos) row.now) → IsTrue result ↔ IsCovering row.now pos dist other }
 {
     if other.pos >= pos {
         return false;
@@ -49,8 +48,7 @@ pub fn covers(other: Entry, row: &[Entry], pos: u32, dist: u64) -> bool
 
 /// Whether a row by rising position has an entry at the position of another one, whose distances are together at most `dist`.
 fn meets(row: &[Entry], other: Entry, dist: u64) -> bool
-    requires { IsStrictlyIncreasing (map (λ e. e.pos) row.now) }
-    ensures { IsTrue result ↔ Meets row.now other dist }
+    ensures { IsStrictlyIncreasing (map (λ e. e.pos) row.now) → IsTrue result ↔ Meets row.now other dist }
 {
     let place = row.partition_point(|e| e.pos < other.pos);
     if place >= row.len() {

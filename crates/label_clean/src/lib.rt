@@ -5,13 +5,12 @@
 //! labelling, with no global table and no copy of the rows; a [`Cleaner`] goes on with a global table in place, whose entries
 //! take 8 bytes where their distances fit, at the cost of the later entries alone. An entry is needless, and deleted, where a
 //! hub that ranks above its own is shared by the rows of its hub and of its node at no greater length. `laws` has the step of
-//! a builder who goes on with a global table. It stands on walk_laws (`Entry`, the laws of covers), rank_table (`Ranking`),
-//! hub_index (`RowList`, `SplitRows`, `RootTable`, `NodeEntry`) and entry_chains (`Chains`). Its callers' clauses use
-//! `HoldsBelow` and `IsChlBelow` (specs/Below), `HoldsBetween`, `IsEarlierRow` and `IsLaterRow` (specs/Between), `IsRawRow` and
-//! `both_rows` (specs/RawRows), `IsNeedless` and `IsSurvivingRow` (specs/Needless).
+//! a builder who goes on with a global table. It stands on walk_laws (`Entry`, the laws of covers), rank_table (`Ranking`) and
+//! hub_index (`RowList`, `SplitRows`, `RootTable`, `NodeEntry`). Its callers' clauses use `HoldsBelow` and `IsChlBelow`
+//! (specs/Below), `HoldsBetween` (specs/Between), `IsRawRow` and `both_rows` (specs/RawRows), `IsNeedless` and
+//! `IsSurvivingRow` (specs/Needless).
 #![tactic(auto)]
 
-mod chained_rows;
 mod cleaning;
 mod cover;
 mod going_on;
@@ -22,6 +21,7 @@ mod taking;
 mod testing;
 #[cfg(test)]
 mod tests;
+mod trees;
 
 pub use cleaning::{clean, clean_in_place, survivors};
 pub use going_on::Cleaner;

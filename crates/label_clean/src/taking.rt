@@ -1,97 +1,116 @@
 //! Rows that take later entries in, but for the needless ones.
-ghost use Rattle.std.specs.Prelude.{◌≡◌, ◌↔◌, ℕ, ◌-◌, ◌<◌, All, length, map, slice_set, OnOk, IsTrue};
+ghost use Rattle.std.specs.Prelude.{◌≡◌, ◌↔◌, ℕ, ◌++◌, ◌<◌, ◌≤◌, All, List, Contains, length, map, IsTrue, OnOk};
 ghost use Rattle.std.specs.List.Sorted.{IsStrictlyIncreasing};
+ghost use Rattle.walk_laws.specs.declared.entry.Entry.{Entry as AnEntry};
+ghost use Rattle.walk_laws.specs.declared.graph.Edge.{Edge as AnEdge};
 ghost use Rattle.walk_laws.specs.Labelling.{label_row};
-ghost use Rattle.hub_index.specs.Sunk.{entries_of_node};
+ghost use Rattle.hub_index.specs.declared.entry_sink.NodeEntry.{NodeEntry as ANodeEntry};
 ghost use Rattle.hub_index.specs.Views.{IsNode};
-ghost use Rattle.entry_chains.specs.Chains.{AreChained};
-ghost use Rattle.label_clean.specs.RawRows.{HasEachOnce};
-ghost use Rattle.label_clean.specs.Sorted.{IsSortedRow};
-ghost use Rattle.label_clean.specs.Taken.{HasTaken, IsNeedlessAmong};
+ghost use Rattle.label_clean.specs.Tested.{IsCovering};
+ghost use Rattle.label_clean.specs.RootTrees.{GoesOn, HaveHubs, IsLatePart, IsNext};
 
-use crate::chained_rows::{cover, row_of};
-use entry_chains::Chains;
+use crate::cover::covers;
+use crate::trees::{Tree, list_trees};
 use hub_index::{NodeEntry, SplitRows};
 use rank_table::Ranking;
 use std::alloc::AllocError;
 use walk_laws::Entry;
 
-/// Puts the entries of the list, which are chained, after the rows of their nodes, each node's by rising position, but for those
-/// that entries of the list make needless. Those of a node are gathered in `row`, whatever it held. The only error is that
+/// Puts the entries of a list after the rows of their nodes, tree by tree by rising position, but for those that rows cover by
+/// then with entries from the position `first` on. What `trees` and `hub_row` had is of no use and goes. The only error is that
 /// memory ran out.
 pub fn take_in(
     ranking: &Ranking,
+    first: u32,
     entries: &[NodeEntry],
-    chains: &Chains,
-    row: &mut Vec<Entry>,
+    trees: &mut Vec<Tree>,
+    hub_row: &mut Vec<Entry>,
     rows: &mut SplitRows,
 ) -> Result<(), AllocError>
-    requires chained { AreChained entries.now (length entries.now) chains.now }
-    requires heads { length chains.now.heads.items ≡ length ranking.now }
     requires rows { length rows.old ≡ length ranking.now }
     requires nodes { All (λ e. IsNode (length ranking.now) e.node) entries.now }
-    requires within { (v : ℕ) → IsNode (length ranking.now) v → All (λ e. e.pos < length ranking.now) (entries_of_node entries.now v) }
-    requires once { (v : ℕ) → IsNode (length ranking.now) v → HasEachOnce (entries_of_node entries.now v) }
+    requires within { All (λ e. e.pos < length ranking.now) entries.now }
     ensures rows { length rows.new ≡ length rows.old }
-    ensures taken { OnOk result ((v : ℕ) → IsNode (length ranking.now) v → HasTaken ranking.now (entries_of_node entries.now) v (label_row rows.old v) (label_row rows.new v)) }
+    ensures hubs { OnOk result ((edges : List AnEdge) (c : ℕ) → GoesOn edges ranking.now first c rows.old entries.now
+        → HaveHubs edges ranking.now rows.old entries.now rows.new) }
 {
-    for k in 0..entries.len() {
-        let node = entries[k].node;
-        let place = node as usize - 1;
-        if chains.heads[place] as usize != k + 1 {
-            continue;
-        }
-        if chains.nexts[k] == 0 {
-            rows.push(node, entries[k].entry())?;
-            continue;
-        }
-        row_of(chains, entries, node, row)?;
-        add_kept(ranking, entries, chains, row.as_slice(), node, rows)?;
+    list_trees(entries, trees)?;
+    for tree in trees.iter() {
+        let part = &entries[tree.from..tree.to];
+        take_tree(ranking, first, tree.pos, part, hub_row, rows)?;
     }
     Ok(())
 }
 
-/// Puts the entries of the node `v`, which are those of a row by rising position, after its row, but for the needless ones. No
-/// other row changes. The only error is that memory ran out.
-fn add_kept(
+/// Puts the entries of the tree of the root at the position `pos`, from 0, after the rows of their nodes, but for those that
+/// entries from the position `first` on cover in the rows of the root and of the node. The only error is that memory ran out.
+fn take_tree(
     ranking: &Ranking,
-    entries: &[NodeEntry],
-    chains: &Chains,
-    row: &[Entry],
-    v: u32,
+    first: u32,
+    pos: u32,
+    tree: &[NodeEntry],
+    hub_row: &mut Vec<Entry>,
     rows: &mut SplitRows,
 ) -> Result<(), AllocError>
-    requires chained { AreChained entries.now (length entries.now) chains.now }
-    requires heads { length chains.now.heads.items ≡ length ranking.now }
-    requires row { IsSortedRow (entries_of_node entries.now v) row.now }
-    requires positions { All (λ e. e.pos < length ranking.now) row.now }
-    requires node { IsNode (length rows.old) v }
-    ensures taken { OnOk result (HasTaken ranking.now (entries_of_node entries.now) v (label_row rows.old v) (label_row rows.new v)) }
-    ensures others { rows.new ≡ slice_set rows.old (v - 1) (label_row rows.new v) }
+    requires rows { length rows.old ≡ length ranking.now }
+    requires nodes { All (λ e. IsNode (length ranking.now) e.node) tree.now }
+    requires position { pos < length ranking.now }
+    ensures rows { length rows.new ≡ length rows.old }
+    ensures hubs { OnOk result ((edges : List AnEdge) (c : ℕ) (global : List (List AnEntry)) (entries done : List ANodeEntry)
+        → GoesOn edges ranking.now first c global entries → IsNext pos entries done tree.now
+        → HaveHubs edges ranking.now global done rows.old → HaveHubs edges ranking.now global (done ++ tree.now) rows.new) }
 {
-    for (place, entry) in row.iter().enumerate() {
-        if place > 0 && is_needless(ranking, entries, chains, row, *entry) {
+    late_part(rows, ranking.at(pos), first, hub_row)?;
+    for entry in tree {
+        if is_covered_late(rows, entry.node, first, hub_row, pos, entry.dist) {
             continue;
         }
-        rows.push(v, *entry)?;
+        rows.push(entry.node, entry.entry())?;
     }
     Ok(())
 }
 
-/// Whether an entry is needless by those of its hub and of its node, which are those of a row by rising position.
-fn is_needless(
-    ranking: &Ranking,
-    entries: &[NodeEntry],
-    chains: &Chains,
-    row: &[Entry],
-    entry: Entry,
-) -> bool
-    requires chained { AreChained entries.now (length entries.now) chains.now }
-    requires heads { length chains.now.heads.items ≡ length ranking.now }
-    requires rising { IsStrictlyIncreasing (map (λ e. e.pos) row.now) }
-    requires position { entry.pos < length ranking.now }
-    ensures { (v : ℕ) → IsSortedRow (entries_of_node entries.now v) row.now → IsTrue result ↔ IsNeedlessAmong ranking.now (entries_of_node entries.now) v entry }
+/// The entries of the row of the node `v`, a number from 1, from the position `first` on, by rising position, in the place of
+/// what `late` had. The only error is that memory ran out.
+fn late_part(rows: &SplitRows, v: u32, first: u32, late: &mut Vec<Entry>) -> Result<(), AllocError>
+    requires { IsNode (length rows.now) v }
+    ensures { OnOk result (IsStrictlyIncreasing (map (λ e. e.pos) (label_row rows.now v)) → IsLatePart first (label_row rows.now v) late.new.items) }
 {
-    let hub = ranking.at(entry.pos);
-    cover(chains, entries, hub, row, entry.pos, entry.dist)
+    late.clear();
+    for entry in rows.from_last(v) {
+        if entry.pos < first {
+            break;
+        }
+        late.push(entry)?;
+    }
+    late.sort_unstable_by_key(|e| e.pos);
+    Ok(())
+}
+
+/// Whether an entry at the position `pos`, from 0, with the distance `dist` is covered by one of the row of the node `v`, a
+/// number from 1, from the position `first` on, and one of its hub's row. Where that is empty no row is looked at.
+fn is_covered_late(
+    rows: &SplitRows,
+    v: u32,
+    first: u32,
+    hub_row: &[Entry],
+    pos: u32,
+    dist: u64,
+) -> bool
+    requires { IsNode (length rows.now) v }
+    ensures { IsStrictlyIncreasing (map (λ e. e.pos) (label_row rows.now v)) → IsStrictlyIncreasing (map (λ e. e.pos) hub_row.now)
+        → IsTrue result ↔ ((e : AnEntry) × Contains (label_row rows.now v) e × (first ≤ e.pos) × IsCovering hub_row.now pos dist e) }
+{
+    if hub_row.is_empty() {
+        return false;
+    }
+    for entry in rows.from_last(v) {
+        if entry.pos < first {
+            return false;
+        }
+        if covers(entry, hub_row, pos, dist) {
+            return true;
+        }
+    }
+    false
 }

@@ -137,19 +137,19 @@ fn fresh_entry(node: u32, pos: u32, dist: u64) -> NodeEntry
 /// What trees of the roots 2, 3 and 4 put, which see that of 1.
 fn fresh_entries(alloc: Global) -> Result<Vec<NodeEntry>, Fail>
     ensures { IfOk result (λ list. list.items ≡
-        record { node = 4; pos = 3; dist = 0 } ∷ record { node = 3; pos = 2; dist = 0 } ∷ record { node = 4; pos = 2; dist = 1 }
-        ∷ record { node = 2; pos = 1; dist = 0 } ∷ record { node = 3; pos = 1; dist = 1 } ∷ []) }
+        record { node = 4; pos = 3; dist = 0 } ∷ record { node = 4; pos = 2; dist = 1 } ∷ record { node = 2; pos = 1; dist = 0 }
+        ∷ record { node = 3; pos = 2; dist = 0 } ∷ record { node = 3; pos = 1; dist = 1 } ∷ []) }
 {
     Ok(vec![in alloc;
         fresh_entry(4, 3, 0),
-        fresh_entry(3, 2, 0),
         fresh_entry(4, 2, 1),
         fresh_entry(2, 1, 0),
+        fresh_entry(3, 2, 0),
         fresh_entry(3, 1, 1),
     ]?)
 }
 
-/// All of the fresh entries stay.
+/// All of the fresh entries stay. Those of two roots stand in two places each.
 #[test]
 fn a_table_is_gone_on_with_in_place(rt: HostRuntime) -> Result<(), Fail> {
     let ranking = one_to_four(rt.alloc())?;
@@ -162,7 +162,7 @@ fn a_table_is_gone_on_with_in_place(rt: HostRuntime) -> Result<(), Fail> {
         &[entry(0, 2), entry(1, 1), entry(2, 0)],
         &[entry(0, 1), entry(2, 1), entry(3, 0)],
     ];
-    let cleaner = Cleaner::new(rt.alloc(), 4)?;
+    let cleaner = Cleaner::new(rt.alloc());
     let (rows, _cleaner) = cleaner.go_on(&ranking, global, 1, fresh.as_slice())?;
     let rows = rows.into_rows(rt.alloc())?;
     assert_eq!(rt; rows.n(), 4);
@@ -207,7 +207,7 @@ fn a_fresh_entry_covers_another(rt: HostRuntime) -> Result<(), Fail> {
         &[entry(0, 2), entry(1, 1), entry(2, 0)],
         &[entry(0, 1), entry(2, 1), entry(3, 0)],
     ];
-    let cleaner = Cleaner::new(rt.alloc(), 4)?;
+    let cleaner = Cleaner::new(rt.alloc());
     let (rows, _cleaner) = cleaner.go_on(&ranking, none, 0, fresh.as_slice())?;
     let rows = rows.into_rows(rt.alloc())?;
     assert_eq!(rt; rows.n(), 4);

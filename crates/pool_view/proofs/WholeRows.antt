@@ -8,7 +8,7 @@ use Rattle.walk_laws.specs.Joined.{Joined}
 use Rattle.walk_laws.specs.Labelling.{EntryFits, label_row}
 use Rattle.hub_index.specs.Views.{StandsIn, IsFound, IsNode}
 use Rattle.hub_index.proofs.FoundRows.{StandsIn-both, StandsIn-self}
-use Rattle.entry_chains.proofs.Chained.{Contains-backwards}
+use Rattle.hub_index.proofs.Backwards.{Contains-backwards}
 use Rattle.label_pool.specs.declared.rule.Linked.{Linked}
 use Rattle.label_pool.specs.Chains.{entries_of, seen_of, IsTailOf}
 use Rattle.label_pool.specs.Seats.{IsMet}

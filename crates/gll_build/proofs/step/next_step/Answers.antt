@@ -1,23 +1,19 @@
-use Rattle.std.proofs.Common.{ℕ, length, sym, subst, arith}
+use Rattle.std.proofs.Common.{ℕ, ◌<◌, All, length, sym, subst, arith}
 use Rattle.hub_index.specs.Sunk.{entries_of_node}
 use Rattle.hub_index.specs.Views.{IsNode}
-use Rattle.label_clean.specs.Between.{HoldsBetween, IsLaterRow}
+use Rattle.label_clean.specs.Between.{HoldsBetween}
 use Rattle.gll_build.specs.Shares.{AreUncovered}
-use Rattle.gll_build.proofs.Harvests.{IsGathered-below, earlier-below, later-between}
+use Rattle.gll_build.proofs.Harvests.{IsGathered-below, all_below}
 use Rattle.gll_build.proofs.step.next_step.Goals as goal
 
 pub grow_roots-requires-clause-global : goal.grow_roots-requires-clause-global
 grow_roots-requires-clause-global g c κs within = IsGathered-below c.args.graph.now.edges c.args.ranking.now c.args.progress.next c.args.progress.rows c.n-ranked.ensures.ranking c.requires.progress.rows
 
-pub go_on-requires-clause-earlier : goal.go_on-requires-clause-earlier
-go_on-requires-clause-earlier g c = earlier-below c.args.graph.now.edges c.args.ranking.now c.args.progress.next c.args.progress.rows c.requires.progress.rows
-
-pub go_on-requires-clause-later : goal.go_on-requires-clause-later
-go_on-requires-clause-later g c =
+pub go_on-requires-clause-within : goal.go_on-requires-clause-within
+go_on-requires-clause-within g c =
     let grown = c.in_ok-grown.ensures.grown in
-    let same = c.as_slice.ensures.value in
-    subst (λ es. (v : ℕ) → IsNode (length c.args.ranking.now) v → IsLaterRow c.args.progress.next (length c.args.ranking.now) (entries_of_node es v)) (sym same)
-    (later-between c.args.graph.now.edges c.args.ranking.now c.args.progress.next c.in_ok-grown.grown.next (entries_of_node c.in_ok-grown.grown.fresh.items) grown.within grown.holds)
+    subst (All (λ e. e.pos < length c.args.ranking.now)) (sym c.as_slice.ensures.value)
+    (all_below c.args.graph.now.edges c.args.ranking.now c.args.progress.next c.in_ok-grown.grown.next c.in_ok-grown.grown.fresh.items grown.within grown.nodes grown.holds)
 
 pub go_on-requires-clause-apart : goal.go_on-requires-clause-apart
 go_on-requires-clause-apart g c =

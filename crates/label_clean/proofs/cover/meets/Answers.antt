@@ -1,6 +1,6 @@
-use Rattle.std.proofs.Common.{◌≡◌, ◌-◌, true, false, ltb, Contains, get_or, ap, subst, arith, rules}
+use Rattle.std.proofs.Common.{◌≡◌, ◌-◌, true, false, ltb, Contains, get_or, map, ap, subst, arith, rules}
 use Rattle.std.specs.Prelude.{IsTrue}
-use Rattle.std.specs.List.Sorted.{IsPartitionPoint}
+use Rattle.std.specs.List.Sorted.{IsPartitionPoint, IsStrictlyIncreasing}
 use Rattle.std.proofs.lemmas.Bool.{leb-true, le-leb}
 use Rattle.std.proofs.lemmas.List.Elements.{Contains-get_or}
 use Rattle.std.proofs.lemmas.List.Sorted.{IsPartitionPoint-from_clause, IsPartitionedBy-ltb}
@@ -11,36 +11,36 @@ use Rattle.label_clean.proofs.cover.meets.Goals as goal
 use Rattle.label_clean.proofs.cover.meets.Goals.{After-partition_point-place}
 
 -- the place parts the row
-point : (c : After-partition_point-place) → IsPartitionPoint (λ (e : Entry). ltb e.pos c.args.other.pos ≡ true) (λ e. ltb e.pos c.args.other.pos ≡ false) c.args.row.now c.partition_point-place.result
-point c = IsPartitionPoint-from_clause (λ (e : Entry). ltb e.pos c.args.other.pos) _ _ c.partition_point-place.ensures.partitioned (IsPartitionedBy-ltb pos_of c.args.row.now c.args.other.pos (never_falls c.args.row.now c.requires)) (λ a r q k. search rules)
+point : (c : After-partition_point-place) → IsStrictlyIncreasing (map pos_of c.args.row.now) → IsPartitionPoint (λ (e : Entry). ltb e.pos c.args.other.pos ≡ true) (λ e. ltb e.pos c.args.other.pos ≡ false) c.args.row.now c.partition_point-place.result
+point c rising = IsPartitionPoint-from_clause (λ (e : Entry). ltb e.pos c.args.other.pos) _ _ c.partition_point-place.ensures.partitioned (IsPartitionedBy-ltb pos_of c.args.row.now c.args.other.pos (never_falls c.args.row.now rising)) (λ a r q k. search rules)
 
 pub returns-then-place-row : goal.returns-then-place-row
-returns-then-place-row c = (
+returns-then-place-row c rising = (
   λ t. let none : IsTrue false = t in absurd cc,
-  λ m. let found = stands_there c.args.row.now c.args.other.pos c.partition_point-place.result m.0 c.requires (point (goal.at.returns-then-place-row c).After-partition_point-place) m.1 in absurd (omega (arith, found.0, c.if-place-row.true)),
+  λ m. let found = stands_there c.args.row.now c.args.other.pos c.partition_point-place.result m.0 rising (point (goal.at.returns-then-place-row c).After-partition_point-place rising) m.1 in absurd (omega (arith, found.0, c.if-place-row.true)),
 )
 
 pub returns-then-met-other : goal.returns-then-met-other
-returns-then-met-other c = (
+returns-then-met-other c rising = (
   λ t. let none : IsTrue false = t in absurd cc,
-  λ m. let found = stands_there c.args.row.now c.args.other.pos c.partition_point-place.result m.0 c.requires (point (goal.at.returns-then-met-other c).After-partition_point-place) m.1 in absurd (c.if-met-other.true (ap pos_of found.1)),
+  λ m. let found = stands_there c.args.row.now c.args.other.pos c.partition_point-place.result m.0 rising (point (goal.at.returns-then-met-other c).After-partition_point-place rising) m.1 in absurd (c.if-met-other.true (ap pos_of found.1)),
 )
 
 pub returns-then-other-dist : goal.returns-then-other-dist
-returns-then-other-dist c = (
+returns-then-other-dist c rising = (
   λ t. let none : IsTrue false = t in absurd cc,
   λ m. absurd (omega (arith, m.2, c.if-other-dist.true)),
 )
 
 pub returns : goal.returns
-returns c =
+returns c rising =
     let place = c.partition_point-place.result in
     let met : Entry = get_or c.args.row.now c.partition_point-place.result (entry 0 0) in (
       λ t.
           let here : Contains c.args.row.now (entry met.pos met.dist) = Contains-get_or c.args.row.now place (entry 0 0) (omega (arith, c.if-place-row.false)) in
           (met.dist, subst (λ q. Contains c.args.row.now (entry q met.dist)) c.if-met-other.false here, omega (arith, leb-true met.dist (c.args.dist - c.args.other.dist) t, c.if-other-dist.false)),
       λ m.
-          let found = stands_there c.args.row.now c.args.other.pos place m.0 c.requires (point (goal.at.returns c).After-partition_point-place) m.1 in
+          let found = stands_there c.args.row.now c.args.other.pos place m.0 rising (point (goal.at.returns c).After-partition_point-place rising) m.1 in
           let far : met.dist ≡ m.0 = ap (λ (e : Entry). e.dist) found.1 in
           le-leb met.dist (c.args.dist - c.args.other.dist) (omega (arith, far, m.2)),
     )

@@ -1,11 +1,11 @@
-use Rattle.std.proofs.Common.{◌≡◌, ℕ, length}
-use Rattle.hub_index.specs.Views.{IsNode}
-use Rattle.label_clean.proofs.TakenRows.{HasCome}
+use Rattle.std.proofs.Common.{◌≡◌, ℕ, List, flat_map, length, take}
+use Rattle.walk_laws.specs.declared.graph.Edge.{Edge}
+use Rattle.label_clean.specs.RootTrees.{GoesOn, HaveHubs, tree_of}
 use Rattle.label_clean.proofs.taking.take_in.Given as goal
 
--- the nodes whose last entry was come to have taken theirs in
-abbrev pub invariant-loop-k : goal.invariant-loop-k
-invariant-loop-k l = record {
+-- of the trees so far the rows have the hubs
+abbrev pub invariant-loop-tree : goal.invariant-loop-tree
+invariant-loop-tree l = record {
   rows : length l.rows ≡ length l.ranking;
-  come : (v : ℕ) → IsNode (length l.chains.heads.items) v → HasCome l.ranking l.entries l.chains l.fn.rows l.rows l.k v;
+  hubs : (edges : List Edge) (c : ℕ) → GoesOn edges l.ranking l.first c l.fn.rows l.entries → HaveHubs edges l.ranking l.fn.rows (flat_map (λ tree. tree_of l.entries tree) (take l.tree-index l.tree-items)) l.rows;
 }

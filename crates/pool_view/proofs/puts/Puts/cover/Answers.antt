@@ -4,14 +4,13 @@ use Rattle.std.proofs.lemmas.List.Elements.{All-contains, All-push}
 use Rattle.hub_index.specs.declared.entry_sink.NodeEntry.{NodeEntry}
 use Rattle.hub_index.specs.RootDistances.{IsCover}
 use Rattle.hub_index.specs.Sunk.{entries_of_node}
-use Rattle.entry_chains.proofs.Chained.{Contains-backwards}
-use Rattle.entry_chains.proofs.Walked.{all_came, is_of_node}
+use Rattle.hub_index.proofs.Backwards.{Contains-backwards, all_came, next_stands}
 use Rattle.pool_view.proofs.puts.Puts.cover.Goals as goal
 
 pub returns-then-covers-clause-some : goal.returns-then-covers-clause-some
 returns-then-covers-clause-some c =
     let entries = entries_of_node c.kept.result.now c.args.v in
-    let here = is_of_node entries _ c.loop-entry.yielded _ (c.into_iter-entry-iterator.ensures.into_iter_gives ∙ c.of_node-entry-items.ensures) c.loop-entry.yielded_by c.in-Some.entry _ c.in-Some.ensures.steps in (
+    let here = next_stands entries _ c.loop-entry.yielded _ (c.into_iter-entry-iterator.ensures.into_iter_gives ∙ c.of_node-entry-items.ensures) c.loop-entry.yielded_by c.in-Some.entry _ c.in-Some.ensures.steps in (
       subst (λ (es : List NodeEntry). Contains (entries_of_node es c.args.v) c.in-Some.entry) c.kept.ensures here,
       c.if-covers.ensures.0 refl,
     )
