@@ -17,10 +17,9 @@ use Rattle.pruned_tree.proofs.GrownPuts.{AreApart, AreApart-distinct}
 use Rattle.std.proofs.lemmas.List.Elements.{All-append, All-contains, All-weaker, All-contains_itself}
 use Rattle.walk_laws.specs.Labelling.{EntryFits}
 use Rattle.label_clean.specs.Below.{IsChlBelow}
-use Rattle.label_clean.specs.Between.{HoldsBetween}
 use Rattle.label_clean.proofs.GoneOnWith.{EntryFits-from_hub}
 use Rattle.label_clean.proofs.TimesOf.{to_node}
-use Rattle.std.proofs.Common.{All, Contains, ◌<◌}
+use Rattle.std.proofs.Common.{All, Contains}
 use Rattle.label_clean.specs.Needless.{IsNeedless}
 use Rattle.gll_build.specs.Shares.{AreUncovered, HavePut, IsPutBy}
 use Rattle.gll_build.proofs.PutBy.{IsPutBy-both}
@@ -51,9 +50,9 @@ IsGathered-below edges at p rows ranking chl = record {
   fit = λ v from_one up_to_n. All-weaker (Contains (label_row rows v)) (EntryFits (Joined edges) at v) (λ e there. EntryFits-from_hub edges at ranking v e (((chl.row v from_one up_to_n).each e).0 there).0) (label_row rows v) (All-contains_itself (label_row rows v));
 }
 
--- entries of nodes, of which each node's have positions before c, have such positions
-pub all_below : (edges : List Edge) (at : List ℕ) (p c : ℕ) (entries : List NodeEntry) → c ≤ length at → All (λ e. IsNode (length at) e.node) entries → HoldsBetween edges at p c (entries_of_node entries) → All (λ e. e.pos < length at) entries
-all_below edges at p c entries within nodes holds =
-    All-weaker (Contains entries) (λ (e : NodeEntry). e.pos < length at) (λ x there.
-    let node = All-contains (λ (e : NodeEntry). IsNode (length at) e.node) entries x nodes there in
-    omega (arith, within, All-contains (λ (e : Entry). e.pos < c) (entries_of_node entries x.node) (entry_of x) (holds.below x.node node.from_one node.up_to_n) (to_node entries x there))) entries (All-contains_itself entries)
+-- what holds of the entries of each node holds of all
+pub all_of_each : (P : Entry → Type 0) (n : ℕ) (entries : List NodeEntry) → All (λ e. IsNode n e.node) entries → ((v : ℕ) → 1 ≤ v → v ≤ n → All P (entries_of_node entries v)) → All (λ e. P (entry_of e)) entries
+all_of_each P n entries nodes each =
+    All-weaker (Contains entries) (λ (x : NodeEntry). P (entry_of x)) (λ x there.
+    let node = All-contains (λ (e : NodeEntry). IsNode n e.node) entries x nodes there in
+    All-contains P (entries_of_node entries x.node) (entry_of x) (each x.node node.from_one node.up_to_n) (to_node entries x there)) entries (All-contains_itself entries)

@@ -24,7 +24,7 @@ use Rattle.label_clean.specs.Below.{HoldsBelow, IsChlBelow}
 use Rattle.label_clean.specs.Needless.{IsNeedless}
 use Rattle.label_clean.specs.Tested.{IsCovering}
 use Rattle.label_clean.specs.RawRows.{HasEachOnce, both_rows}
-use Rattle.label_clean.specs.RootTrees.{GoesOn, HaveHubs, IsLatePart, IsNext}
+use Rattle.label_clean.specs.RootRuns.{GoesOn, HaveHubs, IsLatePart, IsNext}
 use Rattle.label_clean.proofs.RowFacts.{first_apart, same_entry}
 use Rattle.label_clean.proofs.TimesOf.{node_entry, of_node, to_node}
 use Rattle.label_clean.proofs.Cleaned.{hub_node, hub_place, hub_stays}
@@ -110,11 +110,11 @@ module _ (edges : List Edge) (at : List ℕ) (first c : ℕ) (global : List (Lis
         (to_node entries (node_entry v e) (some (node_entry v e) (of_node done v e there.0))))
   ]
 
-  module _ (p h : ℕ) (done tree : List NodeEntry) (next : IsNext p entries done tree) (rows : List (List Entry)) (have : HaveHubs edges at global done rows) (hub_is : slice_get at p ≡ Some h) (hub_row : List Entry) (late : IsLatePart first (label_row rows h) hub_row) where
+  module _ (p h : ℕ) (done run : List NodeEntry) (next : IsNext p entries done run) (rows : List (List Entry)) (have : HaveHubs edges at global done rows) (hub_is : slice_get at p ≡ Some h) (hub_row : List Entry) (late : IsLatePart first (label_row rows h) hub_row) where
     h_in : IsNode n h
     h_in = let known = hub_node at g.ranking p h hub_is in record { from_one = known.0; up_to_n = known.1 }
 
-    -- while the tree is put, rows that have the hubs of what is done
+    -- while the run is put, rows that have the hubs of what is done
     module _ (more : List NodeEntry) (now : List (List Entry)) (some : (e : NodeEntry) → Contains more e → Contains entries e) (all_done : (e : NodeEntry) → Contains done e → Contains more e) (has : HaveHubs edges at global more now) (x : NodeEntry) (of_entries : Contains entries x) (is_pos : x.pos ≡ p) (v_in : IsNode n x.node) where
       abbrev Covered : Type 0
       Covered = (e : Entry) × Contains (label_row now x.node) e × (first ≤ e.pos) × IsCovering hub_row p x.dist e

@@ -13,7 +13,7 @@ use Rattle.walk_laws.proofs.LabelRows.{Rises, Rises-first, Rises-rest}
 use Rattle.walk_laws.proofs.Members.{Contains-first, Contains-cons_cases, Contains-empty}
 use Rattle.hub_index.proofs.Backwards.{Came, Contains-backwards, came_by}
 use Rattle.label_clean.specs.RawRows.{HasEachOnce}
-use Rattle.label_clean.specs.RootTrees.{IsLatePart}
+use Rattle.label_clean.specs.RootRuns.{IsLatePart}
 use Rattle.label_clean.proofs.Covering.{pos_of}
 use Rattle.label_clean.proofs.KeptRows.{once_from_rising}
 use Rattle.label_clean.proofs.RowFacts.{IsSortedRow-from_sort, eqb_flips, one_place}

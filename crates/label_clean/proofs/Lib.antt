@@ -10,8 +10,8 @@ pub mod RowItems
 pub mod KeptRows
 pub mod GoneOnWith
 pub mod Meetings
-pub mod ListedTrees
+pub mod ListedRuns
 pub mod LateParts
 pub mod TimesOf
-pub mod TakenTrees
-pub mod TreeOrder
+pub mod TakenRuns
+pub mod RunOrder

@@ -1,10 +1,12 @@
 -- The rows of the tests may be cleaned.
-use Rattle.std.proofs.Common.{◌≡◌, ℕ, zero, suc, ◌+◌, ◌<◌, Some, List, [], ◌∷◌, All, Contains, replicate, refl, sym, ap, subst, ◌∙◌, arith}
+use Rattle.std.proofs.Common.{◌≡◌, ℕ, zero, suc, ◌+◌, ◌<◌, ◌≤◌, Some, List, [], ◌∷◌, All, Contains, replicate, refl, sym, ap, subst, ◌∙◌, arith, rules}
 use Rattle.std.specs.Prelude.{slice_get}
+use Rattle.std.specs.List.{IsDistinct, AllByRecursion}
 use Rattle.std.proofs.lemmas.List.Elements.{All-contains_itself, All-from_recursion, All-weaker}
 use Rattle.std.proofs.lemmas.Option.{same_Some}
 use Rattle.walk_laws.specs.declared.entry.Entry.{Entry}
 use Rattle.walk_laws.specs.Labelling.{label_row}
+use Rattle.walk_laws.specs.Ranking.{IsRanking}
 use Rattle.walk_laws.specs.Worked.{entry, first_four}
 use Rattle.walk_laws.proofs.Members.{Contains-empty}
 use Rattle.hub_index.specs.declared.entry_sink.NodeEntry.{NodeEntry}
@@ -12,6 +14,7 @@ use Rattle.hub_index.specs.Sunk.{entries_of_node}
 use Rattle.hub_index.specs.Views.{IsNode}
 use Rattle.hub_index.proofs.TouchedPositions.{one_of}
 use Rattle.label_clean.specs.Needless.{IsNeedless}
+use Rattle.label_clean.specs.RawRows.{HasEachOnce, IsRawRow, both_rows}
 use Rattle.label_clean.proofs.RowFacts.{label_row-replicate}
 
 -- the ten entries of the square
@@ -69,3 +72,46 @@ apart_from_none n at entries v node =
     let shared = needless.covered.shared in
     Contains-empty (entry needless.covered.position shared.after) (subst (λ xs. Contains xs (entry needless.covered.position shared.after)) (label_row-replicate n v node.from_one node.up_to_n) shared.in_second))
     (entries v) (All-contains_itself (entries v))
+
+raw_row : (row : List Entry) → AllByRecursion (λ e. e.pos < 4) row → HasEachOnce row → IsRawRow 4 row
+raw_row row within once = record { within = All-from_recursion (λ (e : Entry). e.pos < 4) row within; once = once }
+
+pub ten_may : (v : ℕ) → 1 ≤ v → v ≤ 4 → IsRawRow 4 (label_row ten v)
+unfolding IsDistinct
+ten_may zero low high = absurd (omega (arith, low))
+ten_may (suc zero) low high = raw_row (label_row ten 1) (search rules) (search rules)
+ten_may (suc (suc zero)) low high = raw_row (label_row ten 2) (search rules) (search rules)
+ten_may (suc (suc (suc zero))) low high = raw_row (label_row ten 3) (search rules) (search rules)
+ten_may (suc (suc (suc (suc zero)))) low high = raw_row (label_row ten 4) (search rules) (search rules)
+ten_may (suc (suc (suc (suc (suc v))))) low high = absurd (omega (arith, high))
+
+pub ten_beside_none_may : (v : ℕ) → 1 ≤ v → v ≤ 4 → IsRawRow 4 (both_rows (replicate 4 []) ten v)
+unfolding IsDistinct
+ten_beside_none_may zero low high = absurd (omega (arith, low))
+ten_beside_none_may (suc zero) low high = raw_row (label_row ten 1) (search rules) (search rules)
+ten_beside_none_may (suc (suc zero)) low high = raw_row (label_row ten 2) (search rules) (search rules)
+ten_beside_none_may (suc (suc (suc zero))) low high = raw_row (label_row ten 3) (search rules) (search rules)
+ten_beside_none_may (suc (suc (suc (suc zero)))) low high = raw_row (label_row ten 4) (search rules) (search rules)
+ten_beside_none_may (suc (suc (suc (suc (suc v))))) low high = absurd (omega (arith, high))
+
+pub both_may : (v : ℕ) → 1 ≤ v → v ≤ 4 → IsRawRow 4 (both_rows two_hubs later v)
+unfolding IsDistinct
+both_may zero low high = absurd (omega (arith, low))
+both_may (suc zero) low high = raw_row (both_rows two_hubs later 1) (search rules) (search rules)
+both_may (suc (suc zero)) low high = raw_row (both_rows two_hubs later 2) (search rules) (search rules)
+both_may (suc (suc (suc zero))) low high = raw_row (both_rows two_hubs later 3) (search rules) (search rules)
+both_may (suc (suc (suc (suc zero)))) low high = raw_row (both_rows two_hubs later 4) (search rules) (search rules)
+both_may (suc (suc (suc (suc (suc v))))) low high = absurd (omega (arith, high))
+
+pub later_may : (v : ℕ) → 1 ≤ v → v ≤ 4 → IsRawRow 4 (label_row later v)
+unfolding IsDistinct
+later_may zero low high = absurd (omega (arith, low))
+later_may (suc zero) low high = raw_row [] (search rules) (search rules)
+later_may (suc (suc zero)) low high = raw_row [] (search rules) (search rules)
+later_may (suc (suc (suc zero))) low high = raw_row (label_row later 3) (search rules) (search rules)
+later_may (suc (suc (suc (suc zero)))) low high = raw_row (label_row later 4) (search rules) (search rules)
+later_may (suc (suc (suc (suc (suc v))))) low high = absurd (omega (arith, high))
+
+pub no_nodes : IsRanking []
+unfolding IsDistinct
+no_nodes = record { node = λ k d within. absurd (omega (arith, within)); once = search rules }

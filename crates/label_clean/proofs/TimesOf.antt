@@ -1,4 +1,4 @@
--- Which entries of a list are a node's, and how often one stands there.
+-- Which entries of a list are a node's, how often one stands there, and what stands in lists that are joined.
 use Rattle.std.proofs.Common.{◌≡◌, ◌≢◌, ℕ, ◌+◌, ◌≤◌, eqb, ◌==◌, if◌then◌else◌, inl, inr, List, [], ◌∷◌, ◌++◌, Contains, map, flat_map, refl, sym, ap, subst, ◌∙◌, arith}
 use Rattle.std.specs.List.{sum_by}
 use Rattle.std.proofs.lemmas.Bool.{eq-eqb, ne_eqb}
@@ -13,7 +13,7 @@ use Rattle.hub_index.specs.declared.entry_sink.NodeEntry.{NodeEntry}
 use Rattle.hub_index.specs.Sunk.{entries_of_node, entry_if, entry_of}
 use Rattle.hub_index.proofs.GatheredRows.{entries_of_node-append, entries_of_node-one, entry_if-same, entry_if-other}
 use Rattle.label_clean.specs.RawRows.{HasEachOnce}
-use Rattle.label_clean.specs.RootTrees.{times}
+use Rattle.label_clean.specs.RootRuns.{times}
 use Rattle.label_clean.proofs.Covering.{pos_of}
 use Rattle.label_clean.proofs.RowFacts.{first_apart}
 

@@ -6,4 +6,4 @@ pub mod Tested
 pub mod Below
 pub mod Laws
 pub mod Between
-pub mod RootTrees
+pub mod RootRuns

@@ -50,15 +50,15 @@ pub fn covers(other: Entry, row: &[Entry], pos: u32, dist: u64) -> bool
 fn meets(row: &[Entry], other: Entry, dist: u64) -> bool
     ensures { IsStrictlyIncreasing (map (λ e. e.pos) row.now) → IsTrue result ↔ Meets row.now other dist }
 {
+    if other.dist > dist {
+        return false;
+    }
     let place = row.partition_point(|e| e.pos < other.pos);
     if place >= row.len() {
         return false;
     }
     let met = row[place];
     if met.pos != other.pos {
-        return false;
-    }
-    if other.dist > dist {
         return false;
     }
     met.dist <= dist - other.dist

@@ -1,23 +1,25 @@
 //! A table that is gone on with: its rows take later entries in, but for the needless ones.
 ghost use Rattle.std.specs.Prelude.{◌≡◌, ℕ, ◌<◌, ◌≤◌, [], All, List, length, IfOk};
 ghost use Rattle.walk_laws.specs.declared.graph.Edge.{Edge as AnEdge};
+ghost use Rattle.walk_laws.specs.Labelling.{label_row};
 ghost use Rattle.hub_index.specs.Sunk.{entries_of_node};
-ghost use Rattle.hub_index.specs.Views.{IsNode};
+ghost use Rattle.hub_index.specs.Views.{GoesOnFrom, IsNode};
 ghost use Rattle.label_clean.specs.Below.{IsChlBelow};
 ghost use Rattle.label_clean.specs.Between.{HoldsBetween};
 ghost use Rattle.label_clean.specs.Needless.{IsNeedless};
 
+use crate::runs::Run;
 use crate::taking::take_in;
-use crate::trees::Tree;
 use hub_index::{NodeEntry, SplitRows};
 use rank_table::Ranking;
 use std::alloc::{AllocError, Global};
 use walk_laws::Entry;
 
-/// What a builder who goes on with a table takes once, whatever is cleaned later.
+/// What a builder who goes on with a table takes once, whatever is cleaned later: room for the runs of a list, and for a part of a
+/// root's row. What stands there between two cleanings is of no use.
 #[derive(Debug, Drop)]
 pub struct Cleaner {
-    trees: Vec<Tree>,
+    runs: Vec<Run>,
     hub_row: Vec<Entry>,
 }
 
@@ -25,7 +27,7 @@ impl Cleaner {
     /// A cleaner of rows for any number of nodes. It takes no memory.
     pub fn new(alloc: Global) -> Cleaner {
         Cleaner {
-            trees: Vec::new(alloc),
+            runs: Vec::new(alloc),
             hub_row: Vec::new(alloc),
         }
     }
@@ -36,9 +38,10 @@ impl Cleaner {
     /// that position, each row by rising position. The fresh entries come in any order, and the global rows cover none of
     /// them: so an entry is needless just where the fresh parts of two rows cover it, and these parts alone are gone through.
     /// The fresh entries are put after the rows of their nodes in place, root by root, but for the needless ones, each in 8 bytes
-    /// where its distance and those before it fit: it costs the fresh entries, and neither rows nor tables of n nodes are made.
-    /// It is fastest where the entries of each root stand side by side. The cleaner comes back. The only error is that memory
-    /// ran out, and then both are given up. (Planting Trees, PVLDB 2019.)
+    /// where its distance and those before it fit, and neither rows nor tables of n nodes are made. It costs the fresh entries,
+    /// and of each whose root's row has got fresh ones before it a search in these for each that its node's row has got. It is
+    /// fastest where the entries of each root stand side by side. The cleaner comes back. The only error is that memory ran
+    /// out, and then both are given up. (Planting Trees, PVLDB 2019.)
     pub fn go_on(
         self,
         ranking: &Ranking,
@@ -49,19 +52,22 @@ impl Cleaner {
         requires first { first ≤ length ranking.now }
         requires size { length global ≡ length ranking.now }
         requires nodes { All (λ e. IsNode (length ranking.now) e.node) fresh.now }
+        requires from { All (λ e. first ≤ e.pos) fresh.now }
         requires within { All (λ e. e.pos < length ranking.now) fresh.now }
         requires apart { (v : ℕ) → IsNode (length ranking.now) v → All (λ e. ¬ IsNeedless ranking.now [] global v e) (entries_of_node fresh.now v) }
+        ensures size { IfOk result (λ gone. length gone.0 ≡ length global) }
+        ensures stays { IfOk result (λ gone. (v : ℕ) → IsNode (length global) v → GoesOnFrom (label_row global v) (label_row gone.0 v)) }
         ensures rows { IfOk result (λ gone. (edges : List AnEdge) (c : ℕ) → first ≤ c → IsChlBelow edges ranking.now first global
             → HoldsBetween edges ranking.now first c (entries_of_node fresh.now) → IsChlBelow edges ranking.now c gone.0) }
     {
         let ranked = ranking.n();
         prove!(first <= ranked);
         let Cleaner {
-            mut trees,
+            mut runs,
             mut hub_row,
         } = self;
         let mut rows = global;
-        take_in(ranking, first, fresh, &mut trees, &mut hub_row, &mut rows)?;
-        Ok((rows, Cleaner { trees, hub_row }))
+        take_in(ranking, first, fresh, &mut runs, &mut hub_row, &mut rows)?;
+        Ok((rows, Cleaner { runs, hub_row }))
     }
 }

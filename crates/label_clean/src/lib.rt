@@ -16,12 +16,12 @@ mod cover;
 mod going_on;
 pub mod laws;
 mod rows;
+mod runs;
 mod sorting;
 mod taking;
 mod testing;
 #[cfg(test)]
 mod tests;
-mod trees;
 
 pub use cleaning::{clean, clean_in_place, survivors};
 pub use going_on::Cleaner;

@@ -5,25 +5,25 @@ ghost use Rattle.walk_laws.specs.declared.entry.Entry.{Entry as AnEntry};
 ghost use Rattle.walk_laws.specs.declared.graph.Edge.{Edge as AnEdge};
 ghost use Rattle.walk_laws.specs.Labelling.{label_row};
 ghost use Rattle.hub_index.specs.declared.entry_sink.NodeEntry.{NodeEntry as ANodeEntry};
-ghost use Rattle.hub_index.specs.Views.{IsNode};
+ghost use Rattle.hub_index.specs.Views.{GoesOnFrom, IsNode};
 ghost use Rattle.label_clean.specs.Tested.{IsCovering};
-ghost use Rattle.label_clean.specs.RootTrees.{GoesOn, HaveHubs, IsLatePart, IsNext};
+ghost use Rattle.label_clean.specs.RootRuns.{GoesOn, HaveHubs, IsLatePart, IsNext};
 
 use crate::cover::covers;
-use crate::trees::{Tree, list_trees};
+use crate::runs::{Run, list_runs};
 use hub_index::{NodeEntry, SplitRows};
 use rank_table::Ranking;
 use std::alloc::AllocError;
 use walk_laws::Entry;
 
-/// Puts the entries of a list after the rows of their nodes, tree by tree by rising position, but for those that rows cover by
-/// then with entries from the position `first` on. What `trees` and `hub_row` had is of no use and goes. The only error is that
+/// Puts the entries of a list after the rows of their nodes, run by run by rising position, but for those that rows cover by
+/// then with entries from the position `first` on. What `runs` and `hub_row` had is of no use and goes. The only error is that
 /// memory ran out.
 pub fn take_in(
     ranking: &Ranking,
     first: u32,
     entries: &[NodeEntry],
-    trees: &mut Vec<Tree>,
+    runs: &mut Vec<Run>,
     hub_row: &mut Vec<Entry>,
     rows: &mut SplitRows,
 ) -> Result<(), AllocError>
@@ -31,37 +31,40 @@ pub fn take_in(
     requires nodes { All (λ e. IsNode (length ranking.now) e.node) entries.now }
     requires within { All (λ e. e.pos < length ranking.now) entries.now }
     ensures rows { length rows.new ≡ length rows.old }
+    ensures stays { OnOk result ((v : ℕ) → IsNode (length ranking.now) v → GoesOnFrom (label_row rows.old v) (label_row rows.new v)) }
     ensures hubs { OnOk result ((edges : List AnEdge) (c : ℕ) → GoesOn edges ranking.now first c rows.old entries.now
         → HaveHubs edges ranking.now rows.old entries.now rows.new) }
 {
-    list_trees(entries, trees)?;
-    for tree in trees.iter() {
-        let part = &entries[tree.from..tree.to];
-        take_tree(ranking, first, tree.pos, part, hub_row, rows)?;
+    list_runs(entries, runs)?;
+    for run in runs.iter() {
+        let part = &entries[run.from..run.to];
+        take_run(ranking, first, run.pos, part, hub_row, rows)?;
     }
     Ok(())
 }
 
-/// Puts the entries of the tree of the root at the position `pos`, from 0, after the rows of their nodes, but for those that
-/// entries from the position `first` on cover in the rows of the root and of the node. The only error is that memory ran out.
-fn take_tree(
+/// Puts the entries of a run of the root at the position `pos`, from 0, after the rows of their nodes, but for those that entries
+/// from the position `first` on cover in the rows of the root and of the node. Those of the root's row are gathered in `hub_row`,
+/// whatever it had. The only error is that memory ran out.
+fn take_run(
     ranking: &Ranking,
     first: u32,
     pos: u32,
-    tree: &[NodeEntry],
+    run: &[NodeEntry],
     hub_row: &mut Vec<Entry>,
     rows: &mut SplitRows,
 ) -> Result<(), AllocError>
     requires rows { length rows.old ≡ length ranking.now }
-    requires nodes { All (λ e. IsNode (length ranking.now) e.node) tree.now }
+    requires nodes { All (λ e. IsNode (length ranking.now) e.node) run.now }
     requires position { pos < length ranking.now }
     ensures rows { length rows.new ≡ length rows.old }
+    ensures stays { OnOk result ((v : ℕ) → IsNode (length ranking.now) v → GoesOnFrom (label_row rows.old v) (label_row rows.new v)) }
     ensures hubs { OnOk result ((edges : List AnEdge) (c : ℕ) (global : List (List AnEntry)) (entries done : List ANodeEntry)
-        → GoesOn edges ranking.now first c global entries → IsNext pos entries done tree.now
-        → HaveHubs edges ranking.now global done rows.old → HaveHubs edges ranking.now global (done ++ tree.now) rows.new) }
+        → GoesOn edges ranking.now first c global entries → IsNext pos entries done run.now
+        → HaveHubs edges ranking.now global done rows.old → HaveHubs edges ranking.now global (done ++ run.now) rows.new) }
 {
     late_part(rows, ranking.at(pos), first, hub_row)?;
-    for entry in tree {
+    for entry in run {
         if is_covered_late(rows, entry.node, first, hub_row, pos, entry.dist) {
             continue;
         }
@@ -87,8 +90,9 @@ fn late_part(rows: &SplitRows, v: u32, first: u32, late: &mut Vec<Entry>) -> Res
     Ok(())
 }
 
-/// Whether an entry at the position `pos`, from 0, with the distance `dist` is covered by one of the row of the node `v`, a
-/// number from 1, from the position `first` on, and one of its hub's row. Where that is empty no row is looked at.
+/// Whether an entry of the node `v`, a number from 1, at the position `pos`, from 0, with the distance `dist` is covered by one
+/// of the node's row from the position `first` on and one of `hub_row`, the part of its hub's row from there on, by rising
+/// position. Where `hub_row` is empty the node's row is not looked at.
 fn is_covered_late(
     rows: &SplitRows,
     v: u32,

@@ -1,19 +1,29 @@
-use Rattle.std.proofs.Common.{ℕ, ◌<◌, All, length, sym, subst, arith}
+use Rattle.std.proofs.Common.{ℕ, ◌<◌, ◌≤◌, All, length, sym, subst, arith}
+use Rattle.std.proofs.lemmas.List.Elements.{All-weaker}
+use Rattle.walk_laws.specs.declared.entry.Entry.{Entry}
 use Rattle.hub_index.specs.Sunk.{entries_of_node}
 use Rattle.hub_index.specs.Views.{IsNode}
 use Rattle.label_clean.specs.Between.{HoldsBetween}
 use Rattle.gll_build.specs.Shares.{AreUncovered}
-use Rattle.gll_build.proofs.Harvests.{IsGathered-below, all_below}
+use Rattle.gll_build.proofs.Harvests.{IsGathered-below, all_of_each}
 use Rattle.gll_build.proofs.step.next_step.Goals as goal
 
 pub grow_roots-requires-clause-global : goal.grow_roots-requires-clause-global
 grow_roots-requires-clause-global g c κs within = IsGathered-below c.args.graph.now.edges c.args.ranking.now c.args.progress.next c.args.progress.rows c.n-ranked.ensures.ranking c.requires.progress.rows
 
+pub go_on-requires-clause-from : goal.go_on-requires-clause-from
+go_on-requires-clause-from g c =
+    let grown = c.in_ok-grown.ensures.grown in
+    subst (All (λ e. c.args.progress.next ≤ e.pos)) (sym c.as_slice.ensures.value)
+    (all_of_each (λ e. c.args.progress.next ≤ e.pos) (length c.args.ranking.now) c.in_ok-grown.grown.fresh.items grown.nodes grown.holds.from)
+
 pub go_on-requires-clause-within : goal.go_on-requires-clause-within
 go_on-requires-clause-within g c =
     let grown = c.in_ok-grown.ensures.grown in
+    let fresh = c.in_ok-grown.grown.fresh.items in
     subst (All (λ e. e.pos < length c.args.ranking.now)) (sym c.as_slice.ensures.value)
-    (all_below c.args.graph.now.edges c.args.ranking.now c.args.progress.next c.in_ok-grown.grown.next c.in_ok-grown.grown.fresh.items grown.within grown.nodes grown.holds)
+    (all_of_each (λ e. e.pos < length c.args.ranking.now) (length c.args.ranking.now) fresh grown.nodes (λ v from_one up_to_n.
+    All-weaker (λ (e : Entry). e.pos < c.in_ok-grown.grown.next) (λ (e : Entry). e.pos < length c.args.ranking.now) (λ e below. omega (arith, below, grown.within)) (entries_of_node fresh v) (grown.holds.below v from_one up_to_n)))
 
 pub go_on-requires-clause-apart : goal.go_on-requires-clause-apart
 go_on-requires-clause-apart g c =

@@ -1,50 +1,53 @@
 use Rattle.std.proofs.Common.{◌∙◌, get_or, sym, subst, flat_map, take, arith}
 use Rattle.std.proofs.lemmas.List.{take_all}
 use Rattle.std.proofs.lemmas.List.Elements.{All-get_or}
-use Rattle.label_clean.specs.declared.trees.Tree.{Tree}
-use Rattle.label_clean.specs.RootTrees.{AreTreesOf, HaveHubs, IsTreeIn, tree_of}
-use Rattle.label_clean.proofs.TakenTrees.{HaveHubs-none}
-use Rattle.label_clean.proofs.TreeOrder.{HaveHubs-same, IsNext-tree, done_more, same_entries, tree_within}
+use Rattle.walk_laws.specs.Labelling.{label_row}
+use Rattle.label_clean.specs.declared.runs.Run.{Run}
+use Rattle.label_clean.specs.RootRuns.{AreRunsOf, HaveHubs, IsRunIn, entries_of_run}
+use Rattle.label_clean.proofs.TakenRuns.{GoesOnFrom-more, GoesOnFrom-same, HaveHubs-none}
+use Rattle.label_clean.proofs.RunOrder.{HaveHubs-same, IsNext-run, done_more, same_entries, run_within}
 use Rattle.label_clean.proofs.taking.take_in.Goals as goal
-use Rattle.label_clean.proofs.taking.take_in.Goals.{After-deref-tree-items}
+use Rattle.label_clean.proofs.taking.take_in.Goals.{After-deref-run-items}
 
-abbrev no_tree : Tree
-no_tree = record { pos = 0; from = 0; to = 0 }
+abbrev no_run : Run
+no_run = record { pos = 0; from = 0; to = 0 }
 
--- the trees are those of the list
-are : (c : After-deref-tree-items) → AreTreesOf c.args.entries.now c.deref-tree-items.result.now
-are c = subst (AreTreesOf c.args.entries.now) (sym c.deref-tree-items.ensures.value) c.in_ok-list_trees.ensures
+-- the runs are those of the list
+are : (c : After-deref-run-items) → AreRunsOf c.args.entries.now c.deref-run-items.result.now
+are c = subst (AreRunsOf c.args.entries.now) (sym c.deref-run-items.ensures.value) c.in_ok-list_runs.ensures
 
-pub loop-tree-init : goal.loop-tree-init
-loop-tree-init c = record {
+pub loop-run-init : goal.loop-run-init
+loop-run-init c = record {
   rows = c.requires.rows;
+  stays = λ v v_in. GoesOnFrom-same (label_row c.args.rows.now v);
   hubs = λ edges c' g. HaveHubs-none edges c.args.ranking.now c.args.first c' c.args.rows.now c.args.entries.now g;
 }
 
-pub take_tree-requires-clause-position : goal.take_tree-requires-clause-position
-take_tree-requires-clause-position c =
-    let trees = are (goal.at.take_tree-requires-clause-position c).After-deref-tree-items in
-    let tree : Tree = get_or c.deref-tree-items.result.now c.loop-tree.tree-index no_tree in
-    tree_within c.args.entries.now tree _ (All-get_or (IsTreeIn c.args.entries.now) c.deref-tree-items.result.now c.loop-tree.tree-index no_tree c.loop-tree-test.true trees.each) c.requires.within
+pub take_run-requires-clause-position : goal.take_run-requires-clause-position
+take_run-requires-clause-position c =
+    let runs = are (goal.at.take_run-requires-clause-position c).After-deref-run-items in
+    let run : Run = get_or c.deref-run-items.result.now c.loop-run.run-index no_run in
+    run_within c.args.entries.now run _ (All-get_or (IsRunIn c.args.entries.now) c.deref-run-items.result.now c.loop-run.run-index no_run c.loop-run-test.true runs.each) c.requires.within
 
-pub loop-tree-preserved : goal.loop-tree-preserved
-loop-tree-preserved c =
-    let listed = are (goal.at.loop-tree-preserved c).After-deref-tree-items in
+pub loop-run-preserved : goal.loop-run-preserved
+loop-run-preserved c =
+    let listed = are (goal.at.loop-run-preserved c).After-deref-run-items in
     let entries = c.args.entries.now in
-    let trees = c.deref-tree-items.result.now in
-    let k = c.loop-tree.tree-index in
-    let within = c.loop-tree-test.true in
+    let runs = c.deref-run-items.result.now in
+    let k = c.loop-run.run-index in
+    let within = c.loop-run-test.true in
     record {
-      rows = c.in_ok-take_tree.ensures.rows ∙ c.loop-tree.invariant.rows;
+      rows = c.in_ok-take_run.ensures.rows ∙ c.loop-run.invariant.rows;
+      stays = λ v v_in. GoesOnFrom-more (label_row c.args.rows.now v) (label_row c.loop-run.rows v) (label_row c.take_run.new.rows v) (c.loop-run.invariant.stays v v_in) (c.in_ok-take_run.ensures.stays v v_in);
       hubs = λ edges c' g.
-          subst (λ es. HaveHubs edges c.args.ranking.now c.args.rows.now es c.take_tree.new.rows) (sym (done_more entries trees listed k no_tree within))
-          (c.in_ok-take_tree.ensures.hubs edges c' c.args.rows.now entries (flat_map (λ tree. tree_of entries tree) (take k trees)) g (IsNext-tree entries trees listed k no_tree within) (c.loop-tree.invariant.hubs edges c' g));
+          subst (λ es. HaveHubs edges c.args.ranking.now c.args.rows.now es c.take_run.new.rows) (sym (done_more entries runs listed k no_run within))
+          (c.in_ok-take_run.ensures.hubs edges c' c.args.rows.now entries (flat_map (λ run. entries_of_run entries run) (take k runs)) g (IsNext-run entries runs listed k no_run within) (c.loop-run.invariant.hubs edges c' g));
     }
 
 pub returns-clause-hubs : goal.returns-clause-hubs
 returns-clause-hubs c edges c' g =
-    let listed = are (goal.at.returns-clause-hubs c).After-deref-tree-items in
+    let listed = are (goal.at.returns-clause-hubs c).After-deref-run-items in
     let entries = c.args.entries.now in
-    let trees = c.deref-tree-items.result.now in
-    HaveHubs-same edges c.args.ranking.now c.args.rows.now (flat_map (λ tree. tree_of entries tree) trees) entries c.loop-tree.rows (same_entries entries trees listed)
-    (subst (λ ts. HaveHubs edges c.args.ranking.now c.args.rows.now (flat_map (λ tree. tree_of entries tree) ts) c.loop-tree.rows) (take_all c.loop-tree.tree-index trees (omega (arith, c.loop-tree-test.false))) (c.loop-tree.invariant.hubs edges c' g))
+    let runs = c.deref-run-items.result.now in
+    HaveHubs-same edges c.args.ranking.now c.args.rows.now (flat_map (λ run. entries_of_run entries run) runs) entries c.loop-run.rows (same_entries entries runs listed)
+    (subst (λ ts. HaveHubs edges c.args.ranking.now c.args.rows.now (flat_map (λ run. entries_of_run entries run) ts) c.loop-run.rows) (take_all c.loop-run.run-index runs (omega (arith, c.loop-run-test.false))) (c.loop-run.invariant.hubs edges c' g))

@@ -1,6 +1,6 @@
 use Rattle.std.proofs.Common.{◌≡◌, ℕ, ◌<◌, ◌≤◌, get_or}
 use Rattle.hub_index.specs.declared.entry_sink.NodeEntry.{NodeEntry}
-use Rattle.label_clean.proofs.trees.end_of_tree.Given as goal
+use Rattle.label_clean.proofs.runs.end_of_run.Given as goal
 
 -- up to here all entries have one position
 abbrev pub invariant-loop-place : goal.invariant-loop-place

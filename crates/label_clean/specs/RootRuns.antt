@@ -1,4 +1,4 @@
--- Lists of entries by the trees that put them, and rows that have the hubs among some of them.
+-- Lists of entries by runs, each of one root, and rows that have the hubs among some of them.
 use Rattle.std.specs.Prelude.{◌≡◌, ◌↔◌, ◌⊎◌, ℕ, ◌-◌, ◌<◌, ◌≤◌, ◌==◌, List, [], ◌++◌, All, Contains, length, map, take, drop, flat_map, if◌then◌else◌}
 use Rattle.std.specs.List.{sum_by}
 use Rattle.std.specs.List.Sorted.{IsNonDecreasingBy, IsPermutation, IsStrictlyIncreasing}
@@ -10,28 +10,28 @@ use Rattle.walk_laws.specs.Labelling.{IsHubEntry, label_row}
 use Rattle.hub_index.specs.declared.entry_sink.NodeEntry.{NodeEntry}
 use Rattle.hub_index.specs.Sunk.{entries_of_node}
 use Rattle.hub_index.specs.Views.{IsNode}
-use Rattle.label_clean.specs.declared.trees.Tree.{Tree}
+use Rattle.label_clean.specs.declared.runs.Run.{Run}
 use Rattle.label_clean.specs.Below.{IsChlBelow}
 use Rattle.label_clean.specs.Between.{HoldsBetween}
 use Rattle.label_clean.specs.Needless.{IsNeedless}
 
--- the entries of a tree in a list
-abbrev pub tree_of : List NodeEntry → Tree → List NodeEntry
-tree_of entries tree = take (tree.to - tree.from) (drop tree.from entries)
+-- the entries of a run of a list
+abbrev pub entries_of_run : List NodeEntry → Run → List NodeEntry
+entries_of_run entries run = take (run.to - run.from) (drop run.from entries)
 
--- the places of a tree are those of a list, and all entries there have its position
-pub record IsTreeIn (entries : List NodeEntry) (tree : Tree) : Type 0 where
-  pub some : tree.from < tree.to
-  pub within : tree.to ≤ length entries
-  pub one : All (λ e. e.pos ≡ tree.pos) (tree_of entries tree)
+-- the places of a run are the list's, one at least, and all entries there have its position
+pub record IsRunIn (entries : List NodeEntry) (run : Run) : Type 0 where
+  pub some : run.from < run.to
+  pub within : run.to ≤ length entries
+  pub one : All (λ e. e.pos ≡ run.pos) (entries_of_run entries run)
 
--- the trees come by position, and are those of a list that was cut in pieces
-pub record AreTreesOf (entries : List NodeEntry) (trees : List Tree) : Type 0 where
-  pub cut : List Tree
-  pub whole : flat_map (λ tree. tree_of entries tree) cut ≡ entries
-  pub moved : IsPermutation cut trees
-  pub each : All (IsTreeIn entries) trees
-  pub rising : IsNonDecreasingBy (λ tree. tree.pos) trees
+-- the runs come by position, and are those of a list that was cut in pieces
+pub record AreRunsOf (entries : List NodeEntry) (runs : List Run) : Type 0 where
+  pub cut : List Run
+  pub whole : flat_map (λ run. entries_of_run entries run) cut ≡ entries
+  pub moved : IsPermutation cut runs
+  pub each : All (IsRunIn entries) runs
+  pub rising : IsNonDecreasingBy (λ run. run.pos) runs
 
 -- the entries of a row from a position on, by rising position
 pub record IsLatePart (first : ℕ) (row late : List Entry) : Type 0 where
@@ -50,14 +50,14 @@ pub record GoesOn (edges : List Edge) (at : List ℕ) (first c : ℕ) (global : 
   pub holds : HoldsBetween edges at first c (entries_of_node entries)
   pub apart : (v : ℕ) → IsNode (length at) v → All (λ e. ¬ IsNeedless at [] global v e) (entries_of_node entries v)
 
--- after those done the tree of the root at the position p comes: they are all that have a lower position, and none has a higher one or comes more often than in the list
-pub record IsNext (p : ℕ) (entries done tree : List NodeEntry) : Type 0 where
-  pub one : All (λ e. e.pos ≡ p) tree
-  pub here : (e : NodeEntry) → Contains tree e → Contains entries e
+-- a run of the root at the position p comes next: its entries are the list's, and so are those done, which have all of lower positions, none of a higher one, and with the run none more often than the list
+pub record IsNext (p : ℕ) (entries done run : List NodeEntry) : Type 0 where
+  pub one : All (λ e. e.pos ≡ p) run
+  pub here : (e : NodeEntry) → Contains run e → Contains entries e
   pub there : (e : NodeEntry) → Contains done e → Contains entries e
   pub lower : (e : NodeEntry) → Contains entries e → e.pos < p → Contains done e
   pub so_far : All (λ e. e.pos ≤ p) done
-  pub few : (v q : ℕ) → times v q (done ++ tree) ≤ times v q entries
+  pub few : (v q : ℕ) → times v q (done ++ run) ≤ times v q entries
 
 -- each row rises, and has the entries of the table and those of the list that are its hubs
 pub record HaveHubs (edges : List Edge) (at : List ℕ) (global : List (List Entry)) (done : List NodeEntry) (rows : List (List Entry)) : Type 0 where

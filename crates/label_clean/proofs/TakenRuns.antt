@@ -1,8 +1,8 @@
--- Rows that take the hubs of a tree in, entry by entry.
+-- Rows that take in the hubs of a run, entry by entry.
 use Rattle.std.proofs.Common.{◌≡◌, ◌≢◌, ◌⊎◌, ℕ, ◌+◌, ◌-◌, ◌<◌, ◌≤◌, inl, inr, List, [], ◌∷◌, ◌++◌, Contains, length, map, get_or, take, drop, refl, sym, ap, subst, ◌∙◌, append_assoc, arith}
 use Rattle.std.specs.List.Sorted.{IsStrictlyIncreasing}
 use Rattle.std.proofs.lemmas.Bool.{cases_eq, cases_lt}
-use Rattle.std.proofs.lemmas.List.{get_or-set_same, get_or-set_other, take-append-drop, take_more}
+use Rattle.std.proofs.lemmas.List.{append-nil, get_or-set_same, get_or-set_other, take-append-drop, take_more}
 use Rattle.std.proofs.lemmas.List.Elements.{All-append, All-contains, All-take, All-weaker, Contains-append_left, Contains-append_right, Contains-append_cases, Contains-get_or}
 use Rattle.std.proofs.lemmas.List.Kept.{AllPairs-from_increasing}
 use Rattle.walk_laws.specs.declared.graph.Edge.{Edge}
@@ -14,8 +14,8 @@ use Rattle.walk_laws.proofs.Members.{Contains-first, Contains-cons_cases, Contai
 use Rattle.hub_index.specs.declared.entry_sink.NodeEntry.{NodeEntry}
 use Rattle.hub_index.specs.HubIndex.{with_entry}
 use Rattle.hub_index.specs.Sunk.{entries_of_node, entry_of}
-use Rattle.hub_index.specs.Views.{IsNode}
-use Rattle.label_clean.specs.RootTrees.{GoesOn, HaveHubs, IsNext, times}
+use Rattle.hub_index.specs.Views.{GoesOnFrom, IsNode}
+use Rattle.label_clean.specs.RootRuns.{GoesOn, HaveHubs, IsNext, times}
 use Rattle.label_clean.proofs.Covering.{pos_of}
 use Rattle.label_clean.proofs.GoneOnWith.{early, is_from}
 use Rattle.label_clean.proofs.KeptEntries.{Rises-push}
@@ -35,6 +35,19 @@ here_more now after v e v_in is = ap (λ rows. label_row rows v) is ∙ get_or-s
 other_same : (now after : List (List Entry)) (v u : ℕ) (e : Entry) → 1 ≤ v → 1 ≤ u → u ≢ v → after ≡ with_entry now v e → label_row after u ≡ label_row now u
 other_same now after v u e v_from u_from other is =
     ap (λ rows. label_row rows u) is ∙ get_or-set_other now (v - 1) (u - 1) (label_row now v ++ e ∷ []) [] (λ same. other (omega (arith, same, v_from, u_from)))
+
+-- a row goes on from itself, from what went on from it, and by an entry that is put
+pub GoesOnFrom-same : (row : List Entry) → GoesOnFrom row row
+GoesOnFrom-same row = record { more = []; grown = sym (append-nil row) }
+
+pub GoesOnFrom-more : (before row after : List Entry) → GoesOnFrom before row → GoesOnFrom row after → GoesOnFrom before after
+GoesOnFrom-more before row after f g = record { more = f.more ++ g.more; grown = g.grown ∙ ap (λ es. es ++ g.more) f.grown ∙ append_assoc before f.more g.more }
+
+pub GoesOnFrom-put : (now after : List (List Entry)) (v u : ℕ) (e : Entry) → IsNode (length now) v → 1 ≤ u → after ≡ with_entry now v e → GoesOnFrom (label_row now u) (label_row after u)
+GoesOnFrom-put now after v u e v_in u_from is = elim (cases_eq u v) [
+  | inl same ↦ subst (λ w. GoesOnFrom (label_row now w) (label_row after w)) (sym same) (record { more = e ∷ []; grown = here_more now after v e v_in is })
+  | inr other ↦ record { more = []; grown = other_same now after v u e v_in.from_one u_from other is ∙ sym (append-nil (label_row now u)) }
+]
 
 module _ (edges : List Edge) (at : List ℕ) (global : List (List Entry)) (more : List NodeEntry) (now : List (List Entry)) (has : HaveHubs edges at global more now) (x : NodeEntry) where
   abbrev then_x : List NodeEntry
@@ -121,47 +134,47 @@ module _ (edges : List Edge) (at : List ℕ) (global : List (List Entry)) (more 
         ]
       ]
 
--- while a tree is put
-module _ (edges : List Edge) (at : List ℕ) (first c : ℕ) (global : List (List Entry)) (entries : List NodeEntry) (g : GoesOn edges at first c global entries) (p : ℕ) (done tree : List NodeEntry) (next : IsNext p entries done tree) (k : ℕ) (d : NodeEntry) (within : k < length tree) where
+-- while a run is put
+module _ (edges : List Edge) (at : List ℕ) (first c : ℕ) (global : List (List Entry)) (entries : List NodeEntry) (g : GoesOn edges at first c global entries) (p : ℕ) (done run : List NodeEntry) (next : IsNext p entries done run) (k : ℕ) (d : NodeEntry) (within : k < length run) where
   abbrev so_far : List NodeEntry
-  so_far = done ++ take k tree
+  so_far = done ++ take k run
 
   x : NodeEntry
-  x = get_or tree k d
+  x = get_or run k d
 
-  cut : tree ≡ take k tree ++ (get_or tree k d ∷ drop (k + 1) tree)
-  cut = sym (take-append-drop (k + 1) tree) ∙ ap (λ es. es ++ drop (k + 1) tree) (take_more tree k d within) ∙ append_assoc (take k tree) (get_or tree k d ∷ []) (drop (k + 1) tree)
+  cut : run ≡ take k run ++ (get_or run k d ∷ drop (k + 1) run)
+  cut = sym (take-append-drop (k + 1) run) ∙ ap (λ es. es ++ drop (k + 1) run) (take_more run k d within) ∙ append_assoc (take k run) (get_or run k d ∷ []) (drop (k + 1) run)
 
-  pub so_far_in : (e : NodeEntry) → Contains (done ++ take k tree) e → Contains entries e
-  so_far_in e h = elim (Contains-append_cases done (take k tree) e h) [
+  pub so_far_in : (e : NodeEntry) → Contains (done ++ take k run) e → Contains entries e
+  so_far_in e h = elim (Contains-append_cases done (take k run) e h) [
     | inl before ↦ next.there e before
-    | inr here ↦ next.here e (subst (λ es. Contains es e) (take-append-drop k tree) (Contains-append_left (take k tree) (drop k tree) e here))
+    | inr here ↦ next.here e (subst (λ es. Contains es e) (take-append-drop k run) (Contains-append_left (take k run) (drop k run) e here))
   ]
 
-  pub step_more : done ++ take (k + 1) tree ≡ (done ++ take k tree) ++ get_or tree k d ∷ []
-  step_more = ap (λ es. done ++ es) (take_more tree k d within) ∙ sym (append_assoc done (take k tree) (get_or tree k d ∷ []))
+  pub step_more : done ++ take (k + 1) run ≡ (done ++ take k run) ++ get_or run k d ∷ []
+  step_more = ap (λ es. done ++ es) (take_more run k d within) ∙ sym (append_assoc done (take k run) (get_or run k d ∷ []))
 
-  -- all entries of its row are below the next one of the tree
-  pub all_below : (now : List (List Entry)) → HaveHubs edges at global (done ++ take k tree) now → IsNode (length at) (get_or tree k d).node → (e : Entry) → Contains (label_row now (get_or tree k d).node) e → e.pos < (get_or tree k d).pos
+  -- all entries of its row are below the next one of the run
+  pub all_below : (now : List (List Entry)) → HaveHubs edges at global (done ++ take k run) now → IsNode (length at) (get_or run k d).node → (e : Entry) → Contains (label_row now (get_or run k d).node) e → e.pos < (get_or run k d).pos
   all_below now has v_in e h =
-      let y : NodeEntry = get_or tree k d in
-      let v = (get_or tree k d).node in
-      let is_pos : (get_or tree k d).pos ≡ p = All-contains (λ (e : NodeEntry). e.pos ≡ p) tree y next.one (Contains-get_or tree k d within) in
-      let y_in : Contains entries (get_or tree k d) = next.here y (Contains-get_or tree k d within) in
+      let y : NodeEntry = get_or run k d in
+      let v = (get_or run k d).node in
+      let is_pos : (get_or run k d).pos ≡ p = All-contains (λ (e : NodeEntry). e.pos ≡ p) run y next.one (Contains-get_or run k d within) in
+      let y_in : Contains entries (get_or run k d) = next.here y (Contains-get_or run k d within) in
       elim ((has.each v v_in e).0 h) [
         | inl here ↦ omega (arith, (early edges at first c global entries g v v_in e here).1, is_from edges at first c global entries g v v_in (entry_of y) (to_node entries y y_in))
         | inr there ↦
             let z = node_entry v e in
             let stands = of_node so_far v e there.0 in
-            let low : e.pos ≤ p = All-contains (λ (e : NodeEntry). e.pos ≤ p) so_far z (All-append (λ (e : NodeEntry). e.pos ≤ p) done (take k tree) next.so_far (All-take (λ (e : NodeEntry). e.pos ≤ p) k tree (All-weaker (λ (e : NodeEntry). e.pos ≡ p) (λ (e : NodeEntry). e.pos ≤ p) (λ e is. omega (arith, is)) tree next.one))) stands in
+            let low : e.pos ≤ p = All-contains (λ (e : NodeEntry). e.pos ≤ p) so_far z (All-append (λ (e : NodeEntry). e.pos ≤ p) done (take k run) next.so_far (All-take (λ (e : NodeEntry). e.pos ≤ p) k run (All-weaker (λ (e : NodeEntry). e.pos ≡ p) (λ (e : NodeEntry). e.pos ≤ p) (λ e is. omega (arith, is)) run next.one))) stands in
             elim (cases_lt e.pos p) [
               | inl lower ↦ omega (arith, lower, is_pos)
               | inr from ↦
                   let same : e.pos ≡ p = omega (arith, low, from) in
                   let one = times-some v p so_far z stands refl same in
-                  let two = times-some v p (y ∷ drop (k + 1) tree) y (Contains-first y (drop (k + 1) tree)) refl is_pos in
-                  let all : times v p (done ++ tree) ≡ times v p so_far + times v p (y ∷ drop (k + 1) tree) =
-                  ap (λ es. times v p (done ++ es)) cut ∙ ap (times v p) (sym (append_assoc done (take k tree) (y ∷ drop (k + 1) tree))) ∙ times-append v p so_far (y ∷ drop (k + 1) tree) in
+                  let two = times-some v p (y ∷ drop (k + 1) run) y (Contains-first y (drop (k + 1) run)) refl is_pos in
+                  let all : times v p (done ++ run) ≡ times v p so_far + times v p (y ∷ drop (k + 1) run) =
+                  ap (λ es. times v p (done ++ es)) cut ∙ ap (times v p) (sym (append_assoc done (take k run) (y ∷ drop (k + 1) run))) ∙ times-append v p so_far (y ∷ drop (k + 1) run) in
                   let most = times-once v p entries (g.holds.once v v_in.from_one v_in.up_to_n) in
                   absurd (omega (arith, one, two, all, most, next.few v p))
             ]
