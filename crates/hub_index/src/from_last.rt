@@ -7,7 +7,7 @@ use std::marker::Model;
 use walk_laws::Entry;
 
 /// The entries of a row, from the last one on. Contracts see the list of those that are left.
-#[derive(Drop)]
+#[derive(Debug, Drop)]
 pub struct FromLast<'a> {
     pub(crate) narrow: &'a [NarrowEntry],
     pub(crate) wide: &'a [Entry],

@@ -221,6 +221,11 @@ mod tests {
             dist: 4_294_967_296,
         };
         assert_eq!(rt; rows.offer(2, far, &table), by_way_of_1);
+        let mut from_last = rows.from_last(2);
+        assert_eq!(rt; from_last.next(), Some(near));
+        assert_eq!(rt; from_last.next(), Some(first_wide));
+        assert_eq!(rt; from_last.next(), Some(last_narrow));
+        assert_eq!(rt; from_last.next(), None);
         let rows = rows.into_rows(rt.alloc())?;
         assert_eq!(rt; rows.n(), 2);
         assert!(rt; rows.row(1).is_empty());
