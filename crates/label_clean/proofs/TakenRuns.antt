@@ -134,6 +134,27 @@ module _ (edges : List Edge) (at : List ℕ) (global : List (List Entry)) (more 
         ]
       ]
 
+-- before a run is put all rows end below it
+module _ (edges : List Edge) (at : List ℕ) (first c : ℕ) (global : List (List Entry)) (entries : List NodeEntry) (g : GoesOn edges at first c global entries) (p : ℕ) (done run : List NodeEntry) (next : IsNext p entries done run) (now : List (List Entry)) (has : HaveHubs edges at global done now) (x : NodeEntry) (of_run : Contains run x) (x_in : IsNode (length at) x.node) where
+  pub run_is_above : (e : Entry) → Contains (label_row now x.node) e → e.pos < p
+  run_is_above e h =
+      let is_pos : x.pos ≡ p = All-contains (λ (e : NodeEntry). e.pos ≡ p) run x next.one of_run in
+      elim ((has.each x.node x_in e).0 h) [
+        | inl here ↦ omega (arith, (early edges at first c global entries g x.node x_in e here).1, is_from edges at first c global entries g x.node x_in (entry_of x) (to_node entries x (next.here x of_run)), is_pos)
+        | inr there ↦
+            let z = node_entry x.node e in
+            let stands = of_node done x.node e there.0 in
+            let low : e.pos ≤ p = All-contains (λ (e : NodeEntry). e.pos ≤ p) done z next.so_far stands in
+            elim (cases_lt e.pos p) [
+              | inl lower ↦ lower
+              | inr from ↦
+                  let one = times-some x.node p done z stands refl (omega (arith, low, from)) in
+                  let two = times-some x.node p run x of_run refl is_pos in
+                  let most = times-once x.node p entries (g.holds.once x.node x_in.from_one x_in.up_to_n) in
+                  absurd (omega (arith, one, two, times-append x.node p done run, most, next.few x.node p))
+            ]
+      ]
+
 -- while a run is put
 module _ (edges : List Edge) (at : List ℕ) (first c : ℕ) (global : List (List Entry)) (entries : List NodeEntry) (g : GoesOn edges at first c global entries) (p : ℕ) (done run : List NodeEntry) (next : IsNext p entries done run) (k : ℕ) (d : NodeEntry) (within : k < length run) where
   abbrev so_far : List NodeEntry

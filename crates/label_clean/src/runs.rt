@@ -6,8 +6,11 @@ ghost use Rattle.label_clean.specs.RootRuns.{AreRunsOf};
 use hub_index::NodeEntry;
 use std::alloc::AllocError;
 
-/// A run: entries of one root that stand side by side in a list. It has the root's position, from 0, and the places of the first
-/// entry and after the last, from 0. A root may have several runs.
+/// The most entries of a run: the ends of the rows of so many nodes stay in the nearest cache.
+const LONGEST: usize = 64;
+
+/// A run: entries of one root that stand side by side in a list, up to 64. It has the root's position, from 0, and the places of
+/// the first entry and after the last, from 0. A root may have several runs.
 #[derive(Clone, Copy, Debug)]
 pub struct Run {
     pub pos: u32,
@@ -35,7 +38,7 @@ pub fn list_runs(entries: &[NodeEntry], runs: &mut Vec<Run>) -> Result<(), Alloc
     Ok(())
 }
 
-/// The place after the last of the entries from the place `from` on that have its position.
+/// The place after the last of the entries from the place `from` on that have its position, of the first 64.
 fn end_of_run(entries: &[NodeEntry], from: usize) -> usize
     requires { from < length entries.now }
     ensures more { from < result }
@@ -43,10 +46,11 @@ fn end_of_run(entries: &[NodeEntry], from: usize) -> usize
     ensures one { (k : ℕ) (d : ANodeEntry) → from ≤ k → k < result → (get_or entries.now k d).pos ≡ (get_or entries.now from d).pos }
 {
     let pos = entries[from].pos;
-    for place in from + 1..entries.len() {
+    let end = from + (entries.len() - from).min(LONGEST);
+    for place in from + 1..end {
         if entries[place].pos != pos {
             return place;
         }
     }
-    entries.len()
+    end
 }

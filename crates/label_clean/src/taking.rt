@@ -1,5 +1,5 @@
 //! Rows that take later entries in, but for the needless ones.
-ghost use Rattle.std.specs.Prelude.{◌≡◌, ◌↔◌, ℕ, ◌++◌, ◌<◌, ◌≤◌, All, List, Contains, length, map, IsTrue, OnOk};
+ghost use Rattle.std.specs.Prelude.{◌≡◌, ◌↔◌, ℕ, ◌++◌, ◌<◌, ◌≤◌, false, All, List, Contains, length, map, IsTrue, OnOk};
 ghost use Rattle.std.specs.List.Sorted.{IsStrictlyIncreasing};
 ghost use Rattle.walk_laws.specs.declared.entry.Entry.{Entry as AnEntry};
 ghost use Rattle.walk_laws.specs.declared.graph.Edge.{Edge as AnEdge};
@@ -45,7 +45,8 @@ pub fn take_in(
 
 /// Puts the entries of a run of the root at the position `pos`, from 0, after the rows of their nodes, but for those that entries
 /// from the position `first` on cover in the rows of the root and of the node. Those of the root's row are gathered in `hub_row`,
-/// whatever it had. The only error is that memory ran out.
+/// whatever it had. Rows with entries of higher roots alone end below the position; where one doesn't, the run is left out. The only
+/// error is that memory ran out.
 fn take_run(
     ranking: &Ranking,
     first: u32,
@@ -64,6 +65,9 @@ fn take_run(
         → HaveHubs edges ranking.now global done rows.old → HaveHubs edges ranking.now global (done ++ run.now) rows.new) }
 {
     late_part(rows, ranking.at(pos), first, hub_row)?;
+    if !all_end_below(rows, run, pos) {
+        return Ok(());
+    }
     for entry in run {
         if is_covered_late(rows, entry.node, first, hub_row, pos, entry.dist) {
             continue;
@@ -71,6 +75,31 @@ fn take_run(
         rows.push(entry.node, entry.entry())?;
     }
     Ok(())
+}
+
+/// Whether the row of each entry's node ends below the position `pos`, from 0. The entries are put one after another, and each
+/// put would wait until its row has come from memory. Here no row waits for another, so that many of them come at a time.
+fn all_end_below(rows: &SplitRows, run: &[NodeEntry], pos: u32) -> bool
+    requires nodes { All (λ e. IsNode (length rows.now) e.node) run.now }
+    ensures { result ≡ false → (x : ANodeEntry) × (e : AnEntry) × Contains run.now x × Contains (label_row rows.now x.node) e × (pos ≤ e.pos) }
+{
+    for entry in run {
+        if !ends_below(rows, entry.node, pos) {
+            return false;
+        }
+    }
+    true
+}
+
+/// Whether the row of the node `v`, a number from 1, ends below the position `pos`, from 0. An empty row does.
+fn ends_below(rows: &SplitRows, v: u32, pos: u32) -> bool
+    requires { IsNode (length rows.now) v }
+    ensures { result ≡ false → (e : AnEntry) × Contains (label_row rows.now v) e × (pos ≤ e.pos) }
+{
+    match rows.from_last(v).next() {
+        Some(last) => last.pos < pos,
+        None => true,
+    }
 }
 
 /// The entries of the row of the node `v`, a number from 1, from the position `first` on, by rising position, in the place of
