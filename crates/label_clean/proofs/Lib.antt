@@ -14,4 +14,5 @@ pub mod ListedRuns
 pub mod LateParts
 pub mod TimesOf
 pub mod TakenRuns
+pub mod RowEnds
 pub mod RunOrder

@@ -1,5 +1,5 @@
 -- Rows that take in the hubs of a run, entry by entry.
-use Rattle.std.proofs.Common.{◌≡◌, ◌≢◌, ◌⊎◌, ℕ, ◌+◌, ◌-◌, ◌<◌, ◌≤◌, inl, inr, List, [], ◌∷◌, ◌++◌, Contains, length, map, get_or, take, drop, refl, sym, ap, subst, ◌∙◌, append_assoc, arith}
+use Rattle.std.proofs.Common.{◌≡◌, ◌≢◌, ◌⊎◌, ℕ, ◌+◌, ◌-◌, ◌<◌, ◌≤◌, inl, inr, List, [], ◌∷◌, ◌++◌, All, Contains, length, map, get_or, take, drop, refl, sym, ap, subst, ◌∙◌, append_assoc, arith}
 use Rattle.std.specs.List.Sorted.{IsStrictlyIncreasing}
 use Rattle.std.proofs.lemmas.Bool.{cases_eq, cases_lt}
 use Rattle.std.proofs.lemmas.List.{append-nil, get_or-set_same, get_or-set_other, take-append-drop, take_more}
@@ -15,7 +15,7 @@ use Rattle.hub_index.specs.declared.entry_sink.NodeEntry.{NodeEntry}
 use Rattle.hub_index.specs.HubIndex.{with_entry}
 use Rattle.hub_index.specs.Sunk.{entries_of_node, entry_of}
 use Rattle.hub_index.specs.Views.{GoesOnFrom, IsNode}
-use Rattle.label_clean.specs.RootRuns.{GoesOn, HaveHubs, IsNext, times}
+use Rattle.label_clean.specs.RootRuns.{EndsBelow, GoesOn, HaveHubs, IsNext, times}
 use Rattle.label_clean.proofs.Covering.{pos_of}
 use Rattle.label_clean.proofs.GoneOnWith.{early, is_from}
 use Rattle.label_clean.proofs.KeptEntries.{Rises-push}
@@ -134,10 +134,10 @@ module _ (edges : List Edge) (at : List ℕ) (global : List (List Entry)) (more 
         ]
       ]
 
--- before a run is put all rows end below it
-module _ (edges : List Edge) (at : List ℕ) (first c : ℕ) (global : List (List Entry)) (entries : List NodeEntry) (g : GoesOn edges at first c global entries) (p : ℕ) (done run : List NodeEntry) (next : IsNext p entries done run) (now : List (List Entry)) (has : HaveHubs edges at global done now) (x : NodeEntry) (of_run : Contains run x) (x_in : IsNode (length at) x.node) where
-  pub run_is_above : (e : Entry) → Contains (label_row now x.node) e → e.pos < p
-  run_is_above e h =
+-- before a run is put the rows of its nodes end below it
+module _ (edges : List Edge) (at : List ℕ) (first c : ℕ) (global : List (List Entry)) (entries : List NodeEntry) (g : GoesOn edges at first c global entries) (p : ℕ) (done run : List NodeEntry) (next : IsNext p entries done run) (now : List (List Entry)) (has : HaveHubs edges at global done now) where
+  above : (x : NodeEntry) → Contains run x → IsNode (length at) x.node → (e : Entry) → Contains (label_row now x.node) e → e.pos < p
+  above x of_run x_in e h =
       let is_pos : x.pos ≡ p = All-contains (λ (e : NodeEntry). e.pos ≡ p) run x next.one of_run in
       elim ((has.each x.node x_in e).0 h) [
         | inl here ↦ omega (arith, (early edges at first c global entries g x.node x_in e here).1, is_from edges at first c global entries g x.node x_in (entry_of x) (to_node entries x (next.here x of_run)), is_pos)
@@ -154,6 +154,10 @@ module _ (edges : List Edge) (at : List ℕ) (first c : ℕ) (global : List (Lis
                   absurd (omega (arith, one, two, times-append x.node p done run, most, next.few x.node p))
             ]
       ]
+
+  pub rows_end_below : All (λ e. IsNode (length at) e.node) run → All (λ e. EndsBelow p (label_row now e.node)) run
+  rows_end_below nodes k d within front e row_is =
+      above (get_or run k d) (Contains-get_or run k d within) (nodes k d within) e (subst (λ row. Contains row e) (sym row_is) (Contains-append_right front (e ∷ []) e (Contains-first e [])))
 
 -- while a run is put
 module _ (edges : List Edge) (at : List ℕ) (first c : ℕ) (global : List (List Entry)) (entries : List NodeEntry) (g : GoesOn edges at first c global entries) (p : ℕ) (done run : List NodeEntry) (next : IsNext p entries done run) (k : ℕ) (d : NodeEntry) (within : k < length run) where

@@ -1,5 +1,5 @@
 -- Lists of entries by runs, each of one root, and rows that have the hubs among some of them.
-use Rattle.std.specs.Prelude.{◌≡◌, ◌↔◌, ◌⊎◌, ℕ, ◌-◌, ◌<◌, ◌≤◌, ◌==◌, List, [], ◌++◌, All, Contains, length, map, take, drop, flat_map, if◌then◌else◌}
+use Rattle.std.specs.Prelude.{◌≡◌, ◌↔◌, ◌⊎◌, ℕ, ◌-◌, ◌<◌, ◌≤◌, ◌==◌, List, [], ◌∷◌, ◌++◌, All, Contains, length, map, take, drop, flat_map, if◌then◌else◌}
 use Rattle.std.specs.List.{sum_by}
 use Rattle.std.specs.List.Sorted.{IsNonDecreasingBy, IsPermutation, IsStrictlyIncreasing}
 use Rattle.walk_laws.specs.declared.graph.Edge.{Edge}
@@ -37,6 +37,10 @@ pub record AreRunsOf (entries : List NodeEntry) (runs : List Run) : Type 0 where
 pub record IsLatePart (first : ℕ) (row late : List Entry) : Type 0 where
   pub rising : IsStrictlyIncreasing (map (λ e. e.pos) late)
   pub each : (e : Entry) → Contains late e ↔ (Contains row e × (first ≤ e.pos))
+
+-- the last entry of a row, if there is one, stands below a position
+abbrev pub EndsBelow : ℕ → List Entry → Type 0
+EndsBelow pos row = (front : List Entry) (e : Entry) → row ≡ front ++ e ∷ [] → e.pos < pos
 
 -- how often a list has an entry of a node at a position
 abbrev pub times : ℕ → ℕ → List NodeEntry → ℕ

@@ -1,5 +1,5 @@
 //! Rows that take later entries in, but for the needless ones.
-ghost use Rattle.std.specs.Prelude.{◌≡◌, ◌↔◌, ℕ, ◌++◌, ◌<◌, ◌≤◌, false, All, List, Contains, length, map, IsTrue, OnOk};
+ghost use Rattle.std.specs.Prelude.{◌≡◌, ◌↔◌, ℕ, ◌++◌, ◌<◌, ◌≤◌, All, List, Contains, length, map, IsTrue, OnOk};
 ghost use Rattle.std.specs.List.Sorted.{IsStrictlyIncreasing};
 ghost use Rattle.walk_laws.specs.declared.entry.Entry.{Entry as AnEntry};
 ghost use Rattle.walk_laws.specs.declared.graph.Edge.{Edge as AnEdge};
@@ -7,7 +7,7 @@ ghost use Rattle.walk_laws.specs.Labelling.{label_row};
 ghost use Rattle.hub_index.specs.declared.entry_sink.NodeEntry.{NodeEntry as ANodeEntry};
 ghost use Rattle.hub_index.specs.Views.{GoesOnFrom, IsNode};
 ghost use Rattle.label_clean.specs.Tested.{IsCovering};
-ghost use Rattle.label_clean.specs.RootRuns.{GoesOn, HaveHubs, IsLatePart, IsNext};
+ghost use Rattle.label_clean.specs.RootRuns.{EndsBelow, GoesOn, HaveHubs, IsLatePart, IsNext};
 
 use crate::cover::covers;
 use crate::runs::{Run, list_runs};
@@ -81,7 +81,7 @@ fn take_run(
 /// put would wait until its row has come from memory. Here no row waits for another, so that many of them come at a time.
 fn all_end_below(rows: &SplitRows, run: &[NodeEntry], pos: u32) -> bool
     requires nodes { All (λ e. IsNode (length rows.now) e.node) run.now }
-    ensures { result ≡ false → (x : ANodeEntry) × (e : AnEntry) × Contains run.now x × Contains (label_row rows.now x.node) e × (pos ≤ e.pos) }
+    ensures { IsTrue result ↔ All (λ e. EndsBelow pos (label_row rows.now e.node)) run.now }
 {
     for entry in run {
         if !ends_below(rows, entry.node, pos) {
@@ -94,7 +94,7 @@ fn all_end_below(rows: &SplitRows, run: &[NodeEntry], pos: u32) -> bool
 /// Whether the row of the node `v`, a number from 1, ends below the position `pos`, from 0. An empty row does.
 fn ends_below(rows: &SplitRows, v: u32, pos: u32) -> bool
     requires { IsNode (length rows.now) v }
-    ensures { result ≡ false → (e : AnEntry) × Contains (label_row rows.now v) e × (pos ≤ e.pos) }
+    ensures { IsTrue result ↔ EndsBelow pos (label_row rows.now v) }
 {
     match rows.from_last(v).next() {
         Some(last) => last.pos < pos,

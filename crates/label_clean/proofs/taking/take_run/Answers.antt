@@ -13,7 +13,7 @@ use Rattle.hub_index.specs.Views.{IsNode}
 use Rattle.label_clean.specs.RootRuns.{GoesOn, HaveHubs, IsLatePart, IsNext}
 use Rattle.label_clean.specs.Tested.{IsCovering}
 use Rattle.label_clean.proofs.GoneOnWith.{hub_is_put, others_are_covered}
-use Rattle.label_clean.proofs.TakenRuns.{GoesOnFrom-more, GoesOnFrom-put, HaveHubs-with, HaveHubs-without, all_below, run_is_above, so_far_in, step_more}
+use Rattle.label_clean.proofs.TakenRuns.{GoesOnFrom-more, GoesOnFrom-put, HaveHubs-with, HaveHubs-without, all_below, rows_end_below, so_far_in, step_more}
 use Rattle.label_clean.proofs.taking.take_run.Goals as goal
 use Rattle.label_clean.proofs.taking.take_run.Goals.{After-is_covered_late}
 
@@ -23,9 +23,9 @@ nothing = record { node = 0; pos = 0; dist = 0 }
 -- no row goes past the run
 pub returns-then-not-all_end_below-clause-hubs : goal.returns-then-not-all_end_below-clause-hubs
 returns-then-not-all_end_below-clause-hubs c edges c' global entries done g next have =
-    let past = c.all_end_below.ensures c.if-not-all_end_below.true in
-    let x_in = All-contains (λ (e : NodeEntry). IsNode (length c.args.ranking.now) e.node) c.args.run.now past.0 c.requires.nodes past.2 in
-    absurd (omega (arith, past.4, run_is_above edges c.args.ranking.now c.args.first c' global entries g c.args.pos done c.args.run.now next c.args.rows.now have past.0 past.2 x_in past.1 past.3))
+    let found : IsTrue c.all_end_below.result =
+    c.all_end_below.ensures.1 (rows_end_below edges c.args.ranking.now c.args.first c' global entries g c.args.pos done c.args.run.now next c.args.rows.now have c.requires.nodes) in
+    absurd cc
 
 module _ (c : After-is_covered_late) where
   abbrev x : NodeEntry
