@@ -29,6 +29,14 @@ number_needed name least most = record (option_named name) { parser = Some (Unsi
 abbrev pub number : Text → ℕ → Text → Rule
 number name most default = record (option_named name) { parser = Some (Unsigned 1 most); defaults = default ∷ [] }
 
+-- how many workers there are, one where it is left out
+abbrev pub workers : Rule
+workers = number (codes "workers") 64 (codes "1")
+
+-- how many roots a worker takes at a time, 1024 where it is left out
+abbrev pub cut : Rule
+cut = number (codes "cut") (2 ^ 30) (codes "1024")
+
 -- ---- commands
 
 abbrev pub command : Text → List Rule → Shape
@@ -36,7 +44,7 @@ command name options = record (new_shape name) { rules = options }
 
 -- the options of a build that may be left out
 abbrev pub building : List Rule
-building = construction ∷ number (codes "workers") 64 (codes "1") ∷ number (codes "cut") (2 ^ 30) (codes "1024") ∷ []
+building = construction ∷ workers ∷ cut ∷ []
 
 abbrev pub list : Shape
 list = command (codes "list") (file (codes "graph") ∷ file (codes "order") ∷ [])
@@ -60,7 +68,7 @@ abbrev pub degree : Shape
 degree = command (codes "degree") (file (codes "graph") ∷ [])
 
 abbrev pub grid : Shape
-grid = command (codes "grid") (number_needed (codes "side") 1 256 ∷ number_needed (codes "seed") 0 2147483647 ∷ number (codes "workers") 64 (codes "1") ∷ [])
+grid = command (codes "grid") (number_needed (codes "side") 1 256 ∷ number_needed (codes "seed") 0 2147483647 ∷ workers ∷ [])
 
 abbrev pub commands : List Shape
 commands = list ∷ build ∷ solve ∷ query ∷ path ∷ audit ∷ degree ∷ grid ∷ []

@@ -58,8 +58,8 @@ fn build<'a>(alloc: Global) -> Result<Command<'a>, AllocError>
         .arg(file(alloc, "order"))?
         .arg(file(alloc, "out"))?
         .arg(construction(alloc))?
-        .arg(number(alloc, "workers", MOST_WORKERS, "1"))?
-        .arg(number(alloc, "cut", MOST_ROOTS, USUAL_ROOTS))
+        .arg(workers(alloc))?
+        .arg(cut(alloc))
 }
 
 fn solve<'a>(alloc: Global) -> Result<Command<'a>, AllocError>
@@ -70,8 +70,8 @@ fn solve<'a>(alloc: Global) -> Result<Command<'a>, AllocError>
         .arg(file(alloc, "order"))?
         .arg(file(alloc, "pairs"))?
         .arg(construction(alloc))?
-        .arg(number(alloc, "workers", MOST_WORKERS, "1"))?
-        .arg(number(alloc, "cut", MOST_ROOTS, USUAL_ROOTS))
+        .arg(workers(alloc))?
+        .arg(cut(alloc))
 }
 
 fn query<'a>(alloc: Global) -> Result<Command<'a>, AllocError>
@@ -112,7 +112,7 @@ fn grid<'a>(alloc: Global) -> Result<Command<'a>, AllocError>
     Command::new(alloc, "grid")
         .arg(number_needed(alloc, "side", 1, LONGEST_SIDE))?
         .arg(number_needed(alloc, "seed", 0, GREATEST_SEED))?
-        .arg(number(alloc, "workers", MOST_WORKERS, "1"))
+        .arg(workers(alloc))
 }
 
 /// An option that must be there, with the name of a file.
@@ -127,6 +127,20 @@ fn construction<'a>(alloc: Global) -> Arg<'a>
     ensures { IsOption literal.construction result }
 {
     Arg::new(alloc, "by").long("by").default_value("plant")
+}
+
+/// The option that says how many workers there are, one where it is left out.
+fn workers<'a>(alloc: Global) -> Arg<'a>
+    ensures { IsOption literal.workers result }
+{
+    number(alloc, "workers", MOST_WORKERS, "1")
+}
+
+/// The option that says how many roots a worker takes at a time.
+fn cut<'a>(alloc: Global) -> Arg<'a>
+    ensures { IsOption literal.cut result }
+{
+    number(alloc, "cut", MOST_ROOTS, USUAL_ROOTS)
 }
 
 /// An option that must be there, with a number between two limits.

@@ -12,5 +12,5 @@ returns c =
     let two = with_option _ _ _ _ _ one c.file-2.ensures c.in_ok-arg-2.ensures in
     let three = with_option _ _ _ _ _ two c.file-3.ensures c.in_ok-arg-3.ensures in
     let four = with_option _ _ _ _ _ three c.construction.ensures c.in_ok-arg-4.ensures in
-    let five = with_option _ _ _ _ _ four c.number.ensures c.in_ok-arg-5.ensures in
-    IfOk-weaker c.arg-6.result _ (IsProgram (command_alone solve)) (λ r adds. with_option _ _ _ _ _ five c.number-2.ensures adds) c.arg-6.ensures
+    let five = with_option _ _ _ _ _ four c.workers.ensures c.in_ok-arg-5.ensures in
+    IfOk-weaker c.arg-6.result _ (IsProgram (command_alone solve)) (λ r adds. with_option _ _ _ _ _ five c.cut.ensures adds) c.arg-6.ensures
