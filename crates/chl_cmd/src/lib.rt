@@ -13,8 +13,6 @@ mod labelling;
 pub mod laws;
 mod running;
 mod status;
-#[cfg(test)]
-mod tests;
 
 pub use chl_inputs::{NotOf, Stop};
 pub use chl_words::{AskFault, Asked, By, Name, read_words};

@@ -13,8 +13,6 @@ mod ground;
 mod growing;
 mod share;
 mod step;
-#[cfg(test)]
-mod tests;
 mod workers;
 
 pub use build::{build_gll, superstep};

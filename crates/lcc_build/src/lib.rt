@@ -12,8 +12,6 @@ mod build;
 mod ground;
 mod in_order;
 mod share;
-#[cfg(test)]
-mod tests;
 mod workers;
 
 pub use build::build_lcc;

@@ -7,8 +7,6 @@
 
 mod bare;
 mod growing;
-#[cfg(test)]
-mod tests;
 mod work;
 
 pub use growing::grow;

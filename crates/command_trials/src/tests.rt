@@ -7,7 +7,7 @@ mod pairs;
 mod texts;
 mod walks;
 
-use super::*;
+use chl_cmd::{NotOf, Status, run};
 use desk_io::{Call, FreeGate, MemDesk};
 use dimacs_text::{TextFault, TextKind};
 use index_audit::Audit;

@@ -1,7 +1,7 @@
 use Rattle.std.proofs.Common.{length, sym, ap, subst}
 use Rattle.label_clean.specs.Below.{IsChlBelow}
 use Rattle.gll_build.proofs.EmptyTables.{IsChlBelow-none}
-use Rattle.gll_build.proofs.tests.next_root.Goals as goal
+use Rattle.tree_trials.proofs.tests.supersteps.next_root.Goals as goal
 
 pub superstep-requires-clause-global : goal.superstep-requires-clause-global
 superstep-requires-clause-global g c κs within =

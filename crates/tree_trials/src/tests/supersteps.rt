@@ -1,9 +1,10 @@
+//! Supersteps one by one, and builds in supersteps.
 ghost use Rattle.std.specs.Prelude.{◌≡◌, ◌<◌, ◌≤◌, ◌^◌, length, IfOk};
-ghost use Rattle.walk_laws.specs.Worked.{first_four, square as square_edges};
 ghost use Rattle.label_clean.specs.Below.{IsChlBelow};
 
-use crate::{build_gll, superstep};
+use super::{SQUARE_ROWS, compare, compare_index, one_to_four, square};
 use desk_io::FreeGate;
+use gll_build::{build_gll, superstep};
 use hub_index::RowList;
 use rank_table::Ranking;
 use std::alloc::Global;
@@ -11,32 +12,7 @@ use std::process::Abort;
 use std::sync::Wait;
 use std::test::Fail;
 use std::thread::Threads;
-use walk_laws::{Edge, Entry, Graph};
-
-fn entry(pos: u32, dist: u64) -> Entry {
-    Entry { pos, dist }
-}
-
-/// The square 1-2-3-4-1, each side of weight 1.
-fn square(alloc: Global) -> Result<Graph, Fail>
-    ensures n { IfOk result (λ graph. graph.n ≡ 4) }
-    ensures edges { IfOk result (λ graph. graph.edges ≡ square_edges) }
-{
-    let edges = vec![in alloc;
-        Edge { u: 1, v: 2, w: 1 },
-        Edge { u: 2, v: 3, w: 1 },
-        Edge { u: 3, v: 4, w: 1 },
-        Edge { u: 4, v: 1, w: 1 },
-    ]?;
-    Ok(Graph::new(alloc, 4, edges)?)
-}
-
-/// The ranking in which a smaller number ranks higher.
-fn one_to_four(alloc: Global) -> Result<Ranking, Fail>
-    ensures { IfOk result (λ ranking. ranking ≡ first_four) }
-{
-    Ok(Ranking::new(alloc, vec![in alloc; 1, 2, 3, 4]?)?)
-}
+use walk_laws::Graph;
 
 /// One superstep of one worker that stops at its first entry: it takes the root `first`, and the next one is `next`.
 fn one_root<R: Abort + AllocGlobal + Threads + Wait + Sync>(
@@ -76,17 +52,7 @@ fn a_worker_that_stops_at_once_takes_root_by_root(rt: HostRuntime) -> Result<(),
     let rows = one_root(&rt, &graph, &ranking, rows, 1, 2)?;
     let rows = one_root(&rt, &graph, &ranking, rows, 2, 3)?;
     let rows = one_root(&rt, &graph, &ranking, rows, 3, 4)?;
-    assert_eq!(rt; rows.n(), 4);
-    let wanted: [&[Entry]; 4] = [
-        &[entry(0, 0)],
-        &[entry(0, 1), entry(1, 0)],
-        &[entry(0, 2), entry(1, 1), entry(2, 0)],
-        &[entry(0, 1), entry(2, 1), entry(3, 0)],
-    ];
-    for (place, row) in wanted.iter().enumerate() {
-        let v = place as u32 + 1;
-        assert_eq!(rt; rows.row(v), *row, "{v}");
-    }
+    compare(&rt, &rows, SQUARE_ROWS);
     Ok(())
 }
 
@@ -127,17 +93,7 @@ fn build_square<R: Abort + AllocGlobal + Threads + Wait + Sync>(
     let graph = square(rt.alloc())?;
     let ranking = one_to_four(rt.alloc())?;
     let index = build_gll(rt, rt.alloc(), &graph, &ranking, workers, cut, &FreeGate)?;
-    assert_eq!(rt; index.n(), 4);
-    let wanted: [&[Entry]; 4] = [
-        &[entry(0, 0)],
-        &[entry(0, 1), entry(1, 0)],
-        &[entry(0, 2), entry(1, 1), entry(2, 0)],
-        &[entry(0, 1), entry(2, 1), entry(3, 0)],
-    ];
-    for (place, row) in wanted.iter().enumerate() {
-        let v = place as u32 + 1;
-        assert_eq!(rt; index.row(v), *row, "{v}");
-    }
+    compare_index(rt, &index);
     Ok(())
 }
 
