@@ -1,5 +1,5 @@
 //! One worker of a superstep: the trees of the roots that its seat claims.
-ghost use Rattle.std.specs.Prelude.{◌≡◌, ◌⊎◌, ℕ, ◌≤◌, true, false, [], IsOk, IfOk, IfSome, IfNone, length, nat_eq};
+ghost use Rattle.std.specs.Prelude.{◌≡◌, ◌⊎◌, ℕ, ◌*◌, ◌<◌, ◌≤◌, true, false, [], IsOk, IfOk, IfSome, IfNone, IsTrue, length, nat_eq};
 ghost use Rattle.std.specs.List.{IsDistinct};
 ghost use Rattle.root_claims.specs.Seats.{IsSeatOf as IsClaimSeatOf};
 ghost use Rattle.pruned_tree.specs.GrownBy.{HasGrown};
@@ -16,6 +16,7 @@ use pruned_tree::{Work, grow};
 use root_claims::{Claim, ClaimSeat};
 use std::alloc::{AllocError, Global};
 use std::sync::Wait;
+use std::sync::atomic::Ordering;
 
 /// The seats of a worker: at the claims and at the pool.
 #[derive(Drop)]
@@ -34,9 +35,10 @@ pub struct Share {
     pub memory: Result<(), AllocError>,
 }
 
-/// One worker of a superstep: it claims a root and grows its tree, until it has put at least the superstep's `cut` entries or
-/// no root is left. Its gate is told of each root when its tree begins, and when it ends with the number of entries put. Where
-/// memory runs out others may go on. Its seat at the claims comes back in any case, with all roots that it claimed.
+/// One worker of a superstep: it claims a root and grows its tree, until no root is left, or until it has put at least the
+/// superstep's `cut` entries, and each other worker has as well or it has put twice as many. Its gate is told of each root
+/// when its tree begins, and when it ends with the number of entries put. Where memory runs out others may go on. Its seat
+/// at the claims comes back in any case, with all roots that it claimed.
 pub fn grow_share<R: Wait, G: Gate>(
     rt: &R,
     alloc: Global,
@@ -80,8 +82,7 @@ pub fn grow_share<R: Wait, G: Gate>(
     }
 }
 
-/// Claims roots and grows their trees, until at least `cut` entries are put or no root is left. The only error is that memory
-/// ran out.
+/// Claims roots and grows their trees until the worker is done or no root is left. The only error is that memory ran out.
 fn grow_trees<R: Wait, G: Gate>(
     rt: &R,
     alloc: Global,
@@ -109,8 +110,9 @@ fn grow_trees<R: Wait, G: Gate>(
     for _ in rt.forever() {
         match next_tree(alloc, ground, seat, view, work, gate) {
             Ok(Some(puts)) => {
-                put = put.saturating_add(u64::from(puts));
-                if put >= u64::from(ground.cut) {
+                let before = put;
+                put = before.saturating_add(u64::from(puts));
+                if is_done(ground, before, put) {
                     return Ok(());
                 }
             }
@@ -119,6 +121,27 @@ fn grow_trees<R: Wait, G: Gate>(
         }
     }
     unreachable!()
+}
+
+/// Whether a worker is done whose last tree has brought what it put from `before` to `put`: that is at least `cut`, and each
+/// other worker has put as many, or this one twice as many. So while one is late the others go on, but not without end,
+/// since a worker whose thread can't be made begins when they are done.
+fn is_done(ground: &Ground<'_>, before: u64, put: u64) -> bool
+    ensures enough { IsTrue result → ground.now.cut ≤ put }
+    ensures alone { ground.now.workers ≤ 1 → before < ground.now.cut → ground.now.cut ≤ put → IsTrue result }
+    ensures twice { 2 * ground.now.cut ≤ put → IsTrue result }
+{
+    let cut = u64::from(ground.cut);
+    if put < cut {
+        return false;
+    }
+    let filled = if before < cut {
+        let others = ground.filled.fetch_add(1, Ordering::SeqCst);
+        others.saturating_add(1)
+    } else {
+        ground.filled.load(Ordering::SeqCst)
+    };
+    put >= 2 * cut || filled >= ground.workers
 }
 
 /// Claims a root and grows its tree. It answers how many entries were put, or None where no root is left. The only error is

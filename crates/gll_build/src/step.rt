@@ -18,6 +18,7 @@ use rank_table::Ranking;
 use root_claims::Claims;
 use std::alloc::{AllocError, Global};
 use std::sync::Wait;
+use std::sync::atomic::AtomicU32;
 use std::thread::Threads;
 use walk_laws::Graph;
 
@@ -158,6 +159,7 @@ fn grow_roots<R: Threads + Wait + Sync, G: Gate + Sync>(
         claims: claim_seat,
         pool: pool_seat,
     };
+    let filled = AtomicU32::new(0);
     let ground = Ground {
         graph,
         ranking,
@@ -165,6 +167,8 @@ fn grow_roots<R: Threads + Wait + Sync, G: Gate + Sync>(
         claims: &claims,
         pool: &pool,
         cut,
+        workers,
+        filled: &filled,
     };
     let harvest = harvest_on(rt, alloc, &ground, gate, seats, benches, spare)?;
     let Harvest {

@@ -19,8 +19,8 @@ use std::sync::Wait;
 use std::thread::Threads;
 use walk_laws::Graph;
 
-/// The cut of each construction that builds a grid: the roots of a batch that is planted, and the entries after which a worker
-/// takes no more roots in a superstep.
+/// The cut of each construction that builds a grid: the roots of a batch that is planted, and the entries that a worker puts
+/// at least in a superstep.
 const GRID_CUT: u32 = 1024;
 
 /// The lines of the square grid of a side and a seed, whose index is built by each construction in turn, under the ranking of

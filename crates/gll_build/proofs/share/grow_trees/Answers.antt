@@ -45,8 +45,8 @@ pub returns-in-Err-clause-grown : goal.returns-in-Err-clause-grown
 returns-in-Err-clause-grown g c =
     HasGrown-then c.args.ground.now.graph.now.edges c.args.ground.now.ranking.now _ _ _ c.args.seat.now.got c.loop.seat.got c.next_tree.new.seat.got (puts_row c.args.view.now) (puts_row c.loop.view) (puts_row c.next_tree.new.view) c.loop.invariant.9 c.in-Err.ensures.grown c.next_tree.ensures.once (λ t. absurd (true≢false (sym t)))
 
-pub returns-then-put-from-clause-grown : goal.returns-then-put-from-clause-grown
-returns-then-put-from-clause-grown g c =
+pub returns-then-is_done-clause-grown : goal.returns-then-is_done-clause-grown
+returns-then-is_done-clause-grown g c =
     HasGrown-then c.args.ground.now.graph.now.edges c.args.ground.now.ranking.now _ _ _ c.args.seat.now.got c.loop.seat.got c.next_tree.new.seat.got (puts_row c.args.view.now) (puts_row c.loop.view) (puts_row c.next_tree.new.view) c.loop.invariant.9 c.in-Ok-Some.ensures.grown c.next_tree.ensures.once (λ t. (t, t))
 
 pub returns-in-Ok-None-clause-apart : goal.returns-in-Ok-None-clause-apart
@@ -57,6 +57,6 @@ pub returns-in-Err-clause-apart : goal.returns-in-Err-clause-apart
 returns-in-Err-clause-apart g c =
     StayUncovered-then c.args.ground.now.ranking.now c.args.view.now.global c.loop.view.global (puts_row c.args.view.now) (puts_row c.loop.view) (puts_row c.next_tree.new.view) (ap (λ (k : ViewKept). k.global) c.loop.invariant.8) c.loop.invariant.10 c.next_tree.ensures.apart
 
-pub returns-then-put-from-clause-apart : goal.returns-then-put-from-clause-apart
-returns-then-put-from-clause-apart g c =
+pub returns-then-is_done-clause-apart : goal.returns-then-is_done-clause-apart
+returns-then-is_done-clause-apart g c =
     StayUncovered-then c.args.ground.now.ranking.now c.args.view.now.global c.loop.view.global (puts_row c.args.view.now) (puts_row c.loop.view) (puts_row c.next_tree.new.view) (ap (λ (k : ViewKept). k.global) c.loop.invariant.8) c.loop.invariant.10 c.next_tree.ensures.apart
