@@ -3,6 +3,7 @@ ghost use Rattle.std.specs.Prelude.{◌<◌};
 
 mod files;
 mod gates;
+mod turns;
 
 use chl_cmd::{Status, run};
 use desk_io::{Call, FreeGate, MemDesk};

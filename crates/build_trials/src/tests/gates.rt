@@ -1,7 +1,8 @@
 //! Builds watched by gates: that two workers grow trees at the same time, and what a gate is told.
-ghost use Rattle.std.specs.Prelude.{◌≡◌, ◌≤◌, IfOk, length};
+ghost use Rattle.std.specs.Prelude.{◌≡◌, ◌^◌, ◌≤◌, IfOk, length};
 
 use super::files::{grid_of_side_6, order_by_steps};
+use super::turns::{first_before_second, second_before_first, third_before_second};
 use super::*;
 use desk_io::{Feed, Gate, Reader};
 use dimacs_text::GrReader;
@@ -12,132 +13,7 @@ use lcc_build::build_lcc;
 use plant_build::build_plant;
 use rank_table::{OrderReader, Ranking};
 use std::sync::atomic::{AtomicU32, Ordering};
-use std::thread::yield_now;
 use walk_laws::Graph;
-
-/// A word that one thread sets and another waits for, at most so many turns.
-#[derive(Drop)]
-struct Signal {
-    given: AtomicU32,
-}
-
-const TURNS: u32 = 50_000_000;
-
-impl Signal {
-    fn new() -> Signal {
-        Signal {
-            given: AtomicU32::new(0),
-        }
-    }
-
-    fn give(&self) {
-        self.given.store(1, Ordering::SeqCst);
-    }
-
-    /// Whether it was given before the turns ran out.
-    fn comes(&self) -> bool {
-        for _ in 0..TURNS {
-            if self.given.load(Ordering::SeqCst) == 1 {
-                return true;
-            }
-            yield_now();
-        }
-        false
-    }
-}
-
-/// What a gate saw of two roots: how many entries the second one's tree put, and whether a wait ran out.
-#[derive(Drop)]
-struct Seen {
-    puts: AtomicU32,
-    ran_out: AtomicU32,
-}
-
-impl Seen {
-    fn new() -> Seen {
-        Seen {
-            puts: AtomicU32::new(0),
-            ran_out: AtomicU32::new(0),
-        }
-    }
-
-    fn wait_for(&self, signal: &Signal) {
-        if !signal.comes() {
-            self.ran_out.store(1, Ordering::SeqCst);
-        }
-    }
-
-    fn puts(&self) -> Option<u32> {
-        if self.ran_out.load(Ordering::SeqCst) == 1 {
-            return None;
-        }
-        Some(self.puts.load(Ordering::SeqCst))
-    }
-}
-
-/// The first root begins only when the second one's tree has ended.
-#[derive(Drop)]
-struct SecondBeforeFirst {
-    seen: Seen,
-    second_ended: Signal,
-}
-
-impl Gate for SecondBeforeFirst {
-    fn begins(&self, p: u32) {
-        if p == 0 {
-            self.seen.wait_for(&self.second_ended);
-        }
-    }
-
-    fn ends(&self, p: u32, puts: u32) {
-        if p == 1 {
-            self.seen.puts.store(puts, Ordering::SeqCst);
-            self.second_ended.give();
-        }
-    }
-}
-
-/// The second root's tree grows when the first one's has ended; but it has begun before the first one's worker goes on.
-#[derive(Drop)]
-struct FirstBeforeSecond {
-    seen: Seen,
-    first_ended: Signal,
-    second_begun: Signal,
-}
-
-impl Gate for FirstBeforeSecond {
-    fn begins(&self, p: u32) {
-        if p == 1 {
-            self.second_begun.give();
-            self.seen.wait_for(&self.first_ended);
-        }
-    }
-
-    fn ends(&self, p: u32, puts: u32) {
-        if p == 0 {
-            self.first_ended.give();
-            self.seen.wait_for(&self.second_begun);
-        }
-        if p == 1 {
-            self.seen.puts.store(puts, Ordering::SeqCst);
-        }
-    }
-}
-
-fn second_before_first() -> SecondBeforeFirst {
-    SecondBeforeFirst {
-        seen: Seen::new(),
-        second_ended: Signal::new(),
-    }
-}
-
-fn first_before_second() -> FirstBeforeSecond {
-    FirstBeforeSecond {
-        seen: Seen::new(),
-        first_ended: Signal::new(),
-        second_begun: Signal::new(),
-    }
-}
 
 /// The graph and the ranking that two texts stand for.
 fn read<R: Abort>(rt: &R, alloc: Global, graph: &str, order: &str) -> Result<(Graph, Ranking), Fail>
@@ -169,13 +45,17 @@ fn square_by_lcc<R: Abort + AllocGlobal + Threads + Wait + Sync, G: Gate + Sync>
     Ok(())
 }
 
-/// The same by supersteps, of which the first takes all roots.
+/// The same by supersteps.
 fn square_by_gll<R: Abort + AllocGlobal + Threads + Wait + Sync, G: Gate + Sync>(
     rt: &R,
+    cut: u32,
     gate: &G,
-) -> Result<(), Fail> {
+) -> Result<(), Fail>
+    requires cut_from { 1 ≤ cut }
+    requires cut_to { cut ≤ 2 ^ 30 }
+{
     let (graph, ranking) = read(rt, rt.alloc(), SQUARE, SQUARE_ORDER)?;
-    build_gll(rt, rt.alloc(), &graph, &ranking, 2, 1024, gate)?;
+    build_gll(rt, rt.alloc(), &graph, &ranking, 2, cut, gate)?;
     Ok(())
 }
 
@@ -208,14 +88,24 @@ fn two_roots_at_once_by_lcc(rt: HostRuntime) -> Result<(), Fail> {
     Ok(())
 }
 
-/// The same in a superstep.
+/// The same in a superstep, which takes all roots.
 #[test]
 fn two_roots_at_once_by_gll(rt: HostRuntime) -> Result<(), Fail> {
     let gate = second_before_first();
-    square_by_gll(&rt, &gate)?;
+    square_by_gll(&rt, 1024, &gate)?;
     assert_eq!(rt; gate.seen.puts(), Some(3));
     let gate = first_before_second();
-    square_by_gll(&rt, &gate)?;
+    square_by_gll(&rt, 1024, &gate)?;
+    assert_eq!(rt; gate.seen.puts(), Some(2));
+    Ok(())
+}
+
+/// With the cut 3 the tree of root 0 puts enough for its worker, and less than twice as much. While the other one is held up at root 1, and has put
+/// nothing, it goes on with root 2.
+#[test]
+fn a_worker_goes_on_while_another_is_late(rt: HostRuntime) -> Result<(), Fail> {
+    let gate = third_before_second();
+    square_by_gll(&rt, 3, &gate)?;
     assert_eq!(rt; gate.seen.puts(), Some(2));
     Ok(())
 }
