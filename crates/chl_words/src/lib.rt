@@ -9,8 +9,6 @@ mod asked;
 pub mod laws;
 mod literal;
 mod reading;
-#[cfg(test)]
-mod tests;
 
 pub use asked::{AskFault, Asked, By, Name};
 pub use reading::read_words;

@@ -16,8 +16,6 @@ mod lines;
 mod mem_desk;
 mod read_all;
 mod real_desk;
-#[cfg(test)]
-mod tests;
 mod write_out;
 
 pub use calls::Call;

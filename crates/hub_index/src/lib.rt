@@ -25,8 +25,6 @@ mod row;
 mod row_list;
 mod row_view;
 mod split_rows;
-#[cfg(test)]
-mod tests;
 mod wide_rows;
 
 pub use entry_sink::{EntrySink, NodeEntry};

@@ -115,25 +115,3 @@ impl RowList {
         Ok(())
     }
 }
-
-#[cfg(test)]
-mod tests {
-    use super::*;
-    use std::test::Fail;
-
-    #[test]
-    fn entries_go_last_in_their_rows(rt: HostRuntime) -> Result<(), Fail> {
-        let mut rows = RowList::new(rt.alloc(), 2)?;
-        assert_eq!(rt; rows.n(), 2);
-        rows.push(2, Entry { pos: 0, dist: 7 })?;
-        assert_eq!(rt; rows.n(), 2);
-        rows.push(2, Entry { pos: 1, dist: 0 })?;
-        assert_eq!(rt; rows.n(), 2);
-        assert!(rt; rows.row(1).is_empty());
-        assert_eq!(rt;
-            rows.row(2),
-            [Entry { pos: 0, dist: 7 }, Entry { pos: 1, dist: 0 }].as_slice()
-        );
-        Ok(())
-    }
-}

@@ -13,8 +13,6 @@ pub mod laws;
 mod meeting;
 mod nodes;
 mod path_answer;
-#[cfg(test)]
-mod tests;
 mod walking;
 
 pub use answer::Answer;

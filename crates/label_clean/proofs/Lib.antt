@@ -4,7 +4,6 @@ pub mod RowFacts
 pub mod NearRows
 pub mod Cleaned
 pub mod KeptEntries
-pub mod TestRows
 pub mod GoneOn
 pub mod RowItems
 pub mod KeptRows

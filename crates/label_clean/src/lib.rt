@@ -20,8 +20,6 @@ mod runs;
 mod sorting;
 mod taking;
 mod testing;
-#[cfg(test)]
-mod tests;
 
 pub use cleaning::{clean, clean_in_place, survivors};
 pub use going_on::Cleaner;

@@ -45,8 +45,3 @@ next-given looks cell given at (l ∷ ls) told r =
 pub end-given : (looks : List Look) (rest : List Linked) → IsRest looks None rest → IsNext looks rest None None
 end-given looks [] r = (refl, r)
 end-given looks (l ∷ ls) r = let wrong : None ≡ Some l.cell = r.at_first in absurd cc
-
--- a walk that gave something, or nothing, has still something left, if only the end
-pub next-rest : (looks : List Look) (rest : List Linked) (given : Option Entry) (at : Option ℕ) → IsNext looks rest given at → (left : List Linked) × IsRest looks at left
-next-rest looks [] given at n = ([], n.1)
-next-rest looks (l ∷ ls) given at n = (ls, n.1)

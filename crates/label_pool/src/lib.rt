@@ -16,8 +16,6 @@ mod pool;
 mod pool_put;
 mod rule;
 mod seat;
-#[cfg(test)]
-mod tests;
 mod visit;
 
 pub use pool::Pool;

@@ -1,5 +1,4 @@
 pub mod PlantedRows
-pub mod TestOrders
 pub mod HeldParts
 pub mod Balances
 pub mod Askings

@@ -17,8 +17,6 @@ mod other;
 mod own;
 mod rule;
 mod settling;
-#[cfg(test)]
-mod tests;
 mod worker;
 
 pub use build::build_plant;

@@ -3,6 +3,7 @@ ghost use Rattle.std.specs.Prelude.{◌≡◌, IfOk};
 ghost use Rattle.walk_laws.specs.Worked.{first_four, square as square_edges};
 
 mod lcc;
+mod plant;
 mod pruned;
 mod supersteps;
 

@@ -1,0 +1,2 @@
+mod desks;
+mod index_files;

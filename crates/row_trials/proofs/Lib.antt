@@ -1,0 +1,3 @@
+mod CleanedRows
+mod Rests
+mod TyingRows
