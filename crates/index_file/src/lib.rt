@@ -19,8 +19,6 @@ mod part_row;
 mod pieces;
 mod progress;
 mod runs;
-#[cfg(test)]
-mod tests;
 
 pub use encoding::encode;
 pub use fault::IndexFault;
