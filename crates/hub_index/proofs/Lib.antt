@@ -11,4 +11,5 @@ pub mod Parts
 pub mod PartsOfLabellings
 pub mod NarrowEntries
 pub mod PartedRows
+pub mod LentRows
 pub mod Backwards

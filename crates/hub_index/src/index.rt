@@ -2,6 +2,7 @@ ghost use Rattle.std.specs.Prelude.{◌≡◌, ℕ, ◌≤◌, length};
 ghost use Rattle.walk_laws.specs.Labelling.{label_row};
 ghost use Rattle.hub_index.specs.WellFormed.{IsWellFormed};
 
+use crate::index_rows::IndexRows;
 use crate::row_list::RowList;
 use rank_table::Ranking;
 use std::marker::Model;
@@ -50,6 +51,18 @@ impl Index {
         ensures well_formed { IsWellFormed self.now.order self.now.rows }
     {
         &self.ranking
+    }
+
+    /// Its rows, to be gone along. It takes no memory.
+    pub fn rows(&self) -> IndexRows<'_>
+        ensures order { result.order ≡ self.now.order }
+        ensures rows { result.rows ≡ self.now.rows }
+    {
+        IndexRows {
+            ranking: &self.ranking,
+            narrow: &[],
+            wide: &self.rows,
+        }
     }
 
     /// The row of the node `v`, a number from 1: its hubs' positions, from 0, with their distances. It is lent in O(1).

@@ -5,18 +5,20 @@
 //! the least distances of a row by position, by which entries of another row are seen to cover. A [`RowView`] is what one
 //! worker sees of rows while it grows trees, [`PlainRows`] being that of one thread over split rows, and a [`Row`] is one row,
 //! to which entries are offered. An [`EntrySink`] takes what one worker puts, in any order, and [`gather`] makes rows of what
-//! many put. An [`Index`] is a ranking with its rows, and keeps that they are well formed. `laws` has the law that canonical
-//! hub labellings are well formed.
+//! many put. An [`Index`] is a ranking with its rows, and keeps that they are well formed; so is a [`SplitIndex`], over split
+//! rows, and [`IndexRows`] are the rows of either, lent. `laws` has the law that canonical hub labellings are well formed.
 //! It stands on walk_laws (`Entry`, `label_row`) and rank_table (`Ranking`). Its callers' clauses use `specs/HubIndex`
 //! (`HubIndex`, `with_entry`), `specs/WellFormed` (`IsWellFormed`, `IsWellFormedRow`, `own_entry`), `specs/RootDistances`
 //! (`root_distance`, `noted`, `IsCover`, `HoldsRow`), `specs/Views` (`IsNode`, `IsFound`, `IsFoundOnward`, `IsAnswerOf`,
-//! `with_put`), `specs/Sunk` (`sunk_at`, `entries_of_node`) and `specs/PlainRows` (`IsGathered`).
+//! `with_put`), `specs/NarrowRows` (`row_of_parts`, `rows_of_parts`), `specs/Sunk` (`sunk_at`, `entries_of_node`) and
+//! `specs/PlainRows` (`IsGathered`).
 #![tactic(auto)]
 
 mod entry_sink;
 mod from_last;
 mod gathering;
 mod index;
+mod index_rows;
 pub mod laws;
 mod narrow_row;
 mod plain_rows;
@@ -24,6 +26,7 @@ mod root_table;
 mod row;
 mod row_list;
 mod row_view;
+mod split_index;
 mod split_rows;
 mod wide_rows;
 
@@ -31,10 +34,13 @@ pub use entry_sink::{EntrySink, NodeEntry};
 pub use from_last::FromLast;
 pub use gathering::gather;
 pub use index::Index;
+pub use index_rows::IndexRows;
+pub use narrow_row::NarrowEntry;
 pub use plain_rows::PlainRows;
 pub use root_table::{RootTable, covered};
 pub use row::Row;
 pub use row_list::RowList;
 pub use row_view::{Offer, RowView};
+pub use split_index::SplitIndex;
 pub use split_rows::SplitRows;
 pub use walk_laws::Entry;

@@ -3,15 +3,19 @@ ghost use Rattle.std.specs.Prelude.{◌≡◌, ◌-◌, ◌^◌, ◌<◌, ◌≤
 ghost use Rattle.walk_laws.specs.declared.entry.Entry.{Entry as AnEntry};
 ghost use Rattle.walk_laws.specs.Labelling.{label_row};
 ghost use Rattle.hub_index.specs.HubIndex.{with_entry};
+ghost use Rattle.hub_index.specs.NarrowRows.{rows_of_parts};
+ghost use Rattle.hub_index.specs.WellFormed.{IsWellFormed};
 ghost use Rattle.hub_index.specs.RootDistances.{noted, IsCover, HoldsRow};
 ghost use Rattle.hub_index.specs.Views.{IsAnswerOf, with_put};
 
 use crate::from_last::FromLast;
+use crate::index_rows::IndexRows;
 use crate::narrow_row::{NarrowEntry, joined_parts, narrow_cover, note_parts};
 use crate::root_table::{RootTable, covered};
 use crate::row_list::RowList;
 use crate::row_view::Offer;
 use crate::wide_rows::WideRows;
+use rank_table::Ranking;
 use std::alloc::{AllocError, Global};
 use std::marker::Model;
 use walk_laws::Entry;
@@ -170,13 +174,46 @@ impl SplitRows {
         Ok(())
     }
 
+    /// These rows as those of an index with this ranking, to be gone along. It takes no memory.
+    pub fn under<'a>(&'a self, ranking: &'a Ranking) -> IndexRows<'a>
+        requires { IsWellFormed ranking.now self.now }
+        ensures order { result.order ≡ ranking.now }
+        ensures rows { result.rows ≡ self.now }
+    {
+        IndexRows {
+            ranking,
+            narrow: &self.narrow,
+            wide: self.wide.list(),
+        }
+    }
+
+    /// The two parts of each row, the first being those of node 1. It takes no memory.
+    pub fn into_parts(self) -> (Vec<Vec<NarrowEntry>>, RowList)
+        ensures rows { rows_of_parts (map (λ row. row.items) result.0.items) result.1 ≡ self }
+        ensures size { vec_len result.0 ≡ length result.1 }
+    {
+        let SplitRows { narrow, wide } = self;
+        (narrow, wide.into_list())
+    }
+
+    /// The rows in these parts, the first being those of node 1. It takes no memory.
+    pub fn from_parts(narrow: Vec<Vec<NarrowEntry>>, wide: RowList) -> SplitRows
+        requires { vec_len narrow ≡ length wide }
+        ensures { result ≡ rows_of_parts (map (λ row. row.items) narrow.items) wide }
+    {
+        SplitRows {
+            narrow,
+            wide: WideRows::of(wide),
+        }
+    }
+
     /// The rows, each in just the room that it takes. Each goes as soon as its entries stand there. The only error is that
     /// memory ran out.
     pub fn into_rows(self, alloc: Global) -> Result<RowList, AllocError>
         ensures { IfOk result (λ rows. rows ≡ self) }
     {
         let SplitRows { narrow, wide } = self;
-        let mut wide = wide.into_rows().into_iter();
+        let mut wide = wide.into_list().into_rows().into_iter();
         let mut rows = Vec::with_capacity(alloc, narrow.len())?;
         for narrow in narrow {
             let Some(wide) = wide.next() else {

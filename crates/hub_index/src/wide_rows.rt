@@ -64,11 +64,25 @@ impl WideRows {
         Ok(())
     }
 
-    /// The rows, the first being that of node 1. It takes no memory.
-    pub fn into_rows(self) -> Vec<Vec<Entry>>
-        ensures { map (λ row. row.items) result.items ≡ self }
+    /// These rows. It takes no memory.
+    pub fn of(rows: RowList) -> WideRows
+        ensures { result ≡ rows }
+    {
+        WideRows { rows, any: true }
+    }
+
+    /// The rows, lent.
+    pub fn list(&self) -> &RowList
+        ensures { result.now ≡ self.now }
+    {
+        &self.rows
+    }
+
+    /// The rows. It takes no memory.
+    pub fn into_list(self) -> RowList
+        ensures { result ≡ self }
     {
         let WideRows { rows, any: _ } = self;
-        rows.into_rows()
+        rows
     }
 }

@@ -138,8 +138,10 @@ fn replaced(
 /// The fewest nodes that are worth a thread.
 const NODES_A_THREAD: u32 = 64;
 
-/// How many times nodes are cut in two, so that there is a piece of them for each processor and none is small.
-fn cuts_for<R: Threads>(rt: &R, nodes: u32) -> u32 {
+/// How many times nodes are cut in two, so that there is a piece of them for each of up to 64 processors and none is small.
+fn cuts_for<R: Threads>(rt: &R, nodes: u32) -> u32
+    ensures { result ≤ 6 }
+{
     let most = (nodes / NODES_A_THREAD) as usize;
     match current_num_threads(rt).min(most) {
         0..=1 => 0,

@@ -167,7 +167,7 @@ fn halfway(rows: &RowList, from: u32, to: u32) -> u32
 }
 
 /// What is kept of the rows of the nodes after `from` up to `to`, tested in pieces of about equal numbers of entries, side
-/// by side: so many times they are cut in two. Each piece has a table of its own. The only error is that memory ran out.
+/// by side: so many times they are cut in two, at most six. Each piece has a table of its own. The only error is that memory ran out.
 #[cycle(halves)]
 pub fn test_rows<R: Threads + Sync>(
     rt: &R,
@@ -180,6 +180,7 @@ pub fn test_rows<R: Threads + Sync>(
     to: u32,
 ) -> Result<Vec<Option<Vec<Entry>>>, AllocError>
     requires near { AreNearRows (length ranking.now) near.now }
+    requires cuts { cuts ≤ 6 }
     requires rising { from ≤ to }
     requires within { to ≤ length ranking.now }
     ensures { IfOk result (λ kept. AreKeptRows ranking.now global.now near.now from to kept.items) }
@@ -192,11 +193,11 @@ pub fn test_rows<R: Threads + Sync>(
     let (first, second) = join(
         rt,
         || -> Result<Vec<Option<Vec<Entry>>>, AllocError>
-            requires { IsSync R.row × AreNearRows (length ranking.now) near.now × (from ≤ mid) × (mid ≤ length ranking.now) }
+            requires { IsSync R.row × AreNearRows (length ranking.now) near.now × (below ≤ 6) × (from ≤ mid) × (mid ≤ length ranking.now) }
             ensures { IfOk result (λ kept. AreKeptRows ranking.entry.now global.entry.now near.entry.now from mid kept.items) }
         { test_rows(rt, alloc, ranking, global, near, below, from, mid) },
         || -> Result<Vec<Option<Vec<Entry>>>, AllocError>
-            requires { IsSync R.row × AreNearRows (length ranking.now) near.now × (mid ≤ to) × (to ≤ length ranking.now) }
+            requires { IsSync R.row × AreNearRows (length ranking.now) near.now × (below ≤ 6) × (mid ≤ to) × (to ≤ length ranking.now) }
             ensures { IfOk result (λ kept. AreKeptRows ranking.entry.now global.entry.now near.entry.now mid to kept.items) }
         { test_rows(rt, alloc, ranking, global, near, below, mid, to) },
     );
