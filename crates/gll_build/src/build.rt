@@ -5,7 +5,7 @@ ghost use Rattle.label_clean.specs.Below.{IsChlBelow};
 
 use crate::step::{Progress, Workshop, next_step};
 use desk_io::Gate;
-use hub_index::{Index, RowList, SplitRows};
+use hub_index::{Index, RowList, SplitIndex, SplitRows};
 use label_clean::laws::the_whole_is_the_labelling;
 use rank_table::Ranking;
 use renumbering::WorkingCopy;
@@ -34,10 +34,33 @@ pub fn build_gll<R: Threads + Wait + Sync, G: Gate + Sync>(
     ensures order { IfOk result (λ index. index.order ≡ ranking.now) }
     ensures labelling { IfOk result (λ index. IsChl (Joined graph.now.edges) ranking.now index.rows) }
 {
+    let index = build_gll_split(rt, alloc, graph, ranking, workers, cut, gate)?;
+    index.into_index(alloc)
+}
+
+/// The same index with its rows as the build leaves them, in which most entries take half the room: for who goes along them
+/// once, as an encoder does, and would make plain rows for that alone.
+pub fn build_gll_split<R: Threads + Wait + Sync, G: Gate + Sync>(
+    rt: &R,
+    alloc: Global,
+    graph: &Graph,
+    ranking: &Ranking,
+    workers: u32,
+    cut: u32,
+    gate: &G,
+) -> Result<SplitIndex, AllocError>
+    requires nodes { length ranking.now ≡ graph.now.n }
+    requires workers_from { 1 ≤ workers }
+    requires workers_to { workers ≤ 64 }
+    requires cut_from { 1 ≤ cut }
+    requires cut_to { cut ≤ 2 ^ 30 }
+    ensures order { IfOk result (λ index. index.order ≡ ranking.now) }
+    ensures labelling { IfOk result (λ index. IsChl (Joined graph.now.edges) ranking.now index.rows) }
+{
     let copy = WorkingCopy::new(alloc, graph, ranking)?;
     let rows = all_steps(rt, alloc, &copy.graph, &copy.ranking, workers, cut, gate)?;
     the_whole_is_the_labelling();
-    copy.index(alloc, graph, ranking, rows)
+    copy.split_index(alloc, graph, ranking, rows)
 }
 
 /// The rows that all supersteps come to.
@@ -49,7 +72,7 @@ fn all_steps<R: Threads + Wait + Sync, G: Gate + Sync>(
     workers: u32,
     cut: u32,
     gate: &G,
-) -> Result<RowList, AllocError>
+) -> Result<SplitRows, AllocError>
     requires nodes { length ranking.now ≡ graph.now.n }
     requires workers_from { 1 ≤ workers }
     requires workers_to { workers ≤ 64 }
@@ -69,7 +92,7 @@ fn all_steps<R: Threads + Wait + Sync, G: Gate + Sync>(
             rt, alloc, graph, ranking, progress, workers, cut, workshop, gate,
         )?;
     }
-    progress.rows.into_rows(alloc)
+    Ok(progress.rows)
 }
 
 /// One superstep: of a table that is the canonical hub labelling up to the position `first`, the one up to the position of

@@ -10,3 +10,4 @@ pub mod Steps
 pub mod PutAfter
 pub mod CutBytes
 pub mod RowRuns
+pub mod RowParts

@@ -1,14 +1,23 @@
 ghost use Rattle.std.specs.Prelude.{◌≡◌, ℕ, ◌+◌, ◌*◌, ◌^◌, ◌<◌, ◌≤◌, ◌++◌, length, flat_map, IfOk, OnOk};
+ghost use Rattle.walk_laws.specs.Labelling.{label_row};
+ghost use Rattle.hub_index.specs.NarrowRows.{row_of_parts};
 ghost use Rattle.index_file.specs.Layout.{before_rows, index_bytes, entry_bytes, row_bytes, run_bytes, word};
 
 use byteorder::{BigEndian, ByteOrder};
-use hub_index::Index;
+use hub_index::{Index, IndexRows, NarrowEntry};
 use std::alloc::{AllocError, Global};
 use walk_laws::Entry;
 
 /// The bytes of an index file: one pass over the index into one buffer of their size. The only error is that memory ran
 /// out.
 pub fn encode(alloc: Global, index: &Index) -> Result<Vec<u8>, AllocError>
+    ensures { IfOk result (λ bytes. bytes.items ≡ index_bytes index.now.order index.now.rows) }
+{
+    encode_rows(alloc, &index.rows())
+}
+
+/// The same of the rows that an index lends.
+pub fn encode_rows(alloc: Global, index: &IndexRows<'_>) -> Result<Vec<u8>, AllocError>
     ensures { IfOk result (λ bytes. bytes.items ≡ index_bytes index.now.order index.now.rows) }
 {
     let n = index.n();
@@ -18,7 +27,7 @@ pub fn encode(alloc: Global, index: &Index) -> Result<Vec<u8>, AllocError>
 }
 
 /// The bytes before the rows, in one buffer with room for so many more. The only error is that memory ran out.
-pub fn head_of(alloc: Global, index: &Index, room: usize) -> Result<Vec<u8>, AllocError>
+pub fn head_of(alloc: Global, index: &IndexRows<'_>, room: usize) -> Result<Vec<u8>, AllocError>
     requires { room + 2 ^ 40 ≤ 2 ^ 64 }
     ensures { IfOk result (λ bytes. bytes.items ≡ before_rows index.now.order) }
 {
@@ -32,7 +41,12 @@ pub fn head_of(alloc: Global, index: &Index, room: usize) -> Result<Vec<u8>, All
 
 /// The bytes of the rows of the nodes after `from` up to `to`, in one buffer of their size. The only error is that memory
 /// ran out.
-pub fn rows_of(alloc: Global, index: &Index, from: u32, to: u32) -> Result<Vec<u8>, AllocError>
+pub fn rows_of(
+    alloc: Global,
+    index: &IndexRows<'_>,
+    from: u32,
+    to: u32,
+) -> Result<Vec<u8>, AllocError>
     requires rising { from ≤ to }
     requires within { to ≤ length index.now.order }
     ensures { IfOk result (λ bytes. bytes.items ≡ run_bytes index.now.rows from to) }
@@ -43,7 +57,7 @@ pub fn rows_of(alloc: Global, index: &Index, from: u32, to: u32) -> Result<Vec<u
 }
 
 /// How many bytes the rows of the nodes after `from` up to `to` have: 4 for a row, and 12 for an entry.
-fn rows_size(index: &Index, from: u32, to: u32) -> usize
+fn rows_size(index: &IndexRows<'_>, from: u32, to: u32) -> usize
     requires rising { from ≤ to }
     requires within { to ≤ length index.now.order }
     ensures { result + 2 ^ 40 ≤ 2 ^ 64 }
@@ -52,20 +66,32 @@ fn rows_size(index: &Index, from: u32, to: u32) -> usize
 }
 
 /// How many entries the rows of the nodes after `from` up to `to` have.
-pub fn count_entries(index: &Index, from: u32, to: u32) -> usize
+pub fn count_entries(index: &IndexRows<'_>, from: u32, to: u32) -> usize
     requires rising { from ≤ to }
     requires within { to ≤ length index.now.order }
     ensures { result ≤ 2 ^ 60 }
 {
     let mut entries = 0;
     for p in from..to {
-        entries += index.row(p + 1).len();
+        entries += row_len(index, p + 1);
     }
     entries
 }
 
+/// How many entries the row of the node `v`, a number from 1, has.
+pub fn row_len(index: &IndexRows<'_>, v: u32) -> usize
+    requires node { 1 ≤ v }
+    requires within { v ≤ length index.now.order }
+    ensures value { result ≡ length (label_row index.now.rows v) }
+    ensures small { result ≤ 2 ^ 30 }
+    ensures nodes { length index.now.order ≤ 2 ^ 30 }
+{
+    let (narrow, wide) = index.row(v);
+    narrow.len() + wide.len()
+}
+
 /// Puts the nodes in ranked order at the end.
-fn push_order(out: &mut Vec<u8>, index: &Index) -> Result<(), AllocError>
+fn push_order(out: &mut Vec<u8>, index: &IndexRows<'_>) -> Result<(), AllocError>
     ensures { OnOk result (out.new.items ≡ out.old.items ++ flat_map word index.now.order) }
 {
     for p in 0..index.n() {
@@ -75,24 +101,28 @@ fn push_order(out: &mut Vec<u8>, index: &Index) -> Result<(), AllocError>
 }
 
 /// Puts the rows of the nodes after `from` up to `to` at the end.
-fn push_rows(out: &mut Vec<u8>, index: &Index, from: u32, to: u32) -> Result<(), AllocError>
+fn push_rows(out: &mut Vec<u8>, index: &IndexRows<'_>, from: u32, to: u32) -> Result<(), AllocError>
     requires rising { from ≤ to }
     requires within { to ≤ length index.now.order }
     ensures { OnOk result (out.new.items ≡ out.old.items ++ run_bytes index.now.rows from to) }
 {
     for p in from..to {
-        push_row(out, index.row(p + 1))?;
+        let (narrow, wide) = index.row(p + 1);
+        push_row(out, narrow, wide)?;
     }
     Ok(())
 }
 
-/// Puts a row at the end: the number of its entries, and the entries.
-fn push_row(out: &mut Vec<u8>, row: &[Entry]) -> Result<(), AllocError>
-    requires { length row.now < 2 ^ 32 }
-    ensures { OnOk result (out.new.items ≡ out.old.items ++ row_bytes row.now) }
+/// Puts the row in these parts at the end: the number of its entries, and the entries.
+fn push_row(out: &mut Vec<u8>, narrow: &[NarrowEntry], wide: &[Entry]) -> Result<(), AllocError>
+    requires { length (row_of_parts narrow.now wide.now) < 2 ^ 32 }
+    ensures { OnOk result (out.new.items ≡ out.old.items ++ row_bytes (row_of_parts narrow.now wide.now)) }
 {
-    push_word(out, row.len() as u32)?;
-    for entry in row {
+    push_word(out, (narrow.len() + wide.len()) as u32)?;
+    for entry in narrow {
+        push_entry(out, entry.widened())?;
+    }
+    for entry in wide {
         push_entry(out, *entry)?;
     }
     Ok(())

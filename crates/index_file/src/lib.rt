@@ -8,6 +8,7 @@
 #![tactic(auto)]
 
 mod done;
+mod encodable;
 mod encoding;
 mod fault;
 mod field;
@@ -20,6 +21,7 @@ mod pieces;
 mod progress;
 mod runs;
 
+pub use encodable::Encodable;
 pub use encoding::encode;
 pub use fault::IndexFault;
 pub use index_reader::IndexReader;

@@ -2,9 +2,10 @@ ghost use Rattle.std.specs.Prelude.{◌≡◌, ◌≤◌, flat_map, length, IfOk
 ghost use Rattle.std.specs.Thread.{IsSync};
 ghost use Rattle.index_file.specs.Layout.{index_bytes, run_bytes};
 
-use crate::encoding::{count_entries, encode, head_of, rows_of};
+use crate::encodable::Encodable;
+use crate::encoding::{count_entries, encode_rows, head_of, row_len, rows_of};
 use crate::pieces::Pieces;
-use hub_index::Index;
+use hub_index::IndexRows;
 use std::alloc::{AllocError, Global};
 use std::thread::{Threads, join};
 
@@ -13,33 +14,21 @@ const MANY: usize = 65536;
 
 /// The bytes of an index file, made by so many workers side by side: the first piece is what stands before the rows, and
 /// each worker makes one more, of a run of rows. By one worker, or where the index has few entries, they are what `encode`
-/// gives, in one piece. The only error is that memory ran out.
-pub fn encode_by<R: Threads + Sync>(
+/// gives of the index, in one piece. The only error is that memory ran out.
+pub fn encode_by<R: Threads + Sync, I: Encodable + Sync>(
     rt: &R,
     alloc: Global,
-    index: &Index,
+    index: &I,
     workers: u32,
 ) -> Result<Pieces, AllocError>
-    ensures { IfOk result (λ bytes. bytes ≡ index_bytes index.now.order index.now.rows) }
+    ensures { IfOk result (λ bytes. bytes ≡ index_bytes (I.index index.now).order (I.index index.now).rows) }
 {
-    encode_many(rt, alloc, index, workers, MANY)
-}
-
-/// The same, where an index with fewer than `many` entries has few.
-pub fn encode_many<R: Threads + Sync>(
-    rt: &R,
-    alloc: Global,
-    index: &Index,
-    workers: u32,
-    many: usize,
-) -> Result<Pieces, AllocError>
-    ensures { IfOk result (λ bytes. bytes ≡ index_bytes index.now.order index.now.rows) }
-{
-    let n = index.n();
-    if workers <= 1 || count_entries(index, 0, n) < many {
-        return Ok(Pieces::one(alloc, encode(alloc, index)?));
+    let rows = index.lent();
+    let n = rows.n();
+    if workers <= 1 || count_entries(&rows, 0, n) < MANY {
+        return Ok(Pieces::one(alloc, encode_rows(alloc, &rows)?));
     }
-    let head = head_of(alloc, index, 0)?;
+    let head = head_of(alloc, &rows, 0)?;
     let runs = encode_runs(rt, alloc, index, workers, 0, n)?;
     Ok(Pieces::new(head, runs))
 }
@@ -47,33 +36,33 @@ pub fn encode_many<R: Threads + Sync>(
 /// The rows of the nodes after `from` up to `to`, in as many pieces as there are workers, each made in a thread of its own.
 /// They have about equal numbers of entries. The only error is that memory ran out.
 #[cycle(halves)]
-fn encode_runs<R: Threads + Sync>(
+fn encode_runs<R: Threads + Sync, I: Encodable + Sync>(
     rt: &R,
     alloc: Global,
-    index: &Index,
+    index: &I,
     workers: u32,
     from: u32,
     to: u32,
 ) -> Result<Vec<Vec<u8>>, AllocError>
     requires rising { from ≤ to }
-    requires within { to ≤ length index.now.order }
-    ensures { IfOk result (λ runs. flat_map (λ run. run.items) runs.items ≡ run_bytes index.now.rows from to) }
+    requires within { to ≤ length (I.index index.now).order }
+    ensures { IfOk result (λ runs. flat_map (λ run. run.items) runs.items ≡ run_bytes (I.index index.now).rows from to) }
 {
     if workers <= 1 {
-        return one_run(alloc, index, from, to);
+        return one_run(alloc, &index.lent(), from, to);
     }
     let half = workers / 2;
     let others = workers - half;
-    let mid = cut(index, from, to, half, workers);
+    let mid = cut(&index.lent(), from, to, half, workers);
     let (first, second) = join(
         rt,
         || -> Result<Vec<Vec<u8>>, AllocError>
-            requires { IsSync R.row × (from ≤ mid) × (mid ≤ length index.now.order) }
-            ensures { IfOk result (λ runs. flat_map (λ run. run.items) runs.items ≡ run_bytes index.entry.now.rows from mid) }
+            requires { IsSync R.row × IsSync I.row × (from ≤ mid) × (mid ≤ length (I.index index.now).order) }
+            ensures { IfOk result (λ runs. flat_map (λ run. run.items) runs.items ≡ run_bytes (I.index index.entry.now).rows from mid) }
         { encode_runs(rt, alloc, index, half, from, mid) },
         || -> Result<Vec<Vec<u8>>, AllocError>
-            requires { IsSync R.row × (mid ≤ to) × (to ≤ length index.now.order) }
-            ensures { IfOk result (λ runs. flat_map (λ run. run.items) runs.items ≡ run_bytes index.entry.now.rows mid to) }
+            requires { IsSync R.row × IsSync I.row × (mid ≤ to) × (to ≤ length (I.index index.now).order) }
+            ensures { IfOk result (λ runs. flat_map (λ run. run.items) runs.items ≡ run_bytes (I.index index.entry.now).rows mid to) }
         { encode_runs(rt, alloc, index, others, mid, to) },
     );
     let mut runs = first?;
@@ -83,7 +72,12 @@ fn encode_runs<R: Threads + Sync>(
 }
 
 /// The rows of the nodes after `from` up to `to`, in one piece. The only error is that memory ran out.
-fn one_run(alloc: Global, index: &Index, from: u32, to: u32) -> Result<Vec<Vec<u8>>, AllocError>
+fn one_run(
+    alloc: Global,
+    index: &IndexRows<'_>,
+    from: u32,
+    to: u32,
+) -> Result<Vec<Vec<u8>>, AllocError>
     requires rising { from ≤ to }
     requires within { to ≤ length index.now.order }
     ensures { IfOk result (λ runs. flat_map (λ run. run.items) runs.items ≡ run_bytes index.now.rows from to) }
@@ -94,7 +88,7 @@ fn one_run(alloc: Global, index: &Index, from: u32, to: u32) -> Result<Vec<Vec<u
 }
 
 /// Some node up to which the rows after `from` have about `part` of `whole` parts of the entries of those up to `to`.
-fn cut(index: &Index, from: u32, to: u32, part: u32, whole: u32) -> u32
+fn cut(index: &IndexRows<'_>, from: u32, to: u32, part: u32, whole: u32) -> u32
     requires rising { from ≤ to }
     requires within { to ≤ length index.now.order }
     requires some { 1 ≤ whole }
@@ -105,7 +99,7 @@ fn cut(index: &Index, from: u32, to: u32, part: u32, whole: u32) -> u32
     let wanted = count_entries(index, from, to) / whole as usize * part as usize;
     let mut entries = 0usize;
     for p in from..to {
-        entries = entries.saturating_add(index.row(p + 1).len());
+        entries = entries.saturating_add(row_len(index, p + 1));
         if entries >= wanted {
             return p + 1;
         }

@@ -1,3 +1,4 @@
 pub mod Carried
 pub mod NewNumbers
 pub mod RowsBack
+pub mod LabellingBack

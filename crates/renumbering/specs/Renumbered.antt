@@ -1,6 +1,7 @@
 -- Other numbers for the nodes 1..n. A tour is a list of all nodes, each once; the new number of a node is its place in the
 -- tour, counted from 1.
-use Rattle.std.specs.Prelude.{ℕ, ◌+◌, List, map}
+use Rattle.std.specs.Prelude.{ℕ, ◌+◌, ◌-◌, List, [], Vec, map, slice_index_or}
+use Rattle.std.proofs.Common.{Global}
 use Rattle.walk_laws.specs.declared.graph.Edge.{Edge}
 use Rattle.walk_laws.specs.Ranking.{position_of}
 
@@ -18,3 +19,7 @@ renumbered_edges tour edges = map (renumbered_edge tour) edges
 -- the nodes of a list by their new numbers
 abbrev pub renumbered : List ℕ → List ℕ → List ℕ
 renumbered tour at = map (number_in tour) at
+
+-- the list of the node v, of lists of which the first is that of node 1
+abbrev pub list_of : {X : Type 0} → List (Vec X Global) → ℕ → List X
+list_of lists v = slice_index_or (map (λ list. list.items) lists) (v - 1) []

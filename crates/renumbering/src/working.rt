@@ -4,9 +4,9 @@ ghost use Rattle.walk_laws.specs.Labelling.{IsChl};
 ghost use Rattle.renumbering.specs.Copies.{IsCopyOf};
 
 use crate::renumbered::{renumbered_graph, renumbered_ranking};
-use crate::rows::rows_back;
+use crate::rows::{rows_back, split_rows_back};
 use crate::search::tour;
-use hub_index::{Index, RowList};
+use hub_index::{Index, RowList, SplitIndex, SplitRows};
 use rank_table::Ranking;
 use std::alloc::{AllocError, Global};
 use walk_laws::Graph;
@@ -67,5 +67,27 @@ impl WorkingCopy {
         let order = ranking.copy(alloc)?;
         let back = rows_back(alloc, &self.tour, rows)?;
         Ok(Index::new(order, back))
+    }
+
+    /// The same from a labelling in split rows.
+    pub fn split_index(
+        self,
+        alloc: Global,
+        graph: &Graph,
+        ranking: &Ranking,
+        rows: SplitRows,
+    ) -> Result<SplitIndex, AllocError>
+        requires nodes { length ranking.now ≡ graph.now.n }
+        requires copy { IsCopyOf graph.now ranking.now self }
+        requires labelling { IsChl (Joined self.graph.edges) self.ranking rows }
+        ensures order { IfOk result (λ index. index.order ≡ ranking.now) }
+        ensures labelling { IfOk result (λ index. IsChl (Joined graph.now.edges) ranking.now index.rows) }
+    {
+        let n = graph.n();
+        let ranked = ranking.n();
+        let toured = self.tour.n();
+        prove!(n == ranked && n == toured);
+        let back = split_rows_back(alloc, &self.tour, rows)?;
+        Ok(SplitIndex::new(ranking.copy(alloc)?, back))
     }
 }

@@ -10,7 +10,9 @@ ghost use Rattle.chl_words.specs.Asking.{AreWithinLimits};
 use crate::construction::Construction;
 use crate::labelling::labelling;
 use chl_inputs::{Stop, read_graph, read_order};
+use chl_words::By;
 use desk_io::{Desk, Gate};
+use gll_build::build_gll_split;
 use index_file::{Pieces, encode_by};
 use rank_table::Ranking;
 use std::alloc::{AllocError, Global};
@@ -37,7 +39,7 @@ pub fn build_output<R: Threads + Wait + Sync, D: Desk, G: Gate + Sync>(
     Ok(bytes)
 }
 
-/// The bytes of the file.
+/// The bytes of the file. An index by supersteps is written out of the rows that the build worked with.
 fn file_bytes<R: Threads + Wait + Sync, G: Gate + Sync>(
     rt: &R,
     alloc: Global,
@@ -51,6 +53,18 @@ fn file_bytes<R: Threads + Wait + Sync, G: Gate + Sync>(
     ensures { IfOk result (λ bytes. (rows : List (List AnyEntry)) × IsChl (Joined graph.now.edges) ranking.now rows
         × (bytes ≡ index_bytes ranking.now rows)) }
 {
+    if let By::Gll = construction.by {
+        let split = build_gll_split(
+            rt,
+            alloc,
+            graph,
+            ranking,
+            construction.workers,
+            construction.cut,
+            gate,
+        )?;
+        return encode_by(rt, alloc, &split, construction.workers);
+    }
     let index = labelling(rt, alloc, graph, ranking, construction, gate)?;
     encode_by(rt, alloc, &index, construction.workers)
 }

@@ -1,5 +1,4 @@
 use Rattle.std.proofs.Common.{◌≡◌, length, sym, subst, ◌∙◌, arith}
-use Rattle.std.proofs.lemmas.Result.{IfOk-weaker}
 use Rattle.label_clean.specs.Below.{IsChlBelow}
 use Rattle.gll_build.specs.Workshops.{IsWorkshopFor}
 use Rattle.gll_build.proofs.EmptyTables.{IsChlBelow-none}
@@ -21,6 +20,4 @@ pub returns : goal.returns
 returns g c =
     let n_is : c.n-n.result ≡ length c.args.ranking.now = c.n-n.ensures.value ∙ sym c.requires.nodes in
     let done : c.loop-progress.progress.next ≡ length c.args.ranking.now = omega (arith, c.loop-progress.invariant.progress.within, c.loop-progress-test.false, n_is) in
-    let whole = subst (λ p. IsChlBelow c.args.graph.now.edges c.args.ranking.now p c.loop-progress.progress.rows) done c.loop-progress.invariant.progress.rows in
-    IfOk-weaker c.into_rows.result (λ rows. rows ≡ c.loop-progress.progress.rows) (IsChlBelow c.args.graph.now.edges c.args.ranking.now (length c.args.ranking.now))
-    (λ rows is. subst (IsChlBelow c.args.graph.now.edges c.args.ranking.now (length c.args.ranking.now)) (sym is) whole) c.into_rows.ensures
+    subst (λ p. IsChlBelow c.args.graph.now.edges c.args.ranking.now p c.loop-progress.progress.rows) done c.loop-progress.invariant.progress.rows
