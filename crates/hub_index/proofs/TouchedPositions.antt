@@ -163,9 +163,9 @@ unfolding no_distance
 HasTouched-new n = HasTouched-none (replicate n None) (replicate n 0) (length-replicate n 0 ∙ sym (length-replicate n no_distance)) (λ p held. held (nothing_noted n p))
 
 -- no position has a distance to be tested
-pub nearest-none : (n : ℕ) → replicate n (2 ^ 64 - 1) ≡ map nearest_of (replicate n None)
+pub nearest-none : (n : ℕ) → replicate n (2 ^ 32 - 1) ≡ map nearest_of (replicate n None)
 nearest-none zero = refl
-nearest-none (suc n) = ap (λ xs. (2 ^ 64 - 1) ∷ xs) (nearest-none n)
+nearest-none (suc n) = ap (λ xs. (2 ^ 32 - 1) ∷ xs) (nearest-none n)
 
 -- a distance is written in both ways
 pub nearest-set : (dists : List (Option ℕ)) (nearest : List ℕ) (p : ℕ) (o : Option ℕ) → nearest ≡ map nearest_of dists → set nearest p (nearest_of o) ≡ map nearest_of (set dists p o)

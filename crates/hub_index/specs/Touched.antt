@@ -1,5 +1,5 @@
 -- Which positions of a table have a distance.
-use Rattle.std.specs.Prelude.{◌≡◌, ◌≢◌, ◌↔◌, ℕ, ◌-◌, ◌^◌, ◌<◌, ◌≤◌, List, Option, Some, None, All, AllPairs, Contains, length, take}
+use Rattle.std.specs.Prelude.{◌≡◌, ◌≢◌, ◌↔◌, ℕ, ◌-◌, ◌^◌, ◌<◌, ◌≤◌, min, List, Option, Some, None, All, AllPairs, Contains, length, take}
 use Rattle.hub_index.specs.RootDistances.{root_distance}
 
 -- the first `count` of the touched positions are those that have a distance, each once
@@ -10,7 +10,7 @@ pub record HasTouched (table : List (Option ℕ)) (touched : List ℕ) (count : 
   pub within : All (λ x. x < length table) (take count touched)
   pub each : (p : ℕ) → (root_distance table p ≢ None) ↔ Contains (take count touched) p
 
--- the distance as it is tested, where none is the greatest one
+-- the distance as it is tested first, where none is 2^32 - 1, and so is a greater one
 abbrev pub nearest_of : Option ℕ → ℕ
-nearest_of None = 2 ^ 64 - 1
-nearest_of (Some d) = d
+nearest_of None = 2 ^ 32 - 1
+nearest_of (Some d) = min d (2 ^ 32 - 1)

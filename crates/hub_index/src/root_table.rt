@@ -1,4 +1,4 @@
-ghost use Rattle.std.specs.Prelude.{◌≡◌, ◌↔◌, ℕ, ◌<◌, ◌≤◌, Option, Some, None, All, length, replicate, take, slice_get, IfOk, IfSome, IfNone, IsTrue};
+ghost use Rattle.std.specs.Prelude.{◌≡◌, ◌↔◌, ℕ, ◌-◌, ◌^◌, ◌<◌, ◌≤◌, min, Option, Some, None, All, length, replicate, take, slice_get, IfOk, IfSome, IfNone, IsTrue};
 ghost use Rattle.hub_index.specs.RootDistances.{root_distance, noted, with_noted, IsCover, HoldsRow};
 
 use std::alloc::{AllocError, Global};
@@ -9,8 +9,9 @@ use walk_laws::Entry;
 #[derive(Debug, Drop)]
 pub struct RootTable {
     dists: Vec<Option<u64>>,
-    /// The same in half the room, for the test of a cover: u64::MAX stands for none, and for itself.
-    nearest: Vec<u64>,
+    /// The same in a quarter of the room, for the test of a cover: u32::MAX stands for none, for itself, and for all that is
+    /// greater.
+    nearest: Vec<u32>,
     /// The positions that have a distance are the first `count` of these.
     touched: Vec<u32>,
     count: usize,
@@ -34,7 +35,7 @@ impl RootTable {
     {
         Ok(RootTable {
             dists: vec![in alloc; None; n as usize]?,
-            nearest: vec![in alloc; u64::MAX; n as usize]?,
+            nearest: vec![in alloc; u32::MAX; n as usize]?,
             touched: vec![in alloc; 0u32; n as usize]?,
             count: 0,
         })
@@ -63,7 +64,7 @@ impl RootTable {
             let last = self.count - 1;
             let pos = self.touched[last];
             self.dists[pos as usize] = None;
-            self.nearest[pos as usize] = u64::MAX;
+            self.nearest[pos as usize] = u32::MAX;
             self.count = last;
         }
     }
@@ -80,12 +81,12 @@ impl RootTable {
                 self.touched[self.count] = entry.pos;
                 self.count += 1;
                 self.dists[place] = Some(entry.dist);
-                self.nearest[place] = entry.dist;
+                self.nearest[place] = nearest(entry.dist);
             }
             Some(known) => {
                 let least = known.min(entry.dist);
                 self.dists[place] = Some(least);
-                self.nearest[place] = least;
+                self.nearest[place] = nearest(least);
             }
         }
     }
@@ -112,7 +113,7 @@ impl RootTable {
     }
 
     /// Whether the entry covers one at the position `pos` with the distance `dist`. One comparison refuses almost all
-    /// entries, and no branch has to be guessed: no distance counts there as the greatest one, and so does a greater sum.
+    /// entries, and no branch has to be guessed: no distance counts there as 2^32 - 1, and so does a greater one.
     pub fn covers(&self, entry: Entry, pos: u32, dist: u64) -> bool
         requires { pos ≤ length self.now }
         ensures { IsTrue result ↔ IsCover self.now pos dist entry }
@@ -121,7 +122,7 @@ impl RootTable {
             return false;
         }
         let place = entry.pos as usize;
-        if self.nearest[place].saturating_add(entry.dist) > dist {
+        if u64::from(self.nearest[place]).saturating_add(entry.dist) > dist {
             return false;
         }
         match self.dists[place] {
@@ -129,6 +130,13 @@ impl RootTable {
             None => false,
         }
     }
+}
+
+/// The distance as the test of a cover reads it first, which is never greater.
+fn nearest(dist: u64) -> u32
+    ensures { result ≡ min dist (2 ^ 32 - 1) }
+{
+    u32::try_from(dist).unwrap_or(u32::MAX)
 }
 
 /// The first entry of a row that covers one at the position `pos` with the distance `dist`: its hub ranks above the hub at

@@ -8,8 +8,8 @@ use rank_table::Ranking;
 use std::alloc::{AllocError, Global};
 use std::marker::Model;
 
-/// An index most of whose entries take half the room: a ranking of the nodes 1..n, and for each node its row, which are
-/// nearly always what a build has worked with. Contracts see the order of the nodes and the rows.
+/// An index most of whose entries take half the room: a ranking of the nodes 1..n, and for each node its row. Contracts see the
+/// order of the nodes and the rows.
 #[derive(Debug, Drop)]
 pub struct SplitIndex {
     ranking: Ranking,

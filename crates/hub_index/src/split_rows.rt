@@ -24,8 +24,8 @@ use walk_laws::Entry;
 const FIRST_ROOM: usize = 32;
 
 /// A row for each of the nodes 1..n: entries of 8 bytes, and from the first on whose distance is too great for that, entries
-/// of 16. The two parts of a row lie apart, since the second is nearly always empty; while those of all rows are, none is
-/// looked at. Contracts see the list of the rows, node 1 first.
+/// of 16. The two parts of a row lie apart, since the second is nearly always empty; of rows that were made empty none is looked
+/// at before an entry is put there. Contracts see the list of the rows, node 1 first.
 #[derive(Debug, Drop)]
 pub struct SplitRows {
     narrow: Vec<Vec<NarrowEntry>>,
@@ -175,7 +175,7 @@ impl SplitRows {
     }
 
     /// These rows as those of an index with this ranking, to be gone along. It takes no memory.
-    pub fn under<'a>(&'a self, ranking: &'a Ranking) -> IndexRows<'a>
+    pub(crate) fn under<'a>(&'a self, ranking: &'a Ranking) -> IndexRows<'a>
         requires { IsWellFormed ranking.now self.now }
         ensures order { result.order ≡ ranking.now }
         ensures rows { result.rows ≡ self.now }

@@ -8,8 +8,8 @@ use std::alloc::{AllocError, Global};
 use std::marker::Model;
 use walk_laws::Entry;
 
-/// A row for each of the nodes 1..n. While all are empty, none of them is looked at. Contracts see the list of the rows, node
-/// 1 first.
+/// A row for each of the nodes 1..n. Of rows that were made empty none is looked at before an entry is put. Contracts see the
+/// list of the rows, node 1 first.
 #[derive(Debug, Drop)]
 pub struct WideRows {
     rows: RowList,

@@ -167,7 +167,8 @@ fn halfway(rows: &RowList, from: u32, to: u32) -> u32
 }
 
 /// What is kept of the rows of the nodes after `from` up to `to`, tested in pieces of about equal numbers of entries, side
-/// by side: so many times they are cut in two, at most six. Each piece has a table of its own. The only error is that memory ran out.
+/// by side: so many times they are cut in two, at most six. Each piece has a table of its own. The only error is that memory
+/// ran out.
 #[cycle(halves)]
 pub fn test_rows<R: Threads + Sync>(
     rt: &R,

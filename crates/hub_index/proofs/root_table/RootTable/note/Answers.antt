@@ -24,7 +24,7 @@ pub invariant_of-self : goal.invariant_of-self
 invariant_of-self c =
     let f = fresh_there (goal.at.invariant_of-self c).In-None in (
       HasTouched-fresh c.self.inside.dists.items c.self.inside.touched.items c.self.inside.count c.args.entry.pos c.self.invariant.0 f.inside f.fresh c.args.entry.dist f.room,
-      nearest-set c.self.inside.dists.items c.self.inside.nearest.items c.args.entry.pos (Some c.args.entry.dist) c.self.invariant.1,
+      rw c.nearest.ensures (nearest-set c.self.inside.dists.items c.self.inside.nearest.items c.args.entry.pos (Some c.args.entry.dist) c.self.invariant.1),
     )
 
 pub invariant_of-self-in-Some : goal.invariant_of-self-in-Some
@@ -32,5 +32,5 @@ invariant_of-self-in-Some c =
     let inside : c.args.entry.pos < length c.self.inside.dists.items = rw (← c.self.view_is) at c.requires in
     let was : root_distance c.self.inside.dists.items c.args.entry.pos ≡ Some c.in-Some.known = sym (get_or_read c.self.inside.dists.items _ _ inside c.index.ensures None) ∙ c.in-Some.is in (
       HasTouched-known c.self.inside.dists.items c.self.inside.touched.items c.self.inside.count c.args.entry.pos c.in-Some.known c.min-least.result c.self.invariant.0 was,
-      nearest-set c.self.inside.dists.items c.self.inside.nearest.items c.args.entry.pos (Some c.min-least.result) c.self.invariant.1,
+      rw c.nearest-in-Some.ensures (nearest-set c.self.inside.dists.items c.self.inside.nearest.items c.args.entry.pos (Some c.min-least.result) c.self.invariant.1),
     )
