@@ -15,8 +15,6 @@ mod numbers;
 mod pairs;
 mod pairs_reader;
 mod pairs_words;
-#[cfg(test)]
-mod tests;
 mod untaken;
 
 pub use fault::{GrFault, PairsFault, TextFault, TextKind};

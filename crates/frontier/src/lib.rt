@@ -12,8 +12,6 @@ mod heap_entries;
 mod heap_entry;
 mod places;
 mod reach;
-#[cfg(test)]
-mod tests;
 
 pub use carry::Carry;
 pub use frontier::Frontier;

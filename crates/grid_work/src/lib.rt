@@ -7,8 +7,6 @@
 #![tactic(auto)]
 
 mod grid;
-#[cfg(test)]
-mod tests;
 mod totals;
 mod weights;
 pub mod worked;

@@ -8,4 +8,3 @@ pub mod Labelled
 pub mod Faults
 pub mod Decided
 pub mod Decisive
-pub mod TestGraphs

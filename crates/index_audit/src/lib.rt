@@ -11,8 +11,6 @@ mod covering;
 mod entry_checks;
 pub mod laws;
 mod lookup;
-#[cfg(test)]
-mod tests;
 
 pub use answer::Audit;
 pub use auditing::audit;

@@ -11,8 +11,6 @@ pub mod laws;
 mod rows;
 mod rule;
 mod seat;
-#[cfg(test)]
-mod tests;
 mod turns;
 
 pub use hand::RowHand;

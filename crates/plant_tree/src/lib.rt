@@ -7,8 +7,6 @@
 
 mod highest;
 mod planter;
-#[cfg(test)]
-mod tests;
 mod tree;
 
 pub use planter::Planter;

@@ -12,8 +12,6 @@ mod node_lines;
 mod order_fault;
 mod order_reader;
 mod ranking;
-#[cfg(test)]
-mod tests;
 
 pub use degrees::by_degree;
 pub use laws::{

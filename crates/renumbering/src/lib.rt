@@ -11,8 +11,6 @@ pub mod laws;
 mod renumbered;
 mod rows;
 mod search;
-#[cfg(test)]
-mod tests;
 mod working;
 
 pub use renumbered::{renumbered_graph, renumbered_ranking};

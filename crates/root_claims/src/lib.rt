@@ -11,8 +11,6 @@ mod claim;
 mod claims;
 pub mod laws;
 mod rule;
-#[cfg(test)]
-mod tests;
 
 pub use claim::Claim;
 pub use claims::{ClaimSeat, Claims};

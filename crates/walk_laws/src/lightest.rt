@@ -69,30 +69,3 @@ fn least_weight(arcs: &[Arc], first: Arc) -> u64
     }
     least
 }
-
-#[cfg(test)]
-mod tests {
-    use super::*;
-    use std::test::Fail;
-
-    /// Each edge twice, once heavier and the other way round, and loops.
-    #[test]
-    fn the_lightest_of_parallel_edges(rt: HostRuntime) -> Result<(), Fail> {
-        let edges = vec![in rt.alloc();
-            Edge { u: 2, v: 1, w: 5 },
-            Edge { u: 1, v: 2, w: 3 },
-            Edge { u: 2, v: 2, w: 1 },
-            Edge { u: 3, v: 2, w: 4 },
-            Edge { u: 2, v: 3, w: 4 },
-            Edge { u: 1, v: 2, w: 7 },
-        ]?;
-        let graph = Graph::new(rt.alloc(), 3, edges)?;
-        let kept = graph.lightest(rt.alloc())?;
-        assert_eq!(rt; kept.n(), 3);
-        assert_eq!(rt;
-            kept.edges(),
-            [Edge { u: 1, v: 2, w: 3 }, Edge { u: 2, v: 3, w: 4 }].as_slice()
-        );
-        Ok(())
-    }
-}

@@ -1,0 +1,6 @@
+mod audits;
+mod graphs;
+mod grids;
+mod queues;
+mod tours;
+mod trees;
