@@ -1,6 +1,7 @@
 -- A share with which trees were grown, from nothing on.
 use Rattle.std.proofs.Common.{◌≡◌, ℕ, List, [], ◌++◌, All, length, refl, sym, ap, subst, ◌∙◌}
 use Rattle.std.specs.Prelude.{Result, Ok, Err, IsOk, IfOk}
+use Rattle.std.specs.Result.{result_and}
 use Rattle.std.specs.declared.alloc.AllocError.{AllocError}
 use Rattle.walk_laws.specs.declared.graph.Edge.{Edge}
 use Rattle.walk_laws.specs.declared.entry.Entry.{Entry}
@@ -25,3 +26,13 @@ pub sufficed_by : {A : Type 0} (edges : List Edge) (at : List ℕ) (global : Lis
     → IfOk memory (λ _. HavePut edges at global roots list)
 sufficed_by {A = A} edges at global roots list (Ok t) nodes grown apart = record { nodes = nodes; put = λ v node. IsPutBy-from_grown edges at roots (IsOk {T = A} {E = AllocError} (Ok t)) v (entries_of_node list v) refl (grown v node); apart = apart }
 sufficed_by edges at global roots list (Err fault) nodes grown apart = tt
+
+-- what holds where one of two sufficed holds where both did
+pub where_both-first : {A B : Type 0} (P : Type 0) (first : Result A AllocError) (second : Result B AllocError) → IfOk first (λ _. P) → IfOk (result_and first second) (λ _. P)
+where_both-first P (Ok a) (Ok b) holds = holds
+where_both-first P (Ok a) (Err fault) holds = tt
+where_both-first P (Err fault) second holds = tt
+
+pub where_both-second : {A B : Type 0} (P : Type 0) (first : Result A AllocError) (second : Result B AllocError) → IfOk second (λ _. P) → IfOk (result_and first second) (λ _. P)
+where_both-second P (Ok a) second holds = holds
+where_both-second P (Err fault) second holds = tt

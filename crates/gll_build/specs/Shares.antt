@@ -11,7 +11,9 @@ use Rattle.hub_index.specs.Sunk.{entries_of_node}
 use Rattle.hub_index.specs.Views.{IsNode}
 use Rattle.root_claims.specs.Seats.{Claimed, ClaimsId, IsSeatOf as IsClaimSeatOf}
 use Rattle.label_pool.specs.Seats.{PoolId, IsSeatOf}
+use Rattle.label_clean.specs.declared.runs.RunList.{RunList}
 use Rattle.label_clean.specs.Needless.{IsNeedless}
+use Rattle.label_clean.specs.RunLists.{HasItsRuns, all_entries}
 use Rattle.pool_view.specs.Fitting.{Fitting, IsFittingPool, edges_of, order_of}
 use Rattle.pool_view.specs.Putting.{IsListOf}
 use Rattle.gll_build.specs.declared.share.Seats.{Seats}
@@ -50,11 +52,14 @@ pub record IsSoundGround (ground : Ground) : Type 0 where
   pub pool : IsPoolOf ground.graph.now.edges ground.ranking.now ground.pool.now
   pub global : IsGathered ground.graph.now.edges ground.ranking.now ground.global.now
 
--- memory for trees over n nodes, own rows for as many, and an empty list
+-- memory for trees over n nodes, and own rows for as many
 pub record IsBenchFor (n : ℕ) (bench : Bench) : Type 0 where
   pub own : bench.own ≡ n
-  pub list : bench.list.items ≡ []
   pub work : bench.work ≡ n
+
+-- a list without entries
+abbrev pub IsEmptyList : RunList → Type 0
+IsEmptyList list = list.entries.items ≡ []
 
 -- a worker at a bench for the superstep's nodes, with new seats
 pub record IsReady (ground : Ground) (worker : Worker) : Type 0 where
@@ -63,7 +68,7 @@ pub record IsReady (ground : Ground) (worker : Worker) : Type 0 where
   pub of : AreSeatsOf ground.claims.now ground.pool.now 0 share.seats
   pub new : AreNew share.seats
   pub own : share.own ≡ length ground.ranking.now
-  pub list : share.list.items ≡ []
+  pub list : IsEmptyList share.list
   pub work : worker.work ≡ length ground.ranking.now
 
 -- the global rows of the hub of each entry and of the node v cover none
@@ -91,13 +96,14 @@ pub record HavePut (edges : List Edge) (at : List ℕ) (global : List (List Entr
   pub put : (v : ℕ) → IsNode (length at) v → IsPutBy edges at roots v (entries_of_node list v)
   pub apart : (v : ℕ) → IsNode (length at) v → AreUncovered at global v (entries_of_node list v)
 
--- some root was claimed with the share, or none was left; the own rows are for as many nodes as before; the list is what its seat put in the superstep's pool, where all workers see it, and after that what there was no cell for; and where memory sufficed the trees of all roots that were claimed are grown over the global table, and the list is what they put
+-- some root was claimed with the share, or none was left; the own rows are for as many nodes as before; the list is what its seat put in the superstep's pool, where all workers see it, and after that what there was no cell for; and where memory sufficed the trees of all roots that were claimed are grown over the global table, and the list is what they put, and has its runs
 pub record IsDone (ground : Ground) (share : Share) : Type 0 where
   pub begun : HasBegun share.seats.claims
   pub own : share.own ≡ length ground.ranking.now
   pub seat : IsSeatOf ground.pool.now share.seats.pool
-  pub puts : IsListOf share.seats.pool share.list.items
-  pub sufficed : IfOk share.memory (λ _. HavePut ground.graph.now.edges ground.ranking.now ground.global.now share.seats.claims.got share.list.items)
+  pub puts : IsListOf share.seats.pool share.list.entries.items
+  pub sufficed : IfOk share.memory (λ _. HavePut ground.graph.now.edges ground.ranking.now ground.global.now share.seats.claims.got share.list.entries.items)
+  pub runs : IfOk share.memory (λ _. HasItsRuns share.list)
 
 -- a worker that has grown all trees of its share
 pub record HasWorked (ground : Ground) (worker : Worker) : Type 0 where
@@ -108,8 +114,9 @@ pub record HasWorked (ground : Ground) (worker : Worker) : Type 0 where
   pub done : IsDone ground share
   pub work : worker.work ≡ length ground.ranking.now
 
--- what some workers hand back: a seat with which some root was claimed, or none was left, what the trees of all that were claimed put over the global table, and their benches
+-- what some workers hand back: a seat with which some root was claimed, or none was left, what the trees of all that were claimed put over the global table, in lists with their runs, and their benches
 pub record IsHarvest (ground : Ground) (harvest : Harvest) : Type 0 where
   pub begun : HasBegun harvest.seat
-  pub whole : HavePut ground.graph.now.edges ground.ranking.now ground.global.now harvest.seat.got harvest.fresh.items
+  pub whole : HavePut ground.graph.now.edges ground.ranking.now ground.global.now harvest.seat.got (all_entries harvest.lists.items)
+  pub runs : All HasItsRuns harvest.lists.items
   pub benches : All (IsBenchFor (length ground.ranking.now)) harvest.benches.items

@@ -1,5 +1,5 @@
 //! One worker of a superstep: the trees of the roots that its seat claims.
-ghost use Rattle.std.specs.Prelude.{◌≡◌, ◌⊎◌, ℕ, ◌*◌, ◌<◌, ◌≤◌, true, false, [], IsOk, IfOk, IfSome, IfNone, IsTrue, length, nat_eq};
+ghost use Rattle.std.specs.Prelude.{◌≡◌, ◌⊎◌, ◌*◌, ◌<◌, ◌≤◌, true, false, [], IsOk, IfOk, IfSome, IfNone, IsTrue, length, nat_eq};
 ghost use Rattle.std.specs.List.{IsDistinct};
 ghost use Rattle.root_claims.specs.Seats.{IsSeatOf as IsClaimSeatOf};
 ghost use Rattle.pruned_tree.specs.GrownBy.{HasGrown};
@@ -9,7 +9,7 @@ ghost use Rattle.gll_build.specs.Shares.{AreSeatsOf, AreNew, IsDone, IsSoundGrou
 
 use crate::ground::Ground;
 use desk_io::Gate;
-use hub_index::NodeEntry;
+use label_clean::RunList;
 use label_pool::PoolSeat;
 use pool_view::{Fits, OwnRows, PoolView};
 use pruned_tree::{Work, grow};
@@ -26,18 +26,19 @@ pub struct Seats {
 }
 
 /// What a worker takes into a superstep and hands back: its seats, the rows of its own, which are empty before and after it,
-/// the list of what it put, which is empty before it, and whether memory sufficed. Where it didn't, the list is of no use.
+/// the list of what it put, which is empty before it and has its runs after it, and whether memory sufficed. Where it didn't, the
+/// list is of no use.
 #[derive(Drop)]
 pub struct Share {
     pub seats: Seats,
     pub own: OwnRows,
-    pub list: Vec<NodeEntry>,
+    pub list: RunList,
     pub memory: Result<(), AllocError>,
 }
 
 /// One worker of a superstep: it claims a root and grows its tree, until no root is left, or until it has put at least the
-/// superstep's `cut` entries, and each other worker has as well or it has put twice as many. Its gate is told of each root
-/// when its tree begins, and when it ends with the number of entries put. Where memory runs out others may go on. Its seat
+/// superstep's `cut` entries, and each other worker has as well or it has put twice as many. Then it lists the runs of what it
+/// put. Its gate is told of each root when its tree begins, and when it ends with the number of entries put. Where memory runs out others may go on. Its seat
 /// at the claims comes back in any case, with all roots that it claimed.
 pub fn grow_share<R: Wait, G: Gate>(
     rt: &R,
@@ -52,7 +53,7 @@ pub fn grow_share<R: Wait, G: Gate>(
     requires seats { AreSeatsOf ground.now.claims.now ground.now.pool.now 0 share.seats }
     requires new { AreNew share.seats }
     requires own { share.own ≡ length ground.now.ranking.now }
-    requires list { share.list.items ≡ [] }
+    requires list { share.list.entries.items ≡ [] }
     ensures work { work.new ≡ work.old }
     ensures seat { IsClaimSeatOf ground.now.claims.now result.seats.claims }
     ensures left { result.seats.claims.left ≡ 0 }
@@ -68,9 +69,12 @@ pub fn grow_share<R: Wait, G: Gate>(
         claims: mut claim_seat,
         pool: pool_seat,
     } = seats;
-    let mut view = PoolView::new(rt, ground.pool, ground.global, pool_seat, own, list);
+    let RunList { entries, runs } = list;
+    let mut view = PoolView::new(rt, ground.pool, ground.global, pool_seat, own, entries);
     let memory = grow_trees(rt, alloc, ground, &mut claim_seat, &mut view, work, gate);
-    let (pool_seat, own, list) = view.into_parts();
+    let (pool_seat, own, entries) = view.into_parts();
+    let mut list = RunList { entries, runs };
+    let listed = list.list_runs();
     Share {
         seats: Seats {
             claims: claim_seat,
@@ -78,7 +82,7 @@ pub fn grow_share<R: Wait, G: Gate>(
         },
         own,
         list,
-        memory,
+        memory: memory.and(listed),
     }
 }
 

@@ -1,17 +1,17 @@
 //! One superstep, with what a build takes once.
-ghost use Rattle.std.specs.Prelude.{◌≡◌, ◌-◌, ◌*◌, ◌/◌, ◌^◌, ◌<◌, ◌≤◌, [], All, IfOk, length, min, vec_len};
+ghost use Rattle.std.specs.Prelude.{◌≡◌, ◌-◌, ◌*◌, ◌/◌, ◌^◌, ◌<◌, ◌≤◌, All, IfOk, length, min, vec_len};
 ghost use Rattle.hub_index.specs.PlainRows.{IsGathered};
 ghost use Rattle.root_claims.specs.Seats.{IsSeatOf as IsClaimSeatOf};
-ghost use Rattle.gll_build.specs.Shares.{AreNew, AreSeatsOf, IsBenchFor, IsHarvest, IsSoundGround};
+ghost use Rattle.gll_build.specs.Shares.{AreNew, AreSeatsOf, IsBenchFor, IsEmptyList, IsHarvest, IsSoundGround};
 ghost use Rattle.gll_build.specs.Workshops.{IsGrownFrom, IsProgress, IsWorkshopFor};
 
 use crate::ground::Ground;
 use crate::growing::grow_all;
 use crate::share::Seats;
-use crate::workers::{Bench, Harvest, benches_for, bring_in, seated};
+use crate::workers::{Bench, Harvest, benches_for, bring_in, cleared, lists_for, seated};
 use desk_io::Gate;
-use hub_index::{NodeEntry, SplitRows};
-use label_clean::Cleaner;
+use hub_index::SplitRows;
+use label_clean::{Cleaner, RunList};
 use label_pool::Pool;
 use pool_view::Fits;
 use rank_table::Ranking;
@@ -28,13 +28,13 @@ const MOST_CELLS: u64 = 1_048_576;
 /// How many cells a block of a large pool has.
 const BLOCK: u32 = 64;
 
-/// What a build takes once, and hands from superstep to superstep: a bench for each worker, what cleaning takes, and a list,
-/// which is empty between two supersteps.
+/// What a build takes once, and hands from superstep to superstep: a bench for each worker and a list, which is empty between two
+/// supersteps, and what cleaning takes.
 #[derive(Drop)]
 pub struct Workshop {
     pub benches: Vec<Bench>,
+    pub lists: Vec<RunList>,
     pub cleaner: Cleaner,
-    pub spare: Vec<NodeEntry>,
 }
 
 /// Where a build has come: the rows, which are the labelling up to the position of the next root, and that position.
@@ -44,10 +44,10 @@ pub struct Progress {
     pub next: u32,
 }
 
-/// What the trees of some roots put, in any order, the position of the root that comes next, and the benches.
+/// What the trees of some roots put, in the lists of the workers, the position of the root that comes next, and the benches.
 #[derive(Drop)]
 pub struct Grown {
-    pub fresh: Vec<NodeEntry>,
+    pub lists: Vec<RunList>,
     pub next: u32,
     pub benches: Vec<Bench>,
 }
@@ -60,11 +60,12 @@ impl Workshop {
         ensures size { IfOk result (λ workshop. vec_len workshop.benches ≡ workers) }
     {
         let benches = benches_for(alloc, n, workers)?;
+        let lists = lists_for(alloc, workers)?;
         let cleaner = Cleaner::new(alloc);
         Ok(Workshop {
             benches,
+            lists,
             cleaner,
-            spare: Vec::new(alloc),
         })
     }
 }
@@ -98,30 +99,29 @@ pub fn next_step<R: Threads + Wait + Sync, G: Gate + Sync>(
     let Progress { rows, next: first } = progress;
     let Workshop {
         benches,
+        lists,
         cleaner,
-        spare,
     } = workshop;
     let grown = grow_roots(
-        rt, alloc, graph, ranking, &rows, first, workers, cut, benches, spare, gate,
+        rt, alloc, graph, ranking, &rows, first, workers, cut, benches, lists, gate,
     )?;
     let Grown {
-        mut fresh,
+        lists,
         next,
         benches,
     } = grown;
-    let gone = cleaner.go_on(ranking, rows, first, fresh.as_slice())?;
+    let gone = cleaner.go_on(ranking, rows, first, lists.as_slice())?;
     let (rows, cleaner) = gone;
-    fresh.clear();
     let workshop = Workshop {
         benches,
+        lists: cleared(lists),
         cleaner,
-        spare: fresh,
     };
     Ok((Progress { rows, next }, workshop))
 }
 
-/// Lets so many workers grow the trees of the next roots over the global rows. What they put comes in one list, and one that is
-/// empty takes its place. The only error is that memory ran out.
+/// Lets so many workers grow the trees of the next roots over the global rows, each with a list. The only error is that memory
+/// ran out.
 fn grow_roots<R: Threads + Wait + Sync, G: Gate + Sync>(
     rt: &R,
     alloc: Global,
@@ -132,7 +132,7 @@ fn grow_roots<R: Threads + Wait + Sync, G: Gate + Sync>(
     workers: u32,
     cut: u32,
     benches: Vec<Bench>,
-    spare: Vec<NodeEntry>,
+    lists: Vec<RunList>,
     gate: &G,
 ) -> Result<Grown, AllocError>
     requires nodes { length ranking.now ≡ graph.now.n }
@@ -142,9 +142,10 @@ fn grow_roots<R: Threads + Wait + Sync, G: Gate + Sync>(
     requires workers { (1 ≤ workers) × (workers ≤ 64) }
     requires size { vec_len benches ≡ workers }
     requires benches { All (IsBenchFor (length ranking.now)) benches.items }
-    requires spare { spare.items ≡ [] }
+    requires lists { (vec_len lists ≡ workers) × All IsEmptyList lists.items }
     ensures grown { IfOk result (IsGrownFrom graph.now.edges ranking.now global.now first) }
     ensures size { IfOk result (λ grown. vec_len grown.benches ≡ workers) }
+    ensures lists { IfOk result (λ grown. vec_len grown.lists ≡ workers) }
     ensures benches { IfOk result (λ grown. All (IsBenchFor (length ranking.now)) grown.benches.items) }
 {
     let n = graph.n();
@@ -170,15 +171,15 @@ fn grow_roots<R: Threads + Wait + Sync, G: Gate + Sync>(
         workers,
         filled: &filled,
     };
-    let harvest = harvest_on(rt, alloc, &ground, gate, seats, benches, spare)?;
+    let harvest = harvest_on(rt, alloc, &ground, gate, seats, benches, lists)?;
     let Harvest {
         seat,
-        fresh,
+        lists,
         benches,
     } = harvest;
     let next = claims.close(seat);
     Ok(Grown {
-        fresh,
+        lists,
         next,
         benches,
     })
@@ -193,22 +194,23 @@ fn harvest_on<R: Threads + Wait + Sync, G: Gate + Sync>(
     gate: &G,
     first: Seats,
     benches: Vec<Bench>,
-    spare: Vec<NodeEntry>,
+    lists: Vec<RunList>,
 ) -> Result<Harvest, AllocError>
     requires ground { IsSoundGround ground.now }
     requires seats { AreSeatsOf ground.now.claims.now ground.now.pool.now (vec_len benches - 1) first }
     requires new { AreNew first }
     requires some { 1 ≤ vec_len benches }
     requires benches { All (IsBenchFor (length ground.now.ranking.now)) benches.items }
-    requires spare { spare.items ≡ [] }
+    requires lists { (vec_len lists ≡ vec_len benches) × All IsEmptyList lists.items }
     ensures seat { IfOk result (λ harvest. IsClaimSeatOf ground.now.claims.now harvest.seat) }
     ensures left { IfOk result (λ harvest. harvest.seat.left ≡ vec_len benches - 1) }
     ensures size { IfOk result (λ harvest. vec_len harvest.benches ≡ vec_len benches) }
+    ensures lists { IfOk result (λ harvest. vec_len harvest.lists ≡ vec_len benches) }
     ensures harvest { IfOk result (IsHarvest ground.now) }
 {
-    let mut workers = seated(alloc, ground, first, benches)?;
+    let mut workers = seated(alloc, ground, first, benches, lists)?;
     grow_all(rt, alloc, ground, gate, workers.as_mut_slice());
-    bring_in(alloc, ground, spare, workers)
+    bring_in(alloc, ground, workers)
 }
 
 /// How many cells the pool of a superstep has: the workers' cuts together, up to a bound.

@@ -1,24 +1,24 @@
 //! The workers of a superstep: what each takes, made once for a build, their shares of a superstep, and what they hand back.
-ghost use Rattle.std.specs.Prelude.{◌≡◌, ℕ, ◌+◌, ◌-◌, ◌<◌, ◌≤◌, [], All, IfOk, length, vec_len};
+ghost use Rattle.std.specs.Prelude.{◌≡◌, ℕ, ◌+◌, ◌-◌, ◌<◌, ◌≤◌, All, IfOk, length, vec_len};
 ghost use Rattle.root_claims.specs.Seats.{IsSeatOf as IsClaimSeatOf};
-ghost use Rattle.gll_build.specs.Shares.{AreNew, AreSeatsOf, HasBegun, HasWorked, HavePut, IsBenchFor, IsHarvest, IsReady, IsSoundGround};
+ghost use Rattle.label_clean.specs.RunLists.{HasItsRuns};
+ghost use Rattle.gll_build.specs.Shares.{AreNew, AreSeatsOf, HasBegun, HasWorked, HavePut, IsBenchFor, IsEmptyList, IsHarvest, IsReady, IsSoundGround};
 
 use crate::ground::Ground;
 use crate::share::{Seats, Share, grow_share};
 use desk_io::Gate;
-use hub_index::NodeEntry;
+use label_clean::RunList;
 use pool_view::OwnRows;
 use pruned_tree::Work;
 use root_claims::ClaimSeat;
 use std::alloc::{AllocError, Global};
 use std::sync::Wait;
 
-/// What a worker takes for a whole build: the memory in which it grows trees, and rows of its own and a list, which are empty
-/// between two supersteps.
+/// What a worker takes for a whole build: the memory in which it grows trees, and rows of its own, which are empty between two
+/// supersteps.
 #[derive(Drop)]
 pub struct Bench {
     pub own: OwnRows,
-    pub list: Vec<NodeEntry>,
     pub work: Work,
 }
 
@@ -29,12 +29,12 @@ pub struct Worker {
     pub work: Work,
 }
 
-/// What workers hand back, where memory sufficed for all: their seats at the claims as one, the entries that they put, and
-/// their benches.
+/// What workers hand back, where memory sufficed for all: their seats at the claims as one, the list of each with the entries
+/// that it put, and their benches.
 #[derive(Drop)]
 pub struct Harvest {
     pub seat: ClaimSeat,
-    pub fresh: Vec<NodeEntry>,
+    pub lists: Vec<RunList>,
     pub benches: Vec<Bench>,
 }
 
@@ -46,11 +46,34 @@ pub fn benches_for(alloc: Global, n: u32, workers: u32) -> Result<Vec<Bench>, Al
     let mut benches = Vec::with_capacity(alloc, workers as usize)?;
     for _ in 0..workers {
         let own = OwnRows::new(alloc, n)?;
-        let list = Vec::new(alloc);
         let work = Work::new(alloc, n)?;
-        benches.push(Bench { own, list, work })?;
+        benches.push(Bench { own, work })?;
     }
     Ok(benches)
+}
+
+/// So many empty lists. The only error is that memory ran out.
+pub fn lists_for(alloc: Global, workers: u32) -> Result<Vec<RunList>, AllocError>
+    ensures size { IfOk result (λ lists. vec_len lists ≡ workers) }
+    ensures empty { IfOk result (λ lists. All IsEmptyList lists.items) }
+{
+    let mut lists = Vec::with_capacity(alloc, workers as usize)?;
+    for _ in 0..workers {
+        lists.push(RunList::new(alloc))?;
+    }
+    Ok(lists)
+}
+
+/// The same lists without their entries. Their room stays.
+pub fn cleared(lists: Vec<RunList>) -> Vec<RunList>
+    ensures size { vec_len result ≡ vec_len lists }
+    ensures empty { All IsEmptyList result.items }
+{
+    let mut lists = lists;
+    for list in lists.iter_mut() {
+        list.clear();
+    }
+    lists
 }
 
 impl Worker {
@@ -72,14 +95,17 @@ impl Worker {
     }
 }
 
-/// A worker at each bench, whose seats are split from the first ones. The only error is that memory ran out.
+/// A worker at each bench, with a list and with seats that are split from the first ones. The only error is that memory ran out.
 pub fn seated(
     alloc: Global,
     ground: &Ground<'_>,
     first: Seats,
     benches: Vec<Bench>,
+    lists: Vec<RunList>,
 ) -> Result<Vec<Worker>, AllocError>
     requires some { 1 ≤ vec_len benches }
+    requires size { vec_len lists ≡ vec_len benches }
+    requires lists { All IsEmptyList lists.items }
     requires benches { All (IsBenchFor (length ground.now.ranking.now)) benches.items }
     requires seats { AreSeatsOf ground.now.claims.now ground.now.pool.now (vec_len benches - 1) first }
     requires new { AreNew first }
@@ -88,26 +114,34 @@ pub fn seated(
 {
     let mut first = first;
     let mut benches = benches;
+    let mut lists = lists;
     let Some(last) = benches.pop() else {
         unreachable!()
     };
     let mut workers = Vec::with_capacity(alloc, benches.len() + 1)?;
     while let Some(bench) = benches.pop() {
+        let Some(list) = lists.pop() else {
+            unreachable!()
+        };
         let seats = split_off(ground, &mut first);
-        workers.push(worker_at(ground, bench, seats))?;
+        workers.push(worker_at(ground, bench, list, seats))?;
     }
-    workers.push(worker_at(ground, last, first))?;
+    let Some(list) = lists.pop() else {
+        unreachable!()
+    };
+    workers.push(worker_at(ground, last, list, first))?;
     Ok(workers)
 }
 
-/// A worker at a bench, with these seats.
-fn worker_at(ground: &Ground<'_>, bench: Bench, seats: Seats) -> Worker
+/// A worker at a bench, with this list and these seats.
+fn worker_at(ground: &Ground<'_>, bench: Bench, list: RunList, seats: Seats) -> Worker
     requires bench { IsBenchFor (length ground.now.ranking.now) bench }
+    requires list { IsEmptyList list }
     requires seats { AreSeatsOf ground.now.claims.now ground.now.pool.now 0 seats }
     requires new { AreNew seats }
     ensures { IsReady ground.now result }
 {
-    let Bench { own, list, work } = bench;
+    let Bench { own, work } = bench;
     let share = Share {
         seats,
         own,
@@ -134,27 +168,25 @@ fn split_off(ground: &Ground<'_>, seats: &mut Seats) -> Seats
     }
 }
 
-/// What all workers hand back. The list of one of them becomes that of all, and another list, which is empty, takes its
-/// place. The only error is that memory ran out, here or for one of them.
+/// What all workers hand back. The only error is that memory ran out, here or for one of them.
 pub fn bring_in(
     alloc: Global,
     ground: &Ground<'_>,
-    spare: Vec<NodeEntry>,
     workers: Vec<Worker>,
 ) -> Result<Harvest, AllocError>
     requires some { 1 ≤ vec_len workers }
-    requires spare { spare.items ≡ [] }
     requires worked { All (HasWorked ground.now) workers.items }
     ensures seat { IfOk result (λ harvest. IsClaimSeatOf ground.now.claims.now harvest.seat) }
     ensures left { IfOk result (λ harvest. harvest.seat.left ≡ vec_len workers - 1) }
     ensures benches { IfOk result (λ harvest. vec_len harvest.benches ≡ vec_len workers) }
+    ensures lists { IfOk result (λ harvest. vec_len harvest.lists ≡ vec_len workers) }
     ensures harvest { IfOk result (IsHarvest ground.now) }
 {
     let mut workers = workers;
     let Some(last) = workers.pop() else {
         unreachable!()
     };
-    let mut whole = first_of(alloc, ground, spare, last)?;
+    let mut whole = first_of(alloc, ground, last)?;
     while let Some(worker) = workers.pop() {
         whole = with_worker(ground, whole, worker)?;
     }
@@ -166,10 +198,11 @@ pub fn bring_in(
 fn parts_of(
     ground: &Ground<'_>,
     worker: Worker,
-) -> Result<(ClaimSeat, Vec<NodeEntry>, OwnRows, Work), AllocError>
+) -> Result<(ClaimSeat, RunList, OwnRows, Work), AllocError>
     requires { HasWorked ground.now worker }
     ensures seat { IfOk result (λ parts. IsClaimSeatOf ground.now.claims.now parts.0 × (parts.0.left ≡ 0) × HasBegun parts.0) }
-    ensures put { IfOk result (λ parts. HavePut ground.now.graph.now.edges ground.now.ranking.now ground.now.global.now parts.0.got parts.1.items) }
+    ensures put { IfOk result (λ parts. HavePut ground.now.graph.now.edges ground.now.ranking.now ground.now.global.now parts.0.got parts.1.entries.items) }
+    ensures runs { IfOk result (λ parts. HasItsRuns parts.1) }
     ensures own { IfOk result (λ parts. parts.2 ≡ length ground.now.ranking.now) }
     ensures work { IfOk result (λ parts. parts.3 ≡ length ground.now.ranking.now) }
 {
@@ -189,37 +222,26 @@ fn parts_of(
     Ok((seat, list, own, work))
 }
 
-/// What one worker hands back, with an empty list in the place of its own. The only error is that memory ran out, here or for
-/// the worker.
-fn first_of(
-    alloc: Global,
-    ground: &Ground<'_>,
-    spare: Vec<NodeEntry>,
-    worker: Worker,
-) -> Result<Harvest, AllocError>
-    requires spare { spare.items ≡ [] }
+/// What one worker hands back. The only error is that memory ran out, here or for the worker.
+fn first_of(alloc: Global, ground: &Ground<'_>, worker: Worker) -> Result<Harvest, AllocError>
     requires worker { HasWorked ground.now worker }
     ensures seat { IfOk result (λ harvest. IsClaimSeatOf ground.now.claims.now harvest.seat) }
     ensures left { IfOk result (λ harvest. harvest.seat.left ≡ 0) }
     ensures benches { IfOk result (λ harvest. vec_len harvest.benches ≡ 1) }
+    ensures lists { IfOk result (λ harvest. vec_len harvest.lists ≡ 1) }
     ensures harvest { IfOk result (IsHarvest ground.now) }
 {
-    let (seat, fresh, own, work) = parts_of(ground, worker)?;
-    let mut benches = Vec::new(alloc);
-    benches.push(Bench {
-        own,
-        list: spare,
-        work,
-    })?;
+    let (seat, list, own, work) = parts_of(ground, worker)?;
+    let lists = vec![in alloc; list]?;
+    let benches = vec![in alloc; Bench { own, work }]?;
     Ok(Harvest {
         seat,
-        fresh,
+        lists,
         benches,
     })
 }
 
-/// What some workers hand back, and another one, whose list is emptied into theirs. The only error is that memory ran out,
-/// here or for that one.
+/// What some workers hand back, and another one. The only error is that memory ran out, here or for that one.
 fn with_worker(ground: &Ground<'_>, whole: Harvest, worker: Worker) -> Result<Harvest, AllocError>
     requires seat { IsClaimSeatOf ground.now.claims.now whole.seat }
     requires harvest { IsHarvest ground.now whole }
@@ -227,20 +249,21 @@ fn with_worker(ground: &Ground<'_>, whole: Harvest, worker: Worker) -> Result<Ha
     ensures seat { IfOk result (λ harvest. IsClaimSeatOf ground.now.claims.now harvest.seat) }
     ensures left { IfOk result (λ harvest. harvest.seat.left ≡ whole.seat.left + 1) }
     ensures benches { IfOk result (λ harvest. vec_len harvest.benches ≡ vec_len whole.benches + 1) }
+    ensures lists { IfOk result (λ harvest. vec_len harvest.lists ≡ vec_len whole.lists + 1) }
     ensures harvest { IfOk result (IsHarvest ground.now) }
 {
-    let (other, mut list, own, work) = parts_of(ground, worker)?;
+    let (other, list, own, work) = parts_of(ground, worker)?;
     let Harvest {
         mut seat,
-        mut fresh,
+        mut lists,
         mut benches,
     } = whole;
     ground.claims.join(&mut seat, other);
-    fresh.append(&mut list)?;
-    benches.push(Bench { own, list, work })?;
+    lists.push(list)?;
+    benches.push(Bench { own, work })?;
     Ok(Harvest {
         seat,
-        fresh,
+        lists,
         benches,
     })
 }

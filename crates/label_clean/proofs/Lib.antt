@@ -15,3 +15,4 @@ pub mod TimesOf
 pub mod TakenRuns
 pub mod RowEnds
 pub mod RunOrder
+pub mod JoinedLists

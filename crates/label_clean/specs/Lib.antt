@@ -7,3 +7,4 @@ pub mod Below
 pub mod Laws
 pub mod Between
 pub mod RootRuns
+pub mod RunLists

@@ -1,7 +1,7 @@
 -- Lists of entries by runs, each of one root, and rows that have the hubs among some of them.
 use Rattle.std.specs.Prelude.{◌≡◌, ◌↔◌, ◌⊎◌, ℕ, ◌-◌, ◌<◌, ◌≤◌, ◌==◌, List, [], ◌∷◌, ◌++◌, All, Contains, length, map, take, drop, flat_map, if◌then◌else◌}
 use Rattle.std.specs.List.{sum_by}
-use Rattle.std.specs.List.Sorted.{IsNonDecreasingBy, IsPermutation, IsStrictlyIncreasing}
+use Rattle.std.specs.List.Sorted.{IsStrictlyIncreasing}
 use Rattle.walk_laws.specs.declared.graph.Edge.{Edge}
 use Rattle.walk_laws.specs.declared.entry.Entry.{Entry}
 use Rattle.walk_laws.specs.Joined.{Joined}
@@ -25,13 +25,10 @@ pub record IsRunIn (entries : List NodeEntry) (run : Run) : Type 0 where
   pub within : run.to ≤ length entries
   pub one : All (λ e. e.pos ≡ run.pos) (entries_of_run entries run)
 
--- the runs come by position, and are those of a list that was cut in pieces
+-- the runs are those of a list that was cut in pieces
 pub record AreRunsOf (entries : List NodeEntry) (runs : List Run) : Type 0 where
-  pub cut : List Run
-  pub whole : flat_map (λ run. entries_of_run entries run) cut ≡ entries
-  pub moved : IsPermutation cut runs
+  pub whole : flat_map (λ run. entries_of_run entries run) runs ≡ entries
   pub each : All (IsRunIn entries) runs
-  pub rising : IsNonDecreasingBy (λ run. run.pos) runs
 
 -- the entries of a row from a position on, by rising position
 pub record IsLatePart (first : ℕ) (row late : List Entry) : Type 0 where

@@ -1,10 +1,11 @@
-//! The runs of a list's entries, each of one root, by the roots' positions.
-ghost use Rattle.std.specs.Prelude.{◌≡◌, ℕ, ◌<◌, ◌≤◌, get_or, length, OnOk};
+//! Lists of entries with their runs, each of one root.
+ghost use Rattle.std.specs.Prelude.{◌≡◌, ℕ, ◌<◌, ◌≤◌, [], get_or, length, OnOk};
 ghost use Rattle.hub_index.specs.declared.entry_sink.NodeEntry.{NodeEntry as ANodeEntry};
 ghost use Rattle.label_clean.specs.RootRuns.{AreRunsOf};
+ghost use Rattle.label_clean.specs.RunLists.{HasItsRuns};
 
 use hub_index::NodeEntry;
-use std::alloc::AllocError;
+use std::alloc::{AllocError, Global};
 
 /// The most entries of a run: the ends of the rows of so many nodes stay in the nearest cache.
 const LONGEST: usize = 64;
@@ -18,9 +19,44 @@ pub struct Run {
     pub to: usize,
 }
 
-/// The runs of a list of entries, by position, which never falls, in the place of what `runs` had. The only error is
-/// that memory ran out.
-pub fn list_runs(entries: &[NodeEntry], runs: &mut Vec<Run>) -> Result<(), AllocError>
+/// A list of entries, as one worker puts them, and the runs in which they stand there: it is the worker who lists them, while
+/// the entries are in its cache. Who changes the entries lists the runs again.
+#[derive(Debug, Drop)]
+pub struct RunList {
+    pub entries: Vec<NodeEntry>,
+    pub runs: Vec<Run>,
+}
+
+impl RunList {
+    /// A list of no entries. It takes no memory.
+    pub fn new(alloc: Global) -> RunList
+        ensures { result.entries.items ≡ [] }
+    {
+        RunList {
+            entries: Vec::new(alloc),
+            runs: Vec::new(alloc),
+        }
+    }
+
+    /// Lists the runs of its entries, in the place of what `runs` had. The only error is that memory ran out.
+    pub fn list_runs(&mut self) -> Result<(), AllocError>
+        ensures entries { self.new.entries ≡ self.old.entries }
+        ensures runs { OnOk result (HasItsRuns self.new) }
+    {
+        cut_in_runs(self.entries.as_slice(), &mut self.runs)
+    }
+
+    /// Takes all entries out. Their room stays.
+    pub fn clear(&mut self)
+        ensures { self.new.entries.items ≡ [] }
+    {
+        self.entries.clear();
+        self.runs.clear();
+    }
+}
+
+/// Cuts entries in runs, in the place of what `runs` had. The only error is that memory ran out.
+fn cut_in_runs(entries: &[NodeEntry], runs: &mut Vec<Run>) -> Result<(), AllocError>
     ensures { OnOk result (AreRunsOf entries.now runs.new.items) }
 {
     runs.clear();
@@ -34,7 +70,6 @@ pub fn list_runs(entries: &[NodeEntry], runs: &mut Vec<Run>) -> Result<(), Alloc
         })?;
         from = to;
     }
-    runs.sort_unstable_by_key(|run| run.pos);
     Ok(())
 }
 

@@ -8,37 +8,40 @@ ghost use Rattle.hub_index.specs.declared.entry_sink.NodeEntry.{NodeEntry as ANo
 ghost use Rattle.hub_index.specs.Views.{GoesOnFrom, IsNode};
 ghost use Rattle.label_clean.specs.Tested.{IsCovering};
 ghost use Rattle.label_clean.specs.RootRuns.{EndsBelow, GoesOn, HaveHubs, IsLatePart, IsNext};
+ghost use Rattle.label_clean.specs.RunLists.{HasItsRuns, all_entries};
 
 use crate::cover::covers;
-use crate::runs::{Run, list_runs};
+use crate::runs::RunList;
+use crate::turns::{Turn, entries_in_turn, list_turns};
 use hub_index::{NodeEntry, SplitRows};
 use rank_table::Ranking;
 use std::alloc::AllocError;
 use walk_laws::Entry;
 
-/// Puts the entries of a list after the rows of their nodes, run by run by rising position, but for those that rows cover by
-/// then with entries from the position `first` on. What `runs` and `hub_row` had is of no use and goes. The only error is that
+/// Puts the entries of all lists after the rows of their nodes, run by run by rising position, but for those that rows cover by
+/// then with entries from the position `first` on. What `turns` and `hub_row` had is of no use and goes. The only error is that
 /// memory ran out.
 pub fn take_in(
     ranking: &Ranking,
     first: u32,
-    entries: &[NodeEntry],
-    runs: &mut Vec<Run>,
+    lists: &[RunList],
+    turns: &mut Vec<Turn>,
     hub_row: &mut Vec<Entry>,
     rows: &mut SplitRows,
 ) -> Result<(), AllocError>
     requires rows { length rows.old ≡ length ranking.now }
-    requires nodes { All (λ e. IsNode (length ranking.now) e.node) entries.now }
-    requires within { All (λ e. e.pos < length ranking.now) entries.now }
+    requires runs { All HasItsRuns lists.now }
+    requires nodes { All (λ e. IsNode (length ranking.now) e.node) (all_entries lists.now) }
+    requires within { All (λ e. e.pos < length ranking.now) (all_entries lists.now) }
     ensures rows { length rows.new ≡ length rows.old }
     ensures stays { OnOk result ((v : ℕ) → IsNode (length ranking.now) v → GoesOnFrom (label_row rows.old v) (label_row rows.new v)) }
-    ensures hubs { OnOk result ((edges : List AnEdge) (c : ℕ) → GoesOn edges ranking.now first c rows.old entries.now
-        → HaveHubs edges ranking.now rows.old entries.now rows.new) }
+    ensures hubs { OnOk result ((edges : List AnEdge) (c : ℕ) → GoesOn edges ranking.now first c rows.old (all_entries lists.now)
+        → HaveHubs edges ranking.now rows.old (all_entries lists.now) rows.new) }
 {
-    list_runs(entries, runs)?;
-    for run in runs.iter() {
-        let part = &entries[run.from..run.to];
-        take_run(ranking, first, run.pos, part, hub_row, rows)?;
+    list_turns(lists, turns)?;
+    for turn in turns.iter() {
+        let part = entries_in_turn(lists, turn);
+        take_run(ranking, first, turn.run.pos, part, hub_row, rows)?;
     }
     Ok(())
 }

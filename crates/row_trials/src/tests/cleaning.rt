@@ -1,10 +1,11 @@
 //! Cleaning of rows, and of tables that are gone on with.
-ghost use Rattle.std.specs.Prelude.{◌≡◌, ℕ, [], ◌∷◌, IfOk};
+ghost use Rattle.std.specs.Prelude.{◌≡◌, ℕ, [], ◌∷◌, ◌++◌, All, IfOk};
 ghost use Rattle.walk_laws.specs.Worked.{entry as entry_of};
+ghost use Rattle.label_clean.specs.RunLists.{HasItsRuns, all_entries};
 
 use super::{entry, one_to_four};
 use hub_index::{NodeEntry, RowList, SplitRows};
-use label_clean::{Cleaner, clean, survivors};
+use label_clean::{Cleaner, RunList, clean, survivors};
 use rank_table::Ranking;
 use std::alloc::Global;
 use std::test::Fail;
@@ -124,22 +125,48 @@ fn fresh_entry(node: u32, pos: u32, dist: u64) -> NodeEntry
     NodeEntry { node, pos, dist }
 }
 
+/// A list of these entries with its runs.
+fn with_runs(alloc: Global, entries: Vec<NodeEntry>) -> Result<RunList, Fail>
+    ensures entries { IfOk result (λ list. list.entries.items ≡ entries.items) }
+    ensures runs { IfOk result HasItsRuns }
+{
+    let mut list = RunList::new(alloc);
+    list.entries = entries;
+    list.list_runs()?;
+    Ok(list)
+}
+
+/// The lists of two workers.
+fn two_lists(
+    alloc: Global,
+    first: Vec<NodeEntry>,
+    second: Vec<NodeEntry>,
+) -> Result<Vec<RunList>, Fail>
+    ensures entries { IfOk result (λ lists. all_entries lists.items ≡ first.items ++ second.items) }
+    ensures runs { IfOk result (λ lists. All HasItsRuns lists.items) }
+{
+    let first = with_runs(alloc, first)?;
+    let second = with_runs(alloc, second)?;
+    Ok(vec![in alloc; first, second]?)
+}
+
 /// What trees of the roots 2, 3 and 4 put, which see that of 1.
-fn fresh_entries(alloc: Global) -> Result<Vec<NodeEntry>, Fail>
-    ensures { IfOk result (λ list. list.items ≡
+fn fresh_entries(alloc: Global) -> Result<Vec<RunList>, Fail>
+    ensures entries { IfOk result (λ lists. all_entries lists.items ≡
         record { node = 4; pos = 3; dist = 0 } ∷ record { node = 4; pos = 2; dist = 1 } ∷ record { node = 2; pos = 1; dist = 0 }
         ∷ record { node = 3; pos = 2; dist = 0 } ∷ record { node = 3; pos = 1; dist = 1 } ∷ []) }
+    ensures runs { IfOk result (λ lists. All HasItsRuns lists.items) }
 {
-    Ok(vec![in alloc;
+    let first = vec![in alloc;
         fresh_entry(4, 3, 0),
         fresh_entry(4, 2, 1),
         fresh_entry(2, 1, 0),
-        fresh_entry(3, 2, 0),
-        fresh_entry(3, 1, 1),
-    ]?)
+    ]?;
+    let second = vec![in alloc; fresh_entry(3, 2, 0), fresh_entry(3, 1, 1)]?;
+    two_lists(alloc, first, second)
 }
 
-/// All of the fresh entries stay. Those of two roots stand in two places each.
+/// All of the fresh entries stay. Those of two roots stand in two lists each.
 #[test]
 fn a_table_is_gone_on_with_in_place(rt: HostRuntime) -> Result<(), Fail> {
     let ranking = one_to_four(rt.alloc())?;
@@ -164,14 +191,15 @@ fn a_table_is_gone_on_with_in_place(rt: HostRuntime) -> Result<(), Fail> {
 }
 
 /// What trees of all four roots put, where that of 2 didn't see that of 1.
-fn all_fresh(alloc: Global) -> Result<Vec<NodeEntry>, Fail>
-    ensures { IfOk result (λ list. list.items ≡
+fn all_fresh(alloc: Global) -> Result<Vec<RunList>, Fail>
+    ensures entries { IfOk result (λ lists. all_entries lists.items ≡
         record { node = 4; pos = 3; dist = 0 } ∷ record { node = 3; pos = 2; dist = 0 } ∷ record { node = 4; pos = 2; dist = 1 }
         ∷ record { node = 2; pos = 1; dist = 0 } ∷ record { node = 3; pos = 1; dist = 1 } ∷ record { node = 4; pos = 1; dist = 2 }
         ∷ record { node = 1; pos = 0; dist = 0 } ∷ record { node = 2; pos = 0; dist = 1 } ∷ record { node = 4; pos = 0; dist = 1 }
         ∷ record { node = 3; pos = 0; dist = 2 } ∷ []) }
+    ensures runs { IfOk result (λ lists. All HasItsRuns lists.items) }
 {
-    Ok(vec![in alloc;
+    let first = vec![in alloc;
         fresh_entry(4, 3, 0),
         fresh_entry(3, 2, 0),
         fresh_entry(4, 2, 1),
@@ -179,10 +207,13 @@ fn all_fresh(alloc: Global) -> Result<Vec<NodeEntry>, Fail>
         fresh_entry(3, 1, 1),
         fresh_entry(4, 1, 2),
         fresh_entry(1, 0, 0),
+    ]?;
+    let second = vec![in alloc;
         fresh_entry(2, 0, 1),
         fresh_entry(4, 0, 1),
         fresh_entry(3, 0, 2),
-    ]?)
+    ]?;
+    two_lists(alloc, first, second)
 }
 
 /// Of the fresh entries (1, 2) at node 4 alone is deleted.

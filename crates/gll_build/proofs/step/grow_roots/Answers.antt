@@ -2,6 +2,7 @@ use Rattle.std.proofs.Common.{◌≡◌, inl, inr, length, sym, subst, ◌∙◌
 use Rattle.std.specs.List.Sorted.{IsPermutation}
 use Rattle.hub_index.specs.Sunk.{entries_of_node}
 use Rattle.table_seats.specs.Numbers.{numbers}
+use Rattle.label_clean.specs.RunLists.{all_entries}
 use Rattle.gll_build.proofs.FreshEntries.{HoldsBetween-fresh, further}
 use Rattle.gll_build.proofs.step.grow_roots.Goals as goal
 
@@ -22,6 +23,7 @@ returns-clause-grown g c =
       ];
       within = omega (arith, c.close-next.ensures.within.1, c.in_ok-claims.ensures.claims.1, n_is);
       nodes = is.whole.nodes;
-      holds = HoldsBetween-fresh c.args.graph.now.n edges at c.n-n.ensures.graph first next harvest.seat.got got (entries_of_node harvest.fresh.items) is.whole.put;
+      holds = HoldsBetween-fresh c.args.graph.now.n edges at c.n-n.ensures.graph first next harvest.seat.got got (entries_of_node (all_entries harvest.lists.items)) is.whole.put;
       apart = is.whole.apart;
+      runs = is.runs;
     }

@@ -8,5 +8,5 @@ loop-preserved c = record {
   size = omega (arith, c.in_ok-push.ensures.len, c.loop.invariant.size);
   benches =
       subst (All (IsBenchFor c.args.n)) (sym c.in_ok-push.ensures.items)
-      (All-push (IsBenchFor c.args.n) c.loop.benches.items (record { own = c.in_ok-own.own; list = c.new-list.result; work = c.in_ok-work.work }) c.loop.invariant.benches (record { own = c.in_ok-own.ensures; list = c.new-list.ensures.items; work = c.in_ok-work.ensures }));
+      (All-push (IsBenchFor c.args.n) c.loop.benches.items (record { own = c.in_ok-own.own; work = c.in_ok-work.work }) c.loop.invariant.benches (record { own = c.in_ok-own.ensures; work = c.in_ok-work.ensures }));
 }

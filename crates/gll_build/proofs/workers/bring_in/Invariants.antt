@@ -9,6 +9,7 @@ invariant-loop-worker l = record {
   seat : IsClaimSeatOf l.ground.claims.now l.whole.seat;
   left : l.whole.seat.left + 1 + vec_len l.workers ≡ vec_len l.fn.workers;
   size : vec_len l.whole.benches + vec_len l.workers ≡ vec_len l.fn.workers;
+  lists : vec_len l.whole.lists + vec_len l.workers ≡ vec_len l.fn.workers;
   harvest : IsHarvest l.ground l.whole;
   worked : All (HasWorked l.ground) l.workers.items;
 }

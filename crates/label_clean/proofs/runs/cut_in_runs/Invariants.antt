@@ -1,6 +1,6 @@
 use Rattle.std.proofs.Common.{◌≡◌, ◌-◌, ◌≤◌, All, length, take, flat_map}
 use Rattle.label_clean.specs.RootRuns.{IsRunIn, entries_of_run}
-use Rattle.label_clean.proofs.runs.list_runs.Given as goal
+use Rattle.label_clean.proofs.runs.cut_in_runs.Given as goal
 
 -- the entries so far are those of the runs
 abbrev pub invariant-loop-from : goal.invariant-loop-from

@@ -1,12 +1,11 @@
-use Rattle.std.proofs.Common.{◌∷◌, [], ◌∙◌, sym, ap, subst, flat_map, All, get_or, refl, ◌≡◌, ◌++◌, arith, rules}
+use Rattle.std.proofs.Common.{◌∷◌, [], ◌∙◌, sym, ap, subst, flat_map, All, get_or, refl, ◌≡◌, ◌++◌, arith}
 use Rattle.std.proofs.lemmas.List.{take_all}
 use Rattle.std.proofs.lemmas.List.Elements.{All-push}
-use Rattle.std.proofs.lemmas.List.Sorted.{All-permutation, answers_always, IsNonDecreasingBy-from_sort}
 use Rattle.hub_index.specs.declared.entry_sink.NodeEntry.{NodeEntry}
 use Rattle.label_clean.specs.declared.runs.Run.{Run}
 use Rattle.label_clean.specs.RootRuns.{IsRunIn, entries_of_run}
 use Rattle.label_clean.proofs.ListedRuns.{IsRunIn-made, whole-more}
-use Rattle.label_clean.proofs.runs.list_runs.Goals as goal
+use Rattle.label_clean.proofs.runs.cut_in_runs.Goals as goal
 
 abbrev nothing : NodeEntry
 nothing = record { node = 0; pos = 0; dist = 0 }
@@ -23,13 +22,7 @@ loop-from-preserved c =
     }
 
 pub returns : goal.returns
-returns c =
-    let entries = c.args.entries.now in
-    let whole = c.loop-from.invariant.whole ∙ take_all c.loop-from.from entries (omega (arith, c.loop-from-test.false)) in
-    record {
-      cut = c.loop-from.runs.items;
-      whole = whole;
-      moved = c.sort_unstable_by_key.ensures.permutation;
-      each = All-permutation (IsRunIn entries) c.loop-from.runs.items c.sort_unstable_by_key.new.self.items c.sort_unstable_by_key.ensures.permutation c.loop-from.invariant.each;
-      rising = IsNonDecreasingBy-from_sort (λ (run : Run). run.pos) c.sort_unstable_by_key.new.self.items (c.sort_unstable_by_key.ensures.sorted (λ (run : Run). run.pos) (answers_always _ _ _ (λ f a r g h. search rules)));
-    }
+returns c = record {
+  whole = c.loop-from.invariant.whole ∙ take_all c.loop-from.from c.args.entries.now (omega (arith, c.loop-from-test.false));
+  each = c.loop-from.invariant.each;
+}
