@@ -1,6 +1,6 @@
 -- A share with which trees were grown, from nothing on.
 use Rattle.std.proofs.Common.{◌≡◌, ℕ, List, [], ◌++◌, All, length, refl, sym, ap, subst, ◌∙◌}
-use Rattle.std.specs.Prelude.{Result, Ok, Err, IsOk, IfOk}
+use Rattle.std.specs.Prelude.{Result, Ok, Err, IsOk, IfOk, OnOk}
 use Rattle.std.specs.Result.{result_and}
 use Rattle.std.specs.declared.alloc.AllocError.{AllocError}
 use Rattle.walk_laws.specs.declared.graph.Edge.{Edge}
@@ -36,3 +36,8 @@ where_both-first P (Err fault) second holds = tt
 pub where_both-second : {A B : Type 0} (P : Type 0) (first : Result A AllocError) (second : Result B AllocError) → IfOk second (λ _. P) → IfOk (result_and first second) (λ _. P)
 where_both-second P (Ok a) second holds = holds
 where_both-second P (Err fault) second holds = tt
+
+-- what is told where memory sufficed, of what is so
+pub listed_by : {A E : Type 0} (P Q : Type 0) (memory : Result A E) → OnOk memory (P → Q) → P → IfOk memory (λ _. Q)
+listed_by P Q (Ok t) told p = told p
+listed_by P Q (Err fault) told p = tt

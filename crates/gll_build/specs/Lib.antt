@@ -1,2 +1,4 @@
 pub mod Shares
-pub mod Workshops
+pub mod Dealing
+pub mod Growing
+pub mod Tables

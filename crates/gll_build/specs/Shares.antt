@@ -1,5 +1,5 @@
--- The workers of a superstep: what each takes, what each hands back, and what all hand back together.
-use Rattle.std.specs.Prelude.{◌≡◌, ◌⊎◌, ℕ, ◌*◌, ◌≤◌, true, false, List, [], Some, None, All, Contains, IfOk, length, map, nat_eq}
+-- The workers of a superstep: what each takes, and what each hands back.
+use Rattle.std.specs.Prelude.{◌≡◌, ◌⊎◌, ℕ, ◌+◌, ◌*◌, ◌≤◌, true, false, List, [], None, All, Contains, IfOk, length, map, nat_eq}
 use Rattle.std.specs.List.{IsDistinct}
 use Rattle.walk_laws.specs.declared.graph.Edge.{Edge}
 use Rattle.walk_laws.specs.declared.entry.Entry.{Entry}
@@ -10,18 +10,13 @@ use Rattle.hub_index.specs.PlainRows.{IsGathered}
 use Rattle.hub_index.specs.Sunk.{entries_of_node}
 use Rattle.hub_index.specs.Views.{IsNode}
 use Rattle.root_claims.specs.Seats.{Claimed, ClaimsId, IsSeatOf as IsClaimSeatOf}
-use Rattle.label_pool.specs.Seats.{PoolId, IsSeatOf}
-use Rattle.label_clean.specs.declared.runs.RunList.{RunList}
+use Rattle.label_pool.specs.Seats.{PoolId, IsSeatOf, Seated}
 use Rattle.label_clean.specs.Needless.{IsNeedless}
-use Rattle.label_clean.specs.RunLists.{HasItsRuns, all_entries}
 use Rattle.pool_view.specs.Fitting.{Fitting, IsFittingPool, edges_of, order_of}
 use Rattle.pool_view.specs.Putting.{IsListOf}
 use Rattle.gll_build.specs.declared.share.Seats.{Seats}
 use Rattle.gll_build.specs.declared.share.Share.{Share}
 use Rattle.gll_build.specs.declared.ground.Ground.{Ground}
-use Rattle.gll_build.specs.declared.workers.Bench.{Bench}
-use Rattle.gll_build.specs.declared.workers.Harvest.{Harvest}
-use Rattle.gll_build.specs.declared.workers.Worker.{Worker}
 
 -- the seats are of these claims and this pool, and so many may still be split from each
 pub record AreSeatsOf (claims : ClaimsId) (pool : PoolId Fitting) (left : ℕ) (seats : Seats) : Type 0 where
@@ -45,31 +40,21 @@ pub record IsPoolOf (edges : List Edge) (order : List ℕ) (pool : PoolId Fittin
   pub order_is : order_of pool.fact ≡ order
   pub each : pool.seats * pool.block ≤ pool.cells
 
+-- such a pool, and its first seat, with which nothing was done, and from which those of all workers may be split
+pub record IsFreshPool (edges : List Edge) (order : List ℕ) (workers : ℕ) (pool : PoolId Fitting) (seat : Seated Fitting) : Type 0 where
+  pub pool_is : IsPoolOf edges order pool
+  pub seat_is : IsSeatOf pool seat
+  pub left : seat.left + 1 ≡ workers
+  pub puts : seat.puts ≡ []
+  pub past : seat.past ≡ None
+  pub seen : (seat.looks ≡ []) × (seat.marks ≡ [])
+
 -- the ranking, the claims and the pool are of the nodes of the superstep's graph, and the global rows hold what may stand in them
 pub record IsSoundGround (ground : Ground) : Type 0 where
   pub nodes : length ground.ranking.now ≡ ground.graph.now.n
   pub claims : ground.claims.now.n ≡ ground.graph.now.n
   pub pool : IsPoolOf ground.graph.now.edges ground.ranking.now ground.pool.now
-  pub global : IsGathered ground.graph.now.edges ground.ranking.now ground.global.now
-
--- memory for trees over n nodes, and own rows for as many
-pub record IsBenchFor (n : ℕ) (bench : Bench) : Type 0 where
-  pub own : bench.own ≡ n
-  pub work : bench.work ≡ n
-
--- a list without entries
-abbrev pub IsEmptyList : RunList → Type 0
-IsEmptyList list = list.entries.items ≡ []
-
--- a worker at a bench for the superstep's nodes, with new seats
-pub record IsReady (ground : Ground) (worker : Worker) : Type 0 where
-  pub share : Share
-  pub there : worker.share ≡ Some share
-  pub of : AreSeatsOf ground.claims.now ground.pool.now 0 share.seats
-  pub new : AreNew share.seats
-  pub own : share.own ≡ length ground.ranking.now
-  pub list : IsEmptyList share.list
-  pub work : worker.work ≡ length ground.ranking.now
+  pub global : IsGathered ground.graph.now.edges ground.ranking.now ground.global
 
 -- the global rows of the hub of each entry and of the node v cover none
 abbrev pub AreUncovered : List ℕ → List (List Entry) → ℕ → List Entry → Type 0
@@ -96,27 +81,12 @@ pub record HavePut (edges : List Edge) (at : List ℕ) (global : List (List Entr
   pub put : (v : ℕ) → IsNode (length at) v → IsPutBy edges at roots v (entries_of_node list v)
   pub apart : (v : ℕ) → IsNode (length at) v → AreUncovered at global v (entries_of_node list v)
 
--- some root was claimed with the share, or none was left; the own rows are for as many nodes as before; the list is what its seat put in the superstep's pool, where all workers see it, and after that what there was no cell for; and where memory sufficed the trees of all roots that were claimed are grown over the global table, and the list is what they put, and has its runs
+-- some root was claimed with the share, or none was left; the own rows are for as many nodes as before; the list is of the ranking's nodes, and is what its seat put in the superstep's pool, where all workers see it, and after that what there was no cell for; and where memory sufficed the trees of all roots that were claimed are grown over the global table, the list is what they put, and the roots are listed
 pub record IsDone (ground : Ground) (share : Share) : Type 0 where
   pub begun : HasBegun share.seats.claims
   pub own : share.own ≡ length ground.ranking.now
+  pub nodes : All (λ e. IsNode (length ground.ranking.now) e.node) share.list.items
   pub seat : IsSeatOf ground.pool.now share.seats.pool
-  pub puts : IsListOf share.seats.pool share.list.entries.items
-  pub sufficed : IfOk share.memory (λ _. HavePut ground.graph.now.edges ground.ranking.now ground.global.now share.seats.claims.got share.list.entries.items)
-  pub runs : IfOk share.memory (λ _. HasItsRuns share.list)
-
--- a worker that has grown all trees of its share
-pub record HasWorked (ground : Ground) (worker : Worker) : Type 0 where
-  pub share : Share
-  pub there : worker.share ≡ Some share
-  pub of : IsClaimSeatOf ground.claims.now share.seats.claims
-  pub left : share.seats.claims.left ≡ 0
-  pub done : IsDone ground share
-  pub work : worker.work ≡ length ground.ranking.now
-
--- what some workers hand back: a seat with which some root was claimed, or none was left, what the trees of all that were claimed put over the global table, in lists with their runs, and their benches
-pub record IsHarvest (ground : Ground) (harvest : Harvest) : Type 0 where
-  pub begun : HasBegun harvest.seat
-  pub whole : HavePut ground.graph.now.edges ground.ranking.now ground.global.now harvest.seat.got (all_entries harvest.lists.items)
-  pub runs : All HasItsRuns harvest.lists.items
-  pub benches : All (IsBenchFor (length ground.ranking.now)) harvest.benches.items
+  pub puts : IsListOf share.seats.pool share.list.items
+  pub sufficed : IfOk share.memory (λ _. HavePut ground.graph.now.edges ground.ranking.now ground.global share.seats.claims.got share.list.items)
+  pub roots : IfOk share.memory (λ _. share.roots.items ≡ share.seats.claims.got)

@@ -3,13 +3,17 @@ ghost use Rattle.walk_laws.specs.Joined.{Joined};
 ghost use Rattle.walk_laws.specs.Labelling.{IsChl};
 ghost use Rattle.label_clean.specs.Below.{IsChlBelow};
 
-use crate::step::{Progress, Workshop, next_step};
+use crate::hall::worked_on;
+use crate::named::Build;
+use crate::site::Site;
+use crate::table::Table;
 use desk_io::Gate;
-use hub_index::{Index, RowList, SplitIndex, SplitRows};
+use hub_index::{Index, RowList, SplitIndex, SplitRows, Stripes};
 use label_clean::laws::the_whole_is_the_labelling;
 use rank_table::Ranking;
 use renumbering::WorkingCopy;
 use std::alloc::{AllocError, Global};
+use std::marker::Brand;
 use std::sync::Wait;
 use std::thread::Threads;
 use walk_laws::Graph;
@@ -82,18 +86,56 @@ fn all_steps<R: Threads + Wait + Sync, G: Gate + Sync>(
     let n = graph.n();
     let ranked = ranking.n();
     prove!(n == ranked);
-    let mut workshop = Workshop::new(alloc, n, workers)?;
-    let mut progress = Progress {
-        rows: SplitRows::new(alloc, n)?,
-        next: 0,
-    };
-    while progress.next < n {
-        (progress, workshop) = next_step(
-            rt, alloc, graph, ranking, progress, workers, cut, workshop, gate,
-        )?;
-    }
-    Ok(progress.rows)
+    let plan = plan_for(n, workers);
+    steps::<Brand, R, G>(rt, alloc, graph, ranking, plan, workers, cut, gate)
 }
+
+/// The rows that all supersteps of this build come to.
+fn steps<B: Build + Send + Sync, R: Threads + Wait + Sync, G: Gate + Sync>(
+    rt: &R,
+    alloc: Global,
+    graph: &Graph,
+    ranking: &Ranking,
+    plan: Stripes,
+    workers: u32,
+    cut: u32,
+    gate: &G,
+) -> Result<SplitRows, AllocError>
+    requires edges { graph.now.edges ≡ B.edges }
+    requires order { ranking.now ≡ B.order }
+    requires nodes { length B.order ≡ graph.now.n }
+    requires stripes { plan.shift ≡ B.shift }
+    requires shift { plan.shift ≤ 30 }
+    requires workers { (1 ≤ workers) × (workers ≤ 64) }
+    requires cut { 1 ≤ cut }
+    ensures { IfOk result (λ rows. IsChlBelow B.edges B.order (length B.order) rows) }
+{
+    let site = Site::<B>::new(rt, alloc, graph, ranking, plan, workers, cut, false);
+    let table = Table::new(&site)?;
+    let table = worked_on(rt, &site, table, gate)?;
+    if table.first != graph.n() {
+        return Err(AllocError);
+    }
+    table.into_rows(alloc)
+}
+
+/// In stripes of how many nodes a table of so many is cut: some four for each worker, so that each has as much to do as the
+/// others, or a single one for one worker alone.
+fn plan_for(n: u32, workers: u32) -> Stripes
+    requires { 1 ≤ workers }
+    ensures { result.shift ≤ 30 }
+{
+    if workers == 1 {
+        return Stripes { shift: 30 };
+    }
+    let size = (n / workers / 4).max(LEAST_STRIPE);
+    Stripes {
+        shift: size.ilog2().min(30),
+    }
+}
+
+/// The fewest nodes that are worth a stripe.
+const LEAST_STRIPE: u32 = 16;
 
 /// One superstep: of a table that is the canonical hub labelling up to the position `first`, the one up to the position of
 /// the next root, and that position.
@@ -122,14 +164,45 @@ pub fn superstep<R: Threads + Wait + Sync, G: Gate + Sync>(
     let n = graph.n();
     let ranked = ranking.n();
     prove!(n == ranked);
-    let workshop = Workshop::new(alloc, n, workers)?;
-    let progress = Progress {
-        rows: SplitRows::of(alloc, &global)?,
-        next: first,
-    };
-    let (progress, _workshop) = next_step(
-        rt, alloc, graph, ranking, progress, workers, cut, workshop, gate,
-    )?;
-    let Progress { rows, next } = progress;
+    let plan = plan_for(n, workers);
+    one_step::<Brand, R, G>(
+        rt, alloc, graph, ranking, plan, &global, first, workers, cut, gate,
+    )
+}
+
+/// One superstep of this build.
+fn one_step<B: Build + Send + Sync, R: Threads + Wait + Sync, G: Gate + Sync>(
+    rt: &R,
+    alloc: Global,
+    graph: &Graph,
+    ranking: &Ranking,
+    plan: Stripes,
+    global: &RowList,
+    first: u32,
+    workers: u32,
+    cut: u32,
+    gate: &G,
+) -> Result<(RowList, u32), AllocError>
+    requires edges { graph.now.edges ≡ B.edges }
+    requires order { ranking.now ≡ B.order }
+    requires nodes { length B.order ≡ graph.now.n }
+    requires stripes { plan.shift ≡ B.shift }
+    requires shift { plan.shift ≤ 30 }
+    requires global { IsChlBelow B.edges B.order first global.now }
+    requires first { first < length B.order }
+    requires workers { (1 ≤ workers) × (workers ≤ 64) }
+    requires cut { 1 ≤ cut }
+    ensures rows { IfOk result (λ r. IsChlBelow B.edges B.order r.1 r.0) }
+    ensures more { IfOk result (λ r. first < r.1) }
+    ensures within { IfOk result (λ r. r.1 ≤ length B.order) }
+{
+    let site = Site::<B>::new(rt, alloc, graph, ranking, plan, workers, cut, true);
+    let table = Table::of_rows(&site, global, first)?;
+    let table = worked_on(rt, &site, table, gate)?;
+    let next = table.first;
+    if next <= first || next > graph.n() {
+        return Err(AllocError);
+    }
+    let rows = table.into_rows(alloc)?;
     Ok((rows.into_rows(alloc)?, next))
 }

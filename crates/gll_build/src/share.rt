@@ -1,5 +1,5 @@
 //! One worker of a superstep: the trees of the roots that its seat claims.
-ghost use Rattle.std.specs.Prelude.{◌≡◌, ◌⊎◌, ◌*◌, ◌<◌, ◌≤◌, true, false, [], IsOk, IfOk, IfSome, IfNone, IsTrue, length, nat_eq};
+ghost use Rattle.std.specs.Prelude.{◌≡◌, ◌⊎◌, ◌*◌, ◌<◌, ◌≤◌, ◌++◌, ◌∷◌, true, false, [], IsOk, IfOk, IfSome, IfNone, IsTrue, OnOk, length, nat_eq};
 ghost use Rattle.std.specs.List.{IsDistinct};
 ghost use Rattle.root_claims.specs.Seats.{IsSeatOf as IsClaimSeatOf};
 ghost use Rattle.pruned_tree.specs.GrownBy.{HasGrown};
@@ -9,7 +9,7 @@ ghost use Rattle.gll_build.specs.Shares.{AreSeatsOf, AreNew, IsDone, IsSoundGrou
 
 use crate::ground::Ground;
 use desk_io::Gate;
-use label_clean::RunList;
+use hub_index::NodeEntry;
 use label_pool::PoolSeat;
 use pool_view::{Fits, OwnRows, PoolView};
 use pruned_tree::{Work, grow};
@@ -26,20 +26,21 @@ pub struct Seats {
 }
 
 /// What a worker takes into a superstep and hands back: its seats, the rows of its own, which are empty before and after it,
-/// the list of what it put, which is empty before it and has its runs after it, and whether memory sufficed. Where it didn't, the
-/// list is of no use.
+/// the list of what it put and that of the positions of the roots that it claimed, which are empty before it, and whether memory
+/// sufficed. Where it didn't, the lists are of no use.
 #[derive(Drop)]
 pub struct Share {
     pub seats: Seats,
     pub own: OwnRows,
-    pub list: RunList,
+    pub list: Vec<NodeEntry>,
+    pub roots: Vec<u32>,
     pub memory: Result<(), AllocError>,
 }
 
 /// One worker of a superstep: it claims a root and grows its tree, until no root is left, or until it has put at least the
-/// superstep's `cut` entries, and each other worker has as well or it has put twice as many. Then it lists the runs of what it
-/// put. Its gate is told of each root when its tree begins, and when it ends with the number of entries put. Where memory runs out others may go on. Its seat
-/// at the claims comes back in any case, with all roots that it claimed.
+/// superstep's `cut` entries, and each other worker has as well or it has put twice as many. Its gate is told of each root when
+/// its tree begins, and when it ends with the number of entries put. Where memory runs out others may go on. Its seats come back
+/// in any case.
 pub fn grow_share<R: Wait, G: Gate>(
     rt: &R,
     alloc: Global,
@@ -53,7 +54,8 @@ pub fn grow_share<R: Wait, G: Gate>(
     requires seats { AreSeatsOf ground.now.claims.now ground.now.pool.now 0 share.seats }
     requires new { AreNew share.seats }
     requires own { share.own ≡ length ground.now.ranking.now }
-    requires list { share.list.entries.items ≡ [] }
+    requires list { share.list.items ≡ [] }
+    requires roots { share.roots.items ≡ [] }
     ensures work { work.new ≡ work.old }
     ensures seat { IsClaimSeatOf ground.now.claims.now result.seats.claims }
     ensures left { result.seats.claims.left ≡ 0 }
@@ -63,18 +65,25 @@ pub fn grow_share<R: Wait, G: Gate>(
         seats,
         own,
         list,
+        mut roots,
         memory: _,
     } = share;
     let Seats {
         claims: mut claim_seat,
         pool: pool_seat,
     } = seats;
-    let RunList { entries, runs } = list;
-    let mut view = PoolView::new(rt, ground.pool, ground.global, pool_seat, own, entries);
-    let memory = grow_trees(rt, alloc, ground, &mut claim_seat, &mut view, work, gate);
-    let (pool_seat, own, entries) = view.into_parts();
-    let mut list = RunList { entries, runs };
-    let listed = list.list_runs();
+    let mut view = PoolView::new(rt, ground.pool, ground.global.again(), pool_seat, own, list);
+    let memory = grow_trees(
+        rt,
+        alloc,
+        ground,
+        &mut claim_seat,
+        &mut view,
+        &mut roots,
+        work,
+        gate,
+    );
+    let (pool_seat, own, list) = view.into_parts();
     Share {
         seats: Seats {
             claims: claim_seat,
@@ -82,17 +91,20 @@ pub fn grow_share<R: Wait, G: Gate>(
         },
         own,
         list,
-        memory: memory.and(listed),
+        roots,
+        memory,
     }
 }
 
-/// Claims roots and grows their trees until the worker is done or no root is left. The only error is that memory ran out.
+/// Claims roots, grows their trees and lists their positions, until the worker is done or no root is left. The only error is that
+/// memory ran out.
 fn grow_trees<R: Wait, G: Gate>(
     rt: &R,
     alloc: Global,
     ground: &Ground<'_>,
     seat: &mut ClaimSeat,
     view: &mut PoolView<'_, R>,
+    roots: &mut Vec<u32>,
     work: &mut Work,
     gate: &G,
 ) -> Result<(), AllocError>
@@ -106,6 +118,7 @@ fn grow_trees<R: Wait, G: Gate>(
     ensures seat { IsClaimSeatOf ground.now.claims.now seat.new }
     ensures left { seat.new.left ≡ seat.old.left }
     ensures begun { (seat.new.over ≡ true) ⊎ (1 ≤ length seat.new.got) }
+    ensures listed { OnOk result (roots.old.items ≡ seat.old.got → roots.new.items ≡ seat.new.got) }
     ensures kept { view_kept view.new ≡ view_kept view.old }
     ensures grown { HasGrown ground.now.graph.now.edges ground.now.ranking.now (IsOk result) seat.old.got seat.new.got (puts_row view.old) (puts_row view.new) }
     ensures apart { StayUncovered ground.now.ranking.now view.old.global (puts_row view.old) (puts_row view.new) }
@@ -113,9 +126,10 @@ fn grow_trees<R: Wait, G: Gate>(
     let mut put = 0u64;
     for _ in rt.forever() {
         match next_tree(alloc, ground, seat, view, work, gate) {
-            Ok(Some(puts)) => {
+            Ok(Some(tree)) => {
+                roots.push(tree.root)?;
                 let before = put;
-                put = before.saturating_add(u64::from(puts));
+                put = before.saturating_add(u64::from(tree.puts));
                 if is_done(ground, before, put) {
                     return Ok(());
                 }
@@ -148,8 +162,15 @@ fn is_done(ground: &Ground<'_>, before: u64, put: u64) -> bool
     put >= 2 * cut || filled >= ground.workers
 }
 
-/// Claims a root and grows its tree. It answers how many entries were put, or None where no root is left. The only error is
-/// that memory ran out; the root is then claimed, and the entries put stay.
+/// A tree that was grown: the position of its root, from 0, and how many entries were put.
+#[derive(Clone, Copy)]
+struct Tree {
+    root: u32,
+    puts: u32,
+}
+
+/// Claims a root and grows its tree. It answers None where no root is left. The only error is that memory ran out; the root is
+/// then claimed, and the entries put stay.
 fn next_tree<R: Wait, G: Gate>(
     alloc: Global,
     ground: &Ground<'_>,
@@ -157,7 +178,7 @@ fn next_tree<R: Wait, G: Gate>(
     view: &mut PoolView<'_, R>,
     work: &mut Work,
     gate: &G,
-) -> Result<Option<u32>, AllocError>
+) -> Result<Option<Tree>, AllocError>
     requires ground { IsSoundGround ground.now }
     requires work { work.old ≡ ground.now.graph.now.n }
     requires seat { IsClaimSeatOf ground.now.claims.now seat.old }
@@ -169,7 +190,9 @@ fn next_tree<R: Wait, G: Gate>(
     ensures left { seat.new.left ≡ seat.old.left }
     ensures once { IsDistinct nat_eq seat.new.got }
     ensures begun { (seat.new.over ≡ true) ⊎ (1 ≤ length seat.new.got) }
-    ensures goes_on { IfOk result (λ puts. IfSome puts (λ _. seat.new.over ≡ false)) }
+    ensures goes_on { IfOk result (λ tree. IfSome tree (λ _. seat.new.over ≡ false)) }
+    ensures root { IfOk result (λ tree. IfSome tree (λ t. seat.new.got ≡ seat.old.got ++ t.root ∷ [])) }
+    ensures none { IfOk result (λ tree. IfNone tree (seat.new.got ≡ seat.old.got)) }
     ensures kept { view_kept view.new ≡ view_kept view.old }
     ensures grown { HasGrown ground.now.graph.now.edges ground.now.ranking.now (IsOk result) seat.old.got seat.new.got (puts_row view.old) (puts_row view.new) }
     ensures apart { StayUncovered ground.now.ranking.now view.old.global (puts_row view.old) (puts_row view.new) }
@@ -181,5 +204,5 @@ fn next_tree<R: Wait, G: Gate>(
     gate.begins(p);
     let puts = grow(alloc, ground.graph, ground.ranking, p, view, work)?;
     gate.ends(p, puts);
-    Ok(Some(puts))
+    Ok(Some(Tree { root: p, puts }))
 }

@@ -13,3 +13,6 @@ pub mod NarrowEntries
 pub mod PartedRows
 pub mod LentRows
 pub mod Backwards
+pub mod DealtNodes
+pub mod RowsInStripes
+pub mod TakenStripes

@@ -3,7 +3,7 @@ use Rattle.std.specs.Prelude.{Vec}
 use Rattle.std.specs.List.{zip}
 use Rattle.std.proofs.Common.{◌≡◌, ℕ, zero, suc, ◌+◌, ◌-◌, ◌<◌, ◌≤◌, List, [], ◌∷◌, ◌++◌, length, map, get_or, set, take, replicate, add-one, refl, sym, ap, subst, ◌∙◌, append_assoc, Global, arith}
 use Rattle.std.proofs.Math.Seq.{get_or-append_seam, map-set_same, set-append_seam, take-suc}
-use Rattle.std.proofs.lemmas.List.{append-nil, get_or-map, get_or-set_same, length-map, length-take-le, map-append, map-set, set-get_or, set-set}
+use Rattle.std.proofs.lemmas.List.{append-nil, get_or-map, get_or-set_same, length-map, length-take-le, map-append, map-set, set-get_or, set-set, take_all}
 use Rattle.std.proofs.lemmas.Slice.Zip.{length-zip, get_or-zip}
 use Rattle.walk_laws.specs.declared.entry.Entry.{Entry}
 use Rattle.walk_laws.specs.Labelling.{label_row}
@@ -59,6 +59,15 @@ copied_next list rows more n k size lt are more_is =
     ∙ set-append_seam (take k list) [] (replicate (n - (k + 1)) []) (get_or list k [])
     ∙ sym (append_assoc (take k list) (get_or list k [] ∷ []) (replicate (n - (k + 1)) []))
     ∙ ap (λ rs. rs ++ replicate (n - (k + 1)) []) (sym (rw add-one (take-suc list k [] (omega (arith, size, lt)))))
+
+-- all of them are copied
+pub copied_all : (list rows : List (List Entry)) (n k : ℕ) → n ≡ length list → n ≤ k → rows ≡ take k list ++ replicate (n - k) [] → rows ≡ list
+copied_all list rows n k size over are =
+    let none : n - k ≡ 0 = omega (arith, over) in
+    are
+    ∙ ap (λ j. take k list ++ replicate j []) none
+    ∙ append-nil (take k list)
+    ∙ take_all k list (omega (arith, size, over))
 
 -- one more entry of a list stands last in a row
 pub put_next : (rows now more : List (List Entry)) (v i : ℕ) (es : List Entry) (d : Entry) → 1 ≤ v → v ≤ length rows → i < length es → now ≡ set rows (v - 1) (label_row rows v ++ take i es) → more ≡ with_entry now v (get_or es i d) → more ≡ set rows (v - 1) (label_row rows v ++ take (i + 1) es)
@@ -125,3 +134,11 @@ wide_gains narrow wide rows wider v e is same from_one within gains =
     ∙ parts-set (narrow_lists narrow) wide (v - 1) n (ws ++ e ∷ [])
     ∙ ap (λ rs. set rs (v - 1) (row_of_parts n (ws ++ e ∷ []))) is
     ∙ ap (set rows (v - 1)) (sym (append_assoc (map (λ x. widened x) n) ws (e ∷ [])) ∙ ap (λ row. row ++ e ∷ []) before)
+
+-- two parts become a row
+pub both_put : (narrow : List (Vec NarrowEntry Global)) (wide rows wider : List (List Entry)) (i : ℕ) (row : Vec NarrowEntry Global) (entries : List Entry) → rows_of_parts (narrow_lists narrow) wide ≡ rows → wider ≡ set wide i entries → rows_of_parts (narrow_lists (set narrow i row)) wider ≡ set rows i (row_of_parts row.items entries)
+both_put narrow wide rows wider i row entries is wider_is =
+    ap (rows_of_parts (narrow_lists (set narrow i row))) wider_is
+    ∙ ap (λ ns. rows_of_parts ns (set wide i entries)) (map-set (λ (r : Vec NarrowEntry Global). r.items) narrow i row)
+    ∙ parts-set (narrow_lists narrow) wide i row.items entries
+    ∙ ap (λ rs. set rs i (row_of_parts row.items entries)) is

@@ -1,7 +1,7 @@
 -- Rows of entries, as lists, and one more entry in one of them.
 use Rattle.std.specs.Prelude.{Vec}
 use Rattle.std.proofs.Common.{◌≡◌, ℕ, ◌<◌, List, [], ◌∷◌, ◌++◌, length, map, get_or, set, sym, ap, ◌∙◌, Global}
-use Rattle.std.proofs.lemmas.List.{map-set, get_or-map}
+use Rattle.std.proofs.lemmas.List.{map-set, get_or-map, set-get_or}
 use Rattle.std.proofs.Math.Seq.{map-set_same}
 use Rattle.walk_laws.specs.declared.entry.Entry.{Entry}
 
@@ -22,3 +22,7 @@ items_of-gain rows i old row e within is gains =
 pub items_of-same : (rows : List (Vec Entry Global)) (i : ℕ) (old row : Vec Entry Global) → old ≡ get_or rows i old → row.items ≡ old.items → items_of (set rows i row) ≡ items_of rows
 items_of-same rows i old row is same =
     map-set_same (λ (r : Vec Entry Global). r.items) rows i row old (same ∙ ap (λ (r : Vec Entry Global). r.items) is)
+
+-- an empty row gives way to an empty one
+pub empty_put : (rows : List (List Entry)) (i : ℕ) (row : List Entry) → row ≡ [] → get_or rows i [] ≡ [] → rows ≡ set rows i row
+empty_put rows i row none was = sym (ap (set rows i) (none ∙ sym was) ∙ set-get_or rows i [])

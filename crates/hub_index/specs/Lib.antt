@@ -7,3 +7,4 @@ pub mod Touched
 pub mod Views
 pub mod NarrowRows
 pub mod PlainRows
+pub mod Stripes

@@ -1,17 +1,20 @@
 //! Label rows as they are gathered, and the index: a ranking with a well formed row of hubs for each node.
 //!
 //! A [`RowList`] has a row of entries for each of the nodes 1..n, to which entries are pushed; [`SplitRows`] are such rows in
-//! which most entries take half the room, and [`FromLast`] gives those of one row from the last one on. A [`RootTable`] has
-//! the least distances of a row by position, by which entries of another row are seen to cover. A [`RowView`] is what one
-//! worker sees of rows while it grows trees, [`PlainRows`] being that of one thread over split rows, and a [`Row`] is one row,
-//! to which entries are offered. An [`EntrySink`] takes what one worker puts, in any order, and [`gather`] makes rows of what
-//! many put. An [`Index`] is a ranking with its rows, and keeps that they are well formed; so is a [`SplitIndex`], over split
-//! rows, and [`IndexRows`] are the rows of either, lent. `laws` has the law that canonical hub labellings are well formed.
+//! which most entries take half the room, and [`FromLast`] gives those of one row from the last one on. [`Stripes`] says how
+//! the nodes are dealt to stripes, each of them split rows of its own that one worker may write, and [`StripedRows`] are the
+//! rows of all stripes, lent as one table. A [`RootTable`] has the least distances of a row by position, by which entries of
+//! another row are seen to cover. A [`RowView`] is what one worker sees of rows while it grows trees, [`PlainRows`] being
+//! that of one thread over split rows, and a [`Row`] is one row, to which entries are offered. An [`EntrySink`] takes what
+//! one worker puts, in any order, and [`gather`] makes rows of what many put. An [`Index`] is a ranking with its rows, and
+//! keeps that they are well formed; so is a [`SplitIndex`], over split rows, and [`IndexRows`] are the rows of either, lent.
+//! `laws` has the law that canonical hub labellings are well formed.
 //! It stands on walk_laws (`Entry`, `label_row`) and rank_table (`Ranking`). Its callers' clauses use `specs/HubIndex`
 //! (`HubIndex`, `with_entry`), `specs/WellFormed` (`IsWellFormed`, `IsWellFormedRow`, `own_entry`), `specs/RootDistances`
 //! (`root_distance`, `noted`, `IsCover`, `HoldsRow`), `specs/Views` (`IsNode`, `IsFound`, `IsFoundOnward`, `IsAnswerOf`,
-//! `with_put`), `specs/NarrowRows` (`row_of_parts`, `rows_of_parts`), `specs/Sunk` (`sunk_at`, `entries_of_node`) and
-//! `specs/PlainRows` (`IsGathered`).
+//! `with_put`), `specs/NarrowRows` (`row_of_parts`, `rows_of_parts`), `specs/Sunk` (`sunk_at`, `entries_of_node`),
+//! `specs/PlainRows` (`IsGathered`) and `specs/Stripes` (`stripe_number`, `stripe_place`, `node_at`, `stripe_size`,
+//! `AreStripes`, `stripe_of`, `striped_rows`), of which `proofs/DealtNodes` and `proofs/RowsInStripes` have the laws.
 #![tactic(auto)]
 
 mod entry_sink;
@@ -28,6 +31,8 @@ mod row_list;
 mod row_view;
 mod split_index;
 mod split_rows;
+mod striped_rows;
+mod stripes;
 mod wide_rows;
 
 pub use entry_sink::{EntrySink, NodeEntry};
@@ -43,4 +48,6 @@ pub use row_list::RowList;
 pub use row_view::{Offer, RowView};
 pub use split_index::SplitIndex;
 pub use split_rows::SplitRows;
+pub use striped_rows::StripedRows;
+pub use stripes::Stripes;
 pub use walk_laws::Entry;

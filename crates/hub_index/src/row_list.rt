@@ -114,4 +114,13 @@ impl RowList {
         self.rows[v as usize - 1].push(entry)?;
         Ok(())
     }
+
+    /// Makes these entries the row of the node `v`, a number from 1. It takes no memory.
+    pub(crate) fn put_row(&mut self, v: u32, row: Vec<Entry>)
+        requires node { 1 ≤ v }
+        requires within { v ≤ length self.old }
+        ensures { self.new ≡ slice_set self.old (v - 1) row.items }
+    {
+        self.rows[v as usize - 1] = row;
+    }
 }

@@ -1,12 +1,13 @@
 //! The rows of a graph's nodes, split at the first entry whose distance doesn't fit in half the room.
-ghost use Rattle.std.specs.Prelude.{◌≡◌, ◌-◌, ◌^◌, ◌<◌, ◌≤◌, [], ◌++◌, All, Contains, length, map, replicate, reverse, slice_set, vec_len, IfOk, IfSome, IfNone, OnOk, OnErr};
+ghost use Rattle.std.specs.Prelude.{◌≡◌, ◌≢◌, ℕ, ◌-◌, ◌^◌, ◌<◌, ◌≤◌, [], ◌++◌, All, Contains, length, map, replicate, reverse, slice_set, vec_len, IfOk, IfSome, IfNone, OnOk, OnErr};
 ghost use Rattle.walk_laws.specs.declared.entry.Entry.{Entry as AnEntry};
 ghost use Rattle.walk_laws.specs.Labelling.{label_row};
 ghost use Rattle.hub_index.specs.HubIndex.{with_entry};
-ghost use Rattle.hub_index.specs.NarrowRows.{rows_of_parts};
+ghost use Rattle.hub_index.specs.NarrowRows.{row_of_parts, rows_of_parts};
+ghost use Rattle.hub_index.specs.Stripes.{AreStripes, node_at, stripe_count, stripe_number, stripe_of, stripe_size, striped_rows};
 ghost use Rattle.hub_index.specs.WellFormed.{IsWellFormed};
 ghost use Rattle.hub_index.specs.RootDistances.{noted, IsCover, HoldsRow};
-ghost use Rattle.hub_index.specs.Views.{IsAnswerOf, with_put};
+ghost use Rattle.hub_index.specs.Views.{IsNode, IsAnswerOf, with_put};
 
 use crate::from_last::FromLast;
 use crate::index_rows::IndexRows;
@@ -14,6 +15,7 @@ use crate::narrow_row::{NarrowEntry, joined_parts, narrow_cover, note_parts};
 use crate::root_table::{RootTable, covered};
 use crate::row_list::RowList;
 use crate::row_view::Offer;
+use crate::stripes::Stripes;
 use crate::wide_rows::WideRows;
 use rank_table::Ranking;
 use std::alloc::{AllocError, Global};
@@ -49,9 +51,17 @@ impl SplitRows {
     pub fn new(alloc: Global, n: u32) -> Result<SplitRows, AllocError>
         ensures { IfOk result (λ rows. rows ≡ replicate n []) }
     {
+        SplitRows::with_room(alloc, n, FIRST_ROOM)
+    }
+
+    /// An empty row for each of the nodes 1..n, with room for so many entries of 8 bytes. The only error is that memory ran
+    /// out.
+    fn with_room(alloc: Global, n: u32, room: usize) -> Result<SplitRows, AllocError>
+        ensures { IfOk result (λ rows. rows ≡ replicate n []) }
+    {
         let mut narrow = Vec::with_capacity(alloc, n as usize)?;
         for _ in 0..n {
-            narrow.push(Vec::with_capacity(alloc, FIRST_ROOM)?)?;
+            narrow.push(Vec::with_capacity(alloc, room)?)?;
         }
         let wide = WideRows::new(alloc, n)?;
         Ok(SplitRows { narrow, wide })
@@ -89,6 +99,75 @@ impl SplitRows {
             rows.push_all(k + 1, list.row(k + 1))?;
         }
         Ok(rows)
+    }
+
+    /// The rows that a list has of the nodes of one stripe, each at its place there, with most entries in half the room. The
+    /// stripes count from 0. The only error is that memory ran out.
+    pub fn of_stripe(
+        alloc: Global,
+        list: &RowList,
+        dealt: Stripes,
+        number: u32,
+    ) -> Result<SplitRows, AllocError>
+        requires shift { dealt.shift ≤ 30 }
+        requires number { number < stripe_count dealt.shift (length list.now) }
+        ensures { IfOk result (λ rows. rows ≡ stripe_of dealt.shift number list.now) }
+    {
+        let size = dealt.size(list.n(), number);
+        let mut rows = SplitRows::new(alloc, size)?;
+        for k in 0..size {
+            rows.push_all(k + 1, list.row(dealt.node(number, k + 1)))?;
+        }
+        Ok(rows)
+    }
+
+    /// The rows of the nodes 1..n, which lie in stripes, in one table. They are moved, and no entry is copied. The only error
+    /// is that memory ran out.
+    pub fn of_stripes(
+        alloc: Global,
+        mut stripes: Vec<SplitRows>,
+        dealt: Stripes,
+        n: u32,
+    ) -> Result<SplitRows, AllocError>
+        requires { AreStripes dealt.shift n stripes.items }
+        ensures { IfOk result (λ rows. rows ≡ striped_rows dealt.shift n stripes.items) }
+    {
+        let mut rows = SplitRows::with_room(alloc, n, 0)?;
+        while let Some(stripe) = stripes.pop() {
+            rows.take_stripe(stripe, dealt, stripes.len() as u32);
+        }
+        Ok(rows)
+    }
+
+    /// Makes the rows of a stripe those of its nodes, and leaves the rows of all others. It takes no memory.
+    fn take_stripe(&mut self, stripe: SplitRows, dealt: Stripes, number: u32)
+        requires shift { dealt.shift ≤ 30 }
+        requires nodes { length self.old < 2 ^ 32 }
+        requires size { length stripe ≡ stripe_size dealt.shift (length self.old) number }
+        ensures size { length self.new ≡ length self.old }
+        ensures taken { (place : ℕ) → IsNode (length stripe) place → label_row self.new (node_at dealt.shift number place) ≡ label_row stripe place }
+        ensures others { (v : ℕ) → 1 ≤ v → stripe_number dealt.shift v ≢ number → label_row self.new v ≡ label_row self.old v }
+    {
+        let SplitRows { narrow, wide } = stripe;
+        let mut wide = wide.into_list().into_rows().into_iter();
+        let mut place = 0;
+        for narrow in narrow {
+            let Some(wide) = wide.next() else {
+                unreachable!();
+            };
+            place += 1;
+            self.put_row(dealt.node(number, place), narrow, wide);
+        }
+    }
+
+    /// Makes these two parts the row of the node `v`, a number from 1. It takes no memory.
+    fn put_row(&mut self, v: u32, narrow: Vec<NarrowEntry>, wide: Vec<Entry>)
+        requires node { 1 ≤ v }
+        requires within { v ≤ length self.old }
+        ensures { self.new ≡ slice_set self.old (v - 1) (row_of_parts narrow.items wide.items) }
+    {
+        self.narrow[v as usize - 1] = narrow;
+        self.wide.put_row(v, wide);
     }
 
     /// Puts the entries of another row last in the row of the node `v`, a number from 1, in their order. The only error is

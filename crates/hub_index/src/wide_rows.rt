@@ -1,5 +1,5 @@
 //! Rows that are nearly always all empty.
-ghost use Rattle.std.specs.Prelude.{◌≡◌, ◌≤◌, [], length, map, replicate, IfOk, OnOk, OnErr};
+ghost use Rattle.std.specs.Prelude.{◌≡◌, ◌-◌, ◌≤◌, [], length, map, replicate, slice_set, IfOk, OnOk, OnErr};
 ghost use Rattle.walk_laws.specs.Labelling.{label_row};
 ghost use Rattle.hub_index.specs.HubIndex.{with_entry};
 
@@ -62,6 +62,18 @@ impl WideRows {
         self.rows.push(v, entry)?;
         self.any = true;
         Ok(())
+    }
+
+    /// Makes these entries the row of the node `v`, a number from 1. It takes no memory.
+    pub fn put_row(&mut self, v: u32, row: Vec<Entry>)
+        requires node { 1 ≤ v }
+        requires within { v ≤ length self.old }
+        ensures { self.new ≡ slice_set self.old (v - 1) row.items }
+    {
+        if self.any || !row.is_empty() {
+            self.rows.put_row(v, row);
+            self.any = true;
+        }
     }
 
     /// These rows. It takes no memory.

@@ -1,5 +1,5 @@
 -- In tables that hold every hub up to a position, exactly the hubs' entries are not needless.
-use Rattle.std.proofs.Common.{◌≡◌, ◌↔◌, ℕ, ◌<◌, ◌≤◌, List, [], ◌++◌, Contains, length, map, refl, sym, subst, ◌∙◌, inl, inr, arith}
+use Rattle.std.proofs.Common.{◌≡◌, ◌↔◌, ℕ, ◌+◌, ◌<◌, ◌≤◌, List, [], ◌++◌, Contains, length, map, refl, sym, ap, subst, ◌∙◌, inl, inr, arith}
 use Rattle.std.specs.Prelude.{Some, slice_get, Result, Ok, Err, IfOk}
 use Rattle.std.specs.List.Sorted.{IsStrictlyIncreasing}
 use Rattle.std.proofs.lemmas.List.Elements.{All-contains, Contains-append_left, Contains-append_right, Contains-append_cases}
@@ -32,6 +32,15 @@ module _ (at : List ℕ) (ranking : IsRanking at) where
       let node = ranking.node p 0 (slice_get_within at p h is) in
       subst (λ y. (1 ≤ y) × (y ≤ length at)) (get_or_from_slice_get at p h 0 is) node
 
+  -- no two entries that may stand in the rows of a node and of its hub, at a place above the hub, are together as short as the hub's own
+  pub hub_uncovered : (edges : List Edge) (h v : ℕ) (e x y : Entry) → slice_get at e.pos ≡ Some h → IsHubEntry (Joined edges) at v e → EntryFits (Joined edges) at h x → EntryFits (Joined edges) at v y → x.pos ≡ y.pos → x.pos < e.pos → x.dist + y.dist ≤ e.dist → ⊥
+  hub_uncovered edges h v e x y hub_is hub to_hub to_node shared above short =
+      let is_hub : IsCanonical (Joined edges) at h v e.dist = subst (λ u. IsCanonical (Joined edges) at u v e.dist) (same_Some hub.0 h (sym hub.1 ∙ hub_is)) hub.2 in
+      let one : to_node.walk.0 ≡ to_hub.walk.0 = same_Some to_node.walk.0 to_hub.walk.0 (sym to_node.walk.1 ∙ ap (slice_get at) (sym shared) ∙ to_hub.walk.1) in
+      let on_to_node : HasWalk (Joined edges) to_hub.walk.0 v y.dist = subst (λ u. HasWalk (Joined edges) u v y.dist) one to_node.walk.2 in
+      let higher : RanksAbove at to_hub.walk.0 h = omega (arith, hub_place x.pos to_hub.walk.0 to_hub.walk.1, hub_place e.pos h hub_is, above) in
+      IsCanonical-no_cover (Joined edges) at (Joined-sym edges) h v to_hub.walk.0 e.dist x.dist y.dist is_hub higher to_hub.walk.2 on_to_node short
+
   -- tables with more entries make as much needless
   pub IsNeedless-more : (global raw others later : List (List Entry)) → ((v : ℕ) → 1 ≤ v → v ≤ length at → (e : Entry) → Contains (both_rows global raw v) e → Contains (both_rows others later v) e) → (v : ℕ) → 1 ≤ v → v ≤ length at → (e : Entry) → IsNeedless at global raw v e → IsNeedless at others later v e
   IsNeedless-more global raw others later more v from_one up_to_n e n =
@@ -51,13 +60,9 @@ module _ (at : List ℕ) (ranking : IsRanking at) where
         let a = n.covered.shared.before in
         let b = n.covered.shared.after in
         let node = hub_node e.pos h n.hub_is in
-        let is_hub : IsCanonical (Joined edges) at h v e.dist = subst (λ x. IsCanonical (Joined edges) at x v e.dist) (same_Some hub.0 h (sym hub.1 ∙ n.hub_is)) hub.2 in
-        let to_hub : EntryFits (Joined edges) at h (entry q a) = All-contains (EntryFits (Joined edges) at h) (both_rows global raw h) (entry q a) (holds.fit h node.0 node.1) n.covered.shared.in_first in
-        let to_node : EntryFits (Joined edges) at v (entry q b) = All-contains (EntryFits (Joined edges) at v) (both_rows global raw v) (entry q b) (holds.fit v from_one up_to_n) n.covered.shared.in_second in
-        let one : to_node.walk.0 ≡ to_hub.walk.0 = same_Some to_node.walk.0 to_hub.walk.0 (sym to_node.walk.1 ∙ to_hub.walk.1) in
-        let on_to_node : HasWalk (Joined edges) to_hub.walk.0 v b = subst (λ x. HasWalk (Joined edges) x v b) one to_node.walk.2 in
-        let above : RanksAbove at to_hub.walk.0 h = omega (arith, hub_place q to_hub.walk.0 to_hub.walk.1, hub_place e.pos h n.hub_is, n.covered.above) in
-        IsCanonical-no_cover (Joined edges) at (Joined-sym edges) h v to_hub.walk.0 e.dist a b is_hub above to_hub.walk.2 on_to_node (omega (arith, n.covered.shared.long, n.covered.short))
+        let to_hub = All-contains (EntryFits (Joined edges) at h) (both_rows global raw h) (entry q a) (holds.fit h node.0 node.1) n.covered.shared.in_first in
+        let to_node = All-contains (EntryFits (Joined edges) at v) (both_rows global raw v) (entry q b) (holds.fit v from_one up_to_n) n.covered.shared.in_second in
+        hub_uncovered edges h v e (entry q a) (entry q b) n.hub_is hub to_hub to_node refl n.covered.above (omega (arith, n.covered.shared.long, n.covered.short))
 
     cover_stands : (e : Entry) (h : ℕ) → slice_get at e.pos ≡ Some h → e.pos < c → CoveringHub (Joined edges) at h v e.dist → IsNeedless at global raw v e
     cover_stands e h is below cover =

@@ -19,7 +19,7 @@ use Rattle.label_clean.proofs.RowFacts.{one_place}
 use Rattle.label_clean.proofs.Cleaned.{surviving_hubs}
 
 -- two rising rows, one after the other
-Rises-append : (xs ys : List Entry) → Rises pos_of xs → Rises pos_of ys → ((e f : Entry) → Contains xs e → Contains ys f → e.pos < f.pos) → Rises pos_of (xs ++ ys)
+pub Rises-append : (xs ys : List Entry) → Rises pos_of xs → Rises pos_of ys → ((e f : Entry) → Contains xs e → Contains ys f → e.pos < f.pos) → Rises pos_of (xs ++ ys)
 Rises-append [] ys up more below = more
 Rises-append (x ∷ xs) ys up more below =
     AllPairs-cons (λ a b. a < b) x.pos (map pos_of (xs ++ ys))

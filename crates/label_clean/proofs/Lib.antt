@@ -7,7 +7,7 @@ pub mod KeptEntries
 pub mod GoneOn
 pub mod RowItems
 pub mod KeptRows
-pub mod GoneOnWith
+pub mod JoinedRows
 pub mod Meetings
 pub mod ListedRuns
 pub mod LateParts
@@ -16,3 +16,4 @@ pub mod TakenRuns
 pub mod RowEnds
 pub mod RunOrder
 pub mod JoinedLists
+pub mod GatheredHubs

@@ -1,5 +1,5 @@
 -- The last entry of a row, which comes first from the last one on.
-use Rattle.std.proofs.Common.{◌≡◌, ◌↔◌, ℕ, ◌<◌, List, [], ◌∷◌, ◌++◌, reverse, sym, ap, subst, ◌∙◌}
+use Rattle.std.proofs.Common.{◌≡◌, ◌↔◌, ℕ, ◌<◌, List, [], ◌∷◌, reverse, sym, ap, subst, ◌∙◌}
 use Rattle.std.proofs.lemmas.List.{reverse-append, reverse-reverse}
 use Rattle.walk_laws.specs.declared.entry.Entry.{Entry}
 use Rattle.label_clean.specs.RootRuns.{EndsBelow}

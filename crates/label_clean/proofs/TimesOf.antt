@@ -1,4 +1,4 @@
--- Which entries of a list are a node's, how often one stands there, and what stands in lists that are joined.
+-- Which entries of a list are a node's, how often a position stands among entries, and what stands in lists that are joined.
 use Rattle.std.proofs.Common.{◌≡◌, ◌≢◌, ℕ, ◌+◌, ◌≤◌, eqb, ◌==◌, if◌then◌else◌, inl, inr, List, [], ◌∷◌, ◌++◌, Contains, map, flat_map, refl, sym, ap, subst, ◌∙◌, arith}
 use Rattle.std.specs.List.{sum_by}
 use Rattle.std.proofs.lemmas.Bool.{eq-eqb, ne_eqb}
@@ -13,7 +13,6 @@ use Rattle.hub_index.specs.declared.entry_sink.NodeEntry.{NodeEntry}
 use Rattle.hub_index.specs.Sunk.{entries_of_node, entry_if, entry_of}
 use Rattle.hub_index.proofs.GatheredRows.{entries_of_node-append, entries_of_node-one, entry_if-same, entry_if-other}
 use Rattle.label_clean.specs.RawRows.{HasEachOnce}
-use Rattle.label_clean.specs.RootRuns.{times}
 use Rattle.label_clean.proofs.Covering.{pos_of}
 use Rattle.label_clean.proofs.RowFacts.{first_apart}
 
@@ -67,7 +66,7 @@ module _ (q : ℕ) where
   none_there (e ∷ es) apart = omega (arith, sum_by-cons (one_if q) e es, off_pos e (apart e (Contains-first e es)), none_there es (λ f h. apart f (Contains-next e f es h)))
 
   -- no two entries of one position: there is one at most
-  at_most_one : (es : List Entry) → HasEachOnce es → sum_by (one_if q) es ≤ 1
+  pub at_most_one : (es : List Entry) → HasEachOnce es → sum_by (one_if q) es ≤ 1
   at_most_one [] once = omega arith
   at_most_one (e ∷ es) once = elim (eqb_tells e.pos q) [
     | inl is ↦
@@ -78,27 +77,18 @@ module _ (q : ℕ) where
         omega (arith, sum_by-cons (one_if q) e es, off_pos e other.1, rest)
   ]
 
-  at_least_one : (es : List Entry) (x : Entry) → Contains es x → x.pos ≡ q → 1 ≤ sum_by (one_if q) es
+  pub at_least_one : (es : List Entry) (x : Entry) → Contains es x → x.pos ≡ q → 1 ≤ sum_by (one_if q) es
   at_least_one [] x there is = absurd (Contains-empty x there)
   at_least_one (e ∷ es) x there is = elim (Contains-cons_cases e x es there) [
     | inl same ↦ omega (arith, sum_by-cons (one_if q) e es, at_pos e (ap pos_of same ∙ is))
     | inr later ↦ omega (arith, sum_by-cons (one_if q) e es, at_least_one es x later is)
   ]
 
-module _ (v q : ℕ) where
-  pub times-append : (xs ys : List NodeEntry) → times v q (xs ++ ys) ≡ times v q xs + times v q ys
-  times-append xs ys = ap (sum_by (one_if q)) (entries_of_node-append xs ys v) ∙ sum_by-append (one_if q) (entries_of_node xs v) (entries_of_node ys v)
-
-  pub times-once : (es : List NodeEntry) → HasEachOnce (entries_of_node es v) → times v q es ≤ 1
-  times-once es once = at_most_one q (entries_of_node es v) once
-
-  pub times-some : (es : List NodeEntry) (x : NodeEntry) → Contains es x → x.node ≡ v → x.pos ≡ q → 1 ≤ times v q es
-  times-some es x there node is = at_least_one q (entries_of_node es v) (entry_of x) (subst (λ u. Contains (entries_of_node es u) (entry_of x)) node (to_node es x there)) is
-
-  pub times-flat_map : {X : Type 0} (g : X → List NodeEntry) (xs : List X) → times v q (flat_map g xs) ≡ sum_by (λ x. times v q (g x)) xs
-  times-flat_map g [] = refl
-  times-flat_map g (x ∷ xs) =
-      ap (times v q) (flat_map-cons g x xs) ∙ times-append (g x) (flat_map g xs) ∙ ap (λ k. times v q (g x) + k) (times-flat_map g xs) ∙ sym (sum_by-cons (λ x. times v q (g x)) x xs)
+-- how often a position stands in lists that are joined
+pub times-joined : {X : Type 0} (q : ℕ) (f : X → List Entry) (xs : List X) → sum_by (one_if q) (flat_map f xs) ≡ sum_by (λ x. sum_by (one_if q) (f x)) xs
+times-joined q f [] = refl
+times-joined q f (x ∷ xs) =
+    ap (sum_by (one_if q)) (flat_map-cons f x xs) ∙ sum_by-append (one_if q) (f x) (flat_map f xs) ∙ ap (λ k. sum_by (one_if q) (f x) + k) (times-joined q f xs) ∙ sym (sum_by-cons (λ x. sum_by (one_if q) (f x)) x xs)
 
 -- what stands in one of the lists that are joined
 module _ {X Y : Type 0} (g : X → List Y) where

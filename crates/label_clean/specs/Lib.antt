@@ -5,6 +5,7 @@ pub mod Kept
 pub mod Tested
 pub mod Below
 pub mod Laws
-pub mod Between
+pub mod Joining
+pub mod HubRows
 pub mod RootRuns
 pub mod RunLists

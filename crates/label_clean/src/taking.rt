@@ -1,77 +1,76 @@
 //! Rows that take later entries in, but for the needless ones.
-ghost use Rattle.std.specs.Prelude.{◌≡◌, ◌↔◌, ℕ, ◌++◌, ◌<◌, ◌≤◌, All, List, Contains, length, map, IsTrue, OnOk};
+ghost use Rattle.std.specs.Prelude.{◌≡◌, ◌↔◌, ℕ, ◌+◌, ◌++◌, ◌<◌, ◌≤◌, All, List, Contains, length, map, IsTrue, OnOk};
 ghost use Rattle.std.specs.List.Sorted.{IsStrictlyIncreasing};
 ghost use Rattle.walk_laws.specs.declared.entry.Entry.{Entry as AnEntry};
 ghost use Rattle.walk_laws.specs.declared.graph.Edge.{Edge as AnEdge};
 ghost use Rattle.walk_laws.specs.Labelling.{label_row};
-ghost use Rattle.hub_index.specs.declared.entry_sink.NodeEntry.{NodeEntry as ANodeEntry};
+ghost use Rattle.hub_index.specs.Sunk.{entries_of_node};
 ghost use Rattle.hub_index.specs.Views.{GoesOnFrom, IsNode};
+ghost use Rattle.label_clean.specs.Below.{IsRowBelow};
+ghost use Rattle.label_clean.specs.Joining.{JoinsRow, JoinsUnder};
 ghost use Rattle.label_clean.specs.Tested.{IsCovering};
-ghost use Rattle.label_clean.specs.RootRuns.{EndsBelow, GoesOn, HaveHubs, IsLatePart, IsNext};
+ghost use Rattle.label_clean.specs.RootRuns.{EndsBelow, HasHubs, JoinsNext};
 ghost use Rattle.label_clean.specs.RunLists.{HasItsRuns, all_entries};
 
 use crate::cover::covers;
+use crate::hub_rows::HubRows;
 use crate::runs::RunList;
 use crate::turns::{Turn, entries_in_turn, list_turns};
 use hub_index::{NodeEntry, SplitRows};
-use rank_table::Ranking;
 use std::alloc::AllocError;
 use walk_laws::Entry;
 
-/// Puts the entries of all lists after the rows of their nodes, run by run by rising position, but for those that rows cover by
-/// then with entries from the position `first` on. What `turns` and `hub_row` had is of no use and goes. The only error is that
-/// memory ran out.
+/// Puts the entries of all lists after their rows, run by run by rising position, but for those that are covered by then by entries
+/// of the row from the first position of `hub_rows` on and the row of the root there. The node of an entry is the number of its
+/// row, from 1. What `turns` had is of no use and goes. The only error is that memory ran out.
 pub fn take_in(
-    ranking: &Ranking,
-    first: u32,
+    hub_rows: &HubRows,
     lists: &[RunList],
     turns: &mut Vec<Turn>,
-    hub_row: &mut Vec<Entry>,
     rows: &mut SplitRows,
 ) -> Result<(), AllocError>
-    requires rows { length rows.old ≡ length ranking.now }
     requires runs { All HasItsRuns lists.now }
-    requires nodes { All (λ e. IsNode (length ranking.now) e.node) (all_entries lists.now) }
-    requires within { All (λ e. e.pos < length ranking.now) (all_entries lists.now) }
-    ensures rows { length rows.new ≡ length rows.old }
-    ensures stays { OnOk result ((v : ℕ) → IsNode (length ranking.now) v → GoesOnFrom (label_row rows.old v) (label_row rows.new v)) }
-    ensures hubs { OnOk result ((edges : List AnEdge) (c : ℕ) → GoesOn edges ranking.now first c rows.old (all_entries lists.now)
-        → HaveHubs edges ranking.now rows.old (all_entries lists.now) rows.new) }
+    requires nodes { All (λ e. IsNode (length rows.old) e.node) (all_entries lists.now) }
+    requires from { All (λ e. hub_rows.now.first ≤ e.pos) (all_entries lists.now) }
+    requires within { All (λ e. e.pos < hub_rows.now.first + length hub_rows.now.rows) (all_entries lists.now) }
+    ensures size { length rows.new ≡ length rows.old }
+    ensures stays { OnOk result ((k : ℕ) → IsNode (length rows.old) k → GoesOnFrom (label_row rows.old k) (label_row rows.new k)) }
+    ensures rows { OnOk result ((edges : List AnEdge) (at : List ℕ) (c k v : ℕ) → IsNode (length rows.old) k
+        → JoinsUnder edges at hub_rows.now.first c hub_rows.now.rows v → IsRowBelow edges at hub_rows.now.first v (label_row rows.old k)
+        → JoinsRow edges at hub_rows.now.first c v (entries_of_node (all_entries lists.now) k) → IsRowBelow edges at c v (label_row rows.new k)) }
 {
     list_turns(lists, turns)?;
+    let first = hub_rows.first();
     for turn in turns.iter() {
+        let pos = turn.run.pos;
         let part = entries_in_turn(lists, turn);
-        take_run(ranking, first, turn.run.pos, part, hub_row, rows)?;
+        take_run(first, pos, hub_rows.row(pos), part, rows)?;
     }
     Ok(())
 }
 
-/// Puts the entries of a run of the root at the position `pos`, from 0, after the rows of their nodes, but for those that entries
-/// from the position `first` on cover in the rows of the root and of the node. Those of the root's row are gathered in `hub_row`,
-/// whatever it had. Rows with entries of higher roots alone end below the position; where one doesn't, the run is left out. The only
-/// error is that memory ran out.
+/// Puts the entries of a run of the root at the position `pos`, from 0, after their rows, but for those that are covered by entries
+/// of the row from the position `first` on and `hub_row`, the late row of the root. Rows with entries of higher roots alone end
+/// below the position; where some row doesn't, its entries are left out. The only error is that memory ran out.
 fn take_run(
-    ranking: &Ranking,
     first: u32,
     pos: u32,
+    hub_row: &[Entry],
     run: &[NodeEntry],
-    hub_row: &mut Vec<Entry>,
     rows: &mut SplitRows,
 ) -> Result<(), AllocError>
-    requires rows { length rows.old ≡ length ranking.now }
-    requires nodes { All (λ e. IsNode (length ranking.now) e.node) run.now }
-    requires position { pos < length ranking.now }
-    ensures rows { length rows.new ≡ length rows.old }
-    ensures stays { OnOk result ((v : ℕ) → IsNode (length ranking.now) v → GoesOnFrom (label_row rows.old v) (label_row rows.new v)) }
-    ensures hubs { OnOk result ((edges : List AnEdge) (c : ℕ) (global : List (List AnEntry)) (entries done : List ANodeEntry)
-        → GoesOn edges ranking.now first c global entries → IsNext pos entries done run.now
-        → HaveHubs edges ranking.now global done rows.old → HaveHubs edges ranking.now global (done ++ run.now) rows.new) }
+    requires { All (λ e. IsNode (length rows.old) e.node) run.now }
+    ensures size { length rows.new ≡ length rows.old }
+    ensures stays { OnOk result ((k : ℕ) → IsNode (length rows.old) k → GoesOnFrom (label_row rows.old k) (label_row rows.new k)) }
+    ensures hubs { OnOk result ((edges : List AnEdge) (at : List ℕ) (c k v : ℕ) (before done more : List AnEntry) → IsNode (length rows.old) k
+        → JoinsNext edges at first c pos v hub_row.now before done (entries_of_node run.now k) more
+        → HasHubs edges at v before done (label_row rows.old k) → HasHubs edges at v before (done ++ entries_of_node run.now k) (label_row rows.new k)) }
 {
-    late_part(rows, ranking.at(pos), first, hub_row)?;
-    if !all_end_below(rows, run, pos) {
-        return Ok(());
-    }
+    let all = all_end_below(rows, run, pos);
     for entry in run {
+        if !all && !ends_below(rows, entry.node, pos) {
+            continue;
+        }
         if is_covered_late(rows, entry.node, first, hub_row, pos, entry.dist) {
             continue;
         }
@@ -80,10 +79,10 @@ fn take_run(
     Ok(())
 }
 
-/// Whether the row of each entry's node ends below the position `pos`, from 0. The entries are put one after another, and each
-/// put would wait until its row has come from memory. Here no row waits for another, so that many of them come at a time.
+/// Whether the row of each entry ends below the position `pos`, from 0. The entries are put one after another, and each put would
+/// wait until its row has come from memory. Here no row waits for another, so that many of them come at a time.
 fn all_end_below(rows: &SplitRows, run: &[NodeEntry], pos: u32) -> bool
-    requires nodes { All (λ e. IsNode (length rows.now) e.node) run.now }
+    requires { All (λ e. IsNode (length rows.now) e.node) run.now }
     ensures { IsTrue result ↔ All (λ e. EndsBelow pos (label_row rows.now e.node)) run.now }
 {
     for entry in run {
@@ -94,7 +93,7 @@ fn all_end_below(rows: &SplitRows, run: &[NodeEntry], pos: u32) -> bool
     true
 }
 
-/// Whether the row of the node `v`, a number from 1, ends below the position `pos`, from 0. An empty row does.
+/// Whether the row at the number `v`, from 1, ends below the position `pos`, from 0. An empty row does.
 fn ends_below(rows: &SplitRows, v: u32, pos: u32) -> bool
     requires { IsNode (length rows.now) v }
     ensures { IsTrue result ↔ EndsBelow pos (label_row rows.now v) }
@@ -105,26 +104,9 @@ fn ends_below(rows: &SplitRows, v: u32, pos: u32) -> bool
     }
 }
 
-/// The entries of the row of the node `v`, a number from 1, from the position `first` on, by rising position, in the place of
-/// what `late` had. The only error is that memory ran out.
-fn late_part(rows: &SplitRows, v: u32, first: u32, late: &mut Vec<Entry>) -> Result<(), AllocError>
-    requires { IsNode (length rows.now) v }
-    ensures { OnOk result (IsStrictlyIncreasing (map (λ e. e.pos) (label_row rows.now v)) → IsLatePart first (label_row rows.now v) late.new.items) }
-{
-    late.clear();
-    for entry in rows.from_last(v) {
-        if entry.pos < first {
-            break;
-        }
-        late.push(entry)?;
-    }
-    late.sort_unstable_by_key(|e| e.pos);
-    Ok(())
-}
-
-/// Whether an entry of the node `v`, a number from 1, at the position `pos`, from 0, with the distance `dist` is covered by one
-/// of the node's row from the position `first` on and one of `hub_row`, the part of its hub's row from there on, by rising
-/// position. Where `hub_row` is empty the node's row is not looked at.
+/// Whether an entry of the row at the number `v`, from 1, at the position `pos`, from 0, with the distance `dist` is covered by one
+/// of that row from the position `first` on and one of `hub_row`, a row by rising position. Where `hub_row` is empty the row at
+/// `v` is not looked at.
 fn is_covered_late(
     rows: &SplitRows,
     v: u32,

@@ -12,7 +12,7 @@ ghost use Rattle.pool_view.specs.Viewing.{HasGained, HasVisited, IsPast, IsOffer
 use crate::chain::{covered_in_chain, note_chain};
 use crate::fits::Fits;
 use crate::puts::{OwnRows, Puts};
-use hub_index::{NodeEntry, Offer, RootTable, RowView, SplitRows};
+use hub_index::{NodeEntry, Offer, RootTable, RowView, StripedRows};
 use label_pool::{Pool, PoolPut, PoolSeat};
 use std::alloc::AllocError;
 use std::marker::Model;
@@ -28,7 +28,7 @@ use walk_laws::Entry;
 pub struct PoolView<'a, R: Wait> {
     rt: &'a R,
     pool: &'a Pool<Fits>,
-    global: &'a SplitRows,
+    global: StripedRows<'a>,
     seat: PoolSeat<Fits>,
     puts: Puts,
     /// Whether the seat drew past the last cell. Until then its own rows are empty.
@@ -43,9 +43,9 @@ impl<'a, R: Wait> Model for PoolView<'a, R> {
 
     ghost Value = { Viewing };
 
-    ghost view = { λ v. record { seat = v.seat; global = v.global.now; own = own_rows v.puts; list = all_put v.puts } };
+    ghost view = { λ v. record { seat = v.seat; global = v.global; own = own_rows v.puts; list = all_put v.puts } };
 
-    ghost invariant = { λ v. IsSeatOf v.pool.now v.seat × IsViewing (record { seat = v.seat; global = v.global.now; own = own_rows v.puts; list = all_put v.puts }) × IsOpen v.past v.seat v.puts × IsPooledBy v.seat v.puts };
+    ghost invariant = { λ v. IsSeatOf v.pool.now v.seat × IsViewing (record { seat = v.seat; global = v.global; own = own_rows v.puts; list = all_put v.puts }) × IsOpen v.past v.seat v.puts × IsPooledBy v.seat v.puts };
 }
 
 impl<'a, R: Wait> PoolView<'a, R> {
@@ -54,7 +54,7 @@ impl<'a, R: Wait> PoolView<'a, R> {
     pub fn new(
         rt: &'a R,
         pool: &'a Pool<Fits>,
-        global: &'a SplitRows,
+        global: StripedRows<'a>,
         seat: PoolSeat<Fits>,
         own: OwnRows,
         list: Vec<NodeEntry>,
@@ -64,11 +64,11 @@ impl<'a, R: Wait> PoolView<'a, R> {
         requires past { seat.past ≡ None }
         requires fresh { (seat.looks ≡ []) × (seat.marks ≡ []) }
         requires puts { seat.puts ≡ [] }
-        requires global { IsGathered (edges_of pool.now.fact) (order_of pool.now.fact) global.now }
-        requires own { own ≡ length global.now }
+        requires global { IsGathered (edges_of pool.now.fact) (order_of pool.now.fact) global }
+        requires own { own ≡ length global }
         requires list { list.items ≡ [] }
         ensures seat { result.seat ≡ seat }
-        ensures global { result.global ≡ global.now }
+        ensures global { result.global ≡ global.entry }
         ensures own { result.own ≡ replicate own [] }
         ensures list { result.list ≡ [] }
     {

@@ -1,3 +1,4 @@
 mod CleanedRows
+mod ListedEntries
 mod Rests
 mod TyingRows

@@ -1,1 +1,2 @@
 mod PlantOrders
+mod EmptyTables

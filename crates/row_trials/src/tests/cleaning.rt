@@ -1,11 +1,12 @@
-//! Cleaning of rows, and of tables that are gone on with.
-ghost use Rattle.std.specs.Prelude.{◌≡◌, ℕ, [], ◌∷◌, ◌++◌, All, IfOk};
+//! Cleaning of rows, and tables that later entries join.
+ghost use Rattle.std.specs.Prelude.{◌≡◌, ℕ, ◌-◌, ◌≤◌, [], ◌∷◌, ◌++◌, All, length, IfOk};
 ghost use Rattle.walk_laws.specs.Worked.{entry as entry_of};
+ghost use Rattle.hub_index.specs.Views.{IsNode};
 ghost use Rattle.label_clean.specs.RunLists.{HasItsRuns, all_entries};
 
 use super::{entry, one_to_four};
 use hub_index::{NodeEntry, RowList, SplitRows};
-use label_clean::{Cleaner, RunList, clean, survivors};
+use label_clean::{Cleaner, HubEntry, HubRows, RunList, clean, survivors};
 use rank_table::Ranking;
 use std::alloc::Global;
 use std::test::Fail;
@@ -166,21 +167,64 @@ fn fresh_entries(alloc: Global) -> Result<Vec<RunList>, Fail>
     two_lists(alloc, first, second)
 }
 
+/// Of the fresh entries those of roots that rank above the entry's node, each as one of the row of that node, which is a hub.
+fn late_entries(
+    alloc: Global,
+    ranking: &Ranking,
+    fresh: &[NodeEntry],
+) -> Result<Vec<HubEntry>, Fail>
+    requires { All (λ e. IsNode (length ranking.now) e.node) fresh.now }
+{
+    let mut late = Vec::new(alloc);
+    for entry in fresh {
+        let of = ranking.pos(entry.node);
+        if entry.pos < of {
+            late.push(HubEntry {
+                of,
+                entry: entry.entry(),
+            })?;
+        }
+    }
+    Ok(late)
+}
+
+/// The late rows of all hubs from the position `first` on, from 0, as the fresh entries of all lists have them.
+fn late_rows(
+    alloc: Global,
+    ranking: &Ranking,
+    first: u32,
+    lists: &[RunList],
+) -> Result<HubRows, Fail>
+    requires nodes { All (λ e. IsNode (length ranking.now) e.node) (all_entries lists.now) }
+    requires first { first ≤ length ranking.now }
+    ensures first { IfOk result (λ hubs. hubs.first ≡ first) }
+    ensures size { IfOk result (λ hubs. length hubs.rows ≡ length ranking.now - first) }
+{
+    let mut late = Vec::new(alloc);
+    for list in lists {
+        late.push(late_entries(alloc, ranking, list.entries.as_slice())?)?;
+    }
+    let mut hub_rows = HubRows::new(alloc);
+    hub_rows.gather(first, ranking.n(), late.as_slice())?;
+    Ok(hub_rows)
+}
+
 /// All of the fresh entries stay. Those of two roots stand in two lists each.
 #[test]
 fn a_table_is_gone_on_with_in_place(rt: HostRuntime) -> Result<(), Fail> {
     let ranking = one_to_four(rt.alloc())?;
     let first_rows = first_hub(rt.alloc())?;
-    let global = SplitRows::of(rt.alloc(), &first_rows)?;
+    let mut rows = SplitRows::of(rt.alloc(), &first_rows)?;
     let fresh = fresh_entries(rt.alloc())?;
+    let hub_rows = late_rows(rt.alloc(), &ranking, 1, fresh.as_slice())?;
     let table: [&[Entry]; 4] = [
         &[entry(0, 0)],
         &[entry(0, 1), entry(1, 0)],
         &[entry(0, 2), entry(1, 1), entry(2, 0)],
         &[entry(0, 1), entry(2, 1), entry(3, 0)],
     ];
-    let cleaner = Cleaner::new(rt.alloc());
-    let (rows, _cleaner) = cleaner.go_on(&ranking, global, 1, fresh.as_slice())?;
+    let mut cleaner = Cleaner::new(rt.alloc());
+    cleaner.join(&hub_rows, fresh.as_slice(), &mut rows)?;
     let rows = rows.into_rows(rt.alloc())?;
     assert_eq!(rt; rows.n(), 4);
     for (place, row) in table.iter().enumerate() {
@@ -220,16 +264,17 @@ fn all_fresh(alloc: Global) -> Result<Vec<RunList>, Fail>
 #[test]
 fn a_fresh_entry_covers_another(rt: HostRuntime) -> Result<(), Fail> {
     let ranking = one_to_four(rt.alloc())?;
-    let none = SplitRows::new(rt.alloc(), 4)?;
+    let mut rows = SplitRows::new(rt.alloc(), 4)?;
     let fresh = all_fresh(rt.alloc())?;
+    let hub_rows = late_rows(rt.alloc(), &ranking, 0, fresh.as_slice())?;
     let table: [&[Entry]; 4] = [
         &[entry(0, 0)],
         &[entry(0, 1), entry(1, 0)],
         &[entry(0, 2), entry(1, 1), entry(2, 0)],
         &[entry(0, 1), entry(2, 1), entry(3, 0)],
     ];
-    let cleaner = Cleaner::new(rt.alloc());
-    let (rows, _cleaner) = cleaner.go_on(&ranking, none, 0, fresh.as_slice())?;
+    let mut cleaner = Cleaner::new(rt.alloc());
+    cleaner.join(&hub_rows, fresh.as_slice(), &mut rows)?;
     let rows = rows.into_rows(rt.alloc())?;
     assert_eq!(rt; rows.n(), 4);
     for (place, row) in table.iter().enumerate() {

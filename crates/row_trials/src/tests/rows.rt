@@ -1,7 +1,12 @@
 //! Rows as they are gathered, and tables of their least distances.
+ghost use Rattle.std.specs.Prelude.{◌≡◌, [], ◌∷◌, IfOk};
+ghost use Rattle.walk_laws.specs.Worked.{entry as entry_of};
 
-use super::{one_to_four, square_graph};
-use hub_index::{Offer, PlainRows, RootTable, RowList, RowView, SplitRows, covered};
+use super::{entry, one_to_four, square_graph};
+use hub_index::{
+    Offer, PlainRows, RootTable, RowList, RowView, SplitRows, StripedRows, Stripes, covered,
+};
+use std::alloc::Global;
 use std::test::Fail;
 use walk_laws::Entry;
 
@@ -124,5 +129,55 @@ fn entries_of_both_widths_keep_their_order(rt: HostRuntime) -> Result<(), Fail> 
     assert_eq!(rt; rows.n(), 2);
     assert!(rt; rows.row(1).is_empty());
     assert_eq!(rt; rows.row(2), [last_narrow, first_wide, near].as_slice());
+    Ok(())
+}
+
+/// Rows of five nodes. All have the hub 1, each at another distance, and that of 5 doesn't fit in the half room.
+fn five_rows(alloc: Global) -> Result<RowList, Fail>
+    ensures { IfOk result (λ rows. rows ≡
+        (entry_of 0 0 ∷ [])
+        ∷ (entry_of 0 1 ∷ entry_of 1 0 ∷ [])
+        ∷ (entry_of 0 3 ∷ entry_of 1 2 ∷ entry_of 2 0 ∷ [])
+        ∷ (entry_of 0 5 ∷ [])
+        ∷ (entry_of 0 4294967296 ∷ entry_of 1 4294967295 ∷ []) ∷ []) }
+{
+    let first = vec![in alloc; entry(0, 0)]?;
+    let second = vec![in alloc; entry(0, 1), entry(1, 0)]?;
+    let third = vec![in alloc; entry(0, 3), entry(1, 2), entry(2, 0)]?;
+    let fourth = vec![in alloc; entry(0, 5)]?;
+    let fifth = vec![in alloc; entry(0, 4_294_967_296), entry(1, 4_294_967_295)]?;
+    let rows = vec![in alloc; first, second, third, fourth, fifth]?;
+    Ok(RowList::from_rows(rows))
+}
+
+/// The nodes 1 and 2 lie in the first stripe, 3 and 4 in the second, and 5 alone in the third. Their rows are the same where
+/// they are looked at in stripes, and where the stripes are put together.
+#[test]
+fn rows_in_three_stripes_are_those_of_the_table(rt: HostRuntime) -> Result<(), Fail> {
+    let dealt = Stripes { shift: 1 };
+    let list = five_rows(rt.alloc())?;
+    let first = SplitRows::of_stripe(rt.alloc(), &list, dealt, 0)?;
+    let second = SplitRows::of_stripe(rt.alloc(), &list, dealt, 1)?;
+    let third = SplitRows::of_stripe(rt.alloc(), &list, dealt, 2)?;
+    assert_eq!(rt; dealt.count(5), 3);
+    let stripes = vec![in rt.alloc(); first, second, third]?;
+    let striped = StripedRows::of(stripes.as_slice(), dealt, 5);
+    assert_eq!(rt; striped.n(), 5);
+    let mut table = RootTable::new(rt.alloc(), 3)?;
+    striped.note(3, &mut table);
+    assert_eq!(rt; table.get(0), Some(3));
+    assert_eq!(rt; table.get(1), Some(2));
+    assert_eq!(rt; table.get(2), Some(0));
+    for (place, dist) in [0, 1, 3, 5, 4_294_967_296].iter().enumerate() {
+        let v = place as u32 + 1;
+        let hub = entry(0, *dist);
+        assert_eq!(rt; striped.cover(v, &table, 1, *dist + 3), Some(hub), "{v}");
+        assert_eq!(rt; striped.cover(v, &table, 1, *dist + 2), None, "{v}");
+    }
+    let rows = SplitRows::of_stripes(rt.alloc(), stripes, dealt, 5)?.into_rows(rt.alloc())?;
+    assert_eq!(rt; rows.n(), 5);
+    for v in 1..6 {
+        assert_eq!(rt; rows.row(v), list.row(v), "{v}");
+    }
     Ok(())
 }

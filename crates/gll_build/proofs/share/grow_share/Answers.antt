@@ -1,5 +1,5 @@
-use Rattle.std.proofs.Common.{◌≡◌, ℕ, List, [], Vec, Global, All, length, sym, ap, subst, ◌∙◌}
-use Rattle.std.specs.Prelude.{IfOk, IsOk}
+use Rattle.std.proofs.Common.{◌≡◌, ℕ, List, [], All, length, sym, ap, subst, ◌∙◌}
+use Rattle.std.specs.Prelude.{IsOk}
 use Rattle.hub_index.specs.declared.entry_sink.NodeEntry.{NodeEntry}
 use Rattle.hub_index.specs.Sunk.{entries_of_node}
 use Rattle.hub_index.specs.Views.{IsNode}
@@ -7,9 +7,8 @@ use Rattle.label_pool.specs.Seats.{Seated}
 use Rattle.pool_view.specs.Fitting.{Fitting, order_of}
 use Rattle.pool_view.specs.Putting.{IsListOf}
 use Rattle.pool_view.specs.Viewing.{ViewKept, puts_row}
-use Rattle.label_clean.specs.RunLists.{HasItsRuns}
-use Rattle.gll_build.proofs.DoneShares.{grown_from_nothing, sufficed_by, where_both-first, where_both-second}
-use Rattle.gll_build.specs.Shares.{AreUncovered, HavePut}
+use Rattle.gll_build.proofs.DoneShares.{grown_from_nothing, listed_by, sufficed_by}
+use Rattle.gll_build.specs.Shares.{AreUncovered}
 use Rattle.gll_build.proofs.UncoveredPuts.{AreUncovered-from_nothing}
 use Rattle.gll_build.proofs.share.grow_share.Goals as goal
 
@@ -27,23 +26,17 @@ returns-clause-done g c =
     let grown =
     grown_from_nothing edges at (IsOk c.grow_trees-memory.result) c.args.share.seats.claims.got c.grow_trees-memory.new.seat.got (puts_row c.new-view.result) (puts_row c.grow_trees-memory.new.view) (λ v. entries_of_node c.into_parts-pool_seat.result.2.items v)
     c.grow_trees-memory.ensures.grown c.requires.new.got empty same in
-    let apart : (v : ℕ) → IsNode (length c.args.ground.now.ranking.now) v → AreUncovered c.args.ground.now.ranking.now c.args.ground.now.global.now v (entries_of_node c.into_parts-pool_seat.result.2.items v) = λ v node.
-    subst (λ rows. AreUncovered c.args.ground.now.ranking.now rows v (entries_of_node c.into_parts-pool_seat.result.2.items v)) c.new-view.ensures.global
+    let apart : (v : ℕ) → IsNode (length c.args.ground.now.ranking.now) v → AreUncovered c.args.ground.now.ranking.now c.args.ground.now.global v (entries_of_node c.into_parts-pool_seat.result.2.items v) = λ v node.
+    subst (λ rows. AreUncovered c.args.ground.now.ranking.now rows v (entries_of_node c.into_parts-pool_seat.result.2.items v)) (c.new-view.ensures.global ∙ c.again.ensures)
     (AreUncovered-from_nothing at c.new-view.result.global (puts_row c.new-view.result) (puts_row c.grow_trees-memory.new.view) (λ x. entries_of_node c.into_parts-pool_seat.result.2.items x) c.grow_trees-memory.ensures.apart empty same v node) in
     let nodes : All (λ (e : NodeEntry). IsNode (length c.args.ground.now.ranking.now) e.node) c.into_parts-pool_seat.result.2.items =
     subst (All (λ (e : NodeEntry). IsNode (length c.args.ground.now.ranking.now) e.node)) (sym parts.list) (subst (λ order. All (λ (e : NodeEntry). IsNode (length order) e.node) c.grow_trees-memory.new.view.list) order_is parts.nodes) in
-    let kept : c.list_runs-listed.new.self.entries.items ≡ c.into_parts-pool_seat.result.2.items = ap (λ (es : Vec NodeEntry Global). es.items) c.list_runs-listed.ensures.entries in
-    let Put : List NodeEntry → Type 0 = HavePut c.args.ground.now.graph.now.edges c.args.ground.now.ranking.now c.args.ground.now.global.now c.grow_trees-memory.new.seat.got in
     record {
       begun = c.grow_trees-memory.ensures.begun;
       own = parts.own ∙ ap length order_is;
       seat = ap (λ (s : Seated Fitting). s.pool) parts.seat ∙ ap (λ (k : ViewKept). k.pool) c.grow_trees-memory.ensures.kept ∙ pool_is;
-      puts = subst (IsListOf c.into_parts-pool_seat.result.0) (sym kept) (subst (λ s. IsListOf s c.into_parts-pool_seat.result.2.items) (sym parts.seat) (subst (IsListOf c.grow_trees-memory.new.view.seat) (sym parts.list) parts.puts));
-      sufficed =
-          subst (λ r. IfOk r (λ _. Put c.list_runs-listed.new.self.entries.items)) (sym c.and.ensures)
-          (where_both-first (Put c.list_runs-listed.new.self.entries.items) c.grow_trees-memory.result c.list_runs-listed.result
-          (subst (λ es. IfOk c.grow_trees-memory.result (λ _. Put es)) (sym kept) (sufficed_by edges at c.args.ground.now.global.now c.grow_trees-memory.new.seat.got list c.grow_trees-memory.result nodes grown apart)));
-      runs =
-          subst (λ r. IfOk r (λ _. HasItsRuns c.list_runs-listed.new.self)) (sym c.and.ensures)
-          (where_both-second (HasItsRuns c.list_runs-listed.new.self) c.grow_trees-memory.result c.list_runs-listed.result c.list_runs-listed.ensures.runs);
+      nodes = nodes;
+      puts = subst (λ s. IsListOf s c.into_parts-pool_seat.result.2.items) (sym parts.seat) (subst (IsListOf c.grow_trees-memory.new.view.seat) (sym parts.list) parts.puts);
+      sufficed = sufficed_by edges at c.args.ground.now.global c.grow_trees-memory.new.seat.got list c.grow_trees-memory.result nodes grown apart;
+      roots = listed_by (c.args.share.roots.items ≡ c.args.share.seats.claims.got) (c.grow_trees-memory.new.roots.items ≡ c.grow_trees-memory.new.seat.got) c.grow_trees-memory.result c.grow_trees-memory.ensures.listed (c.requires.roots ∙ sym c.requires.new.got);
     }

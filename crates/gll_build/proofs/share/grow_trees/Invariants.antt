@@ -13,5 +13,6 @@ invariant-loop g l =
     × (l.work ≡ l.ground.graph.now.n)
     × IsClaimSeatOf l.ground.claims.now l.seat × (l.seat.left ≡ l.fn.seat.left) × (l.seat.over ≡ false)
     × (edges_of l.view.seat.pool.fact ≡ l.ground.graph.now.edges) × (order_of l.view.seat.pool.fact ≡ l.ground.ranking.now) × (view_kept l.view ≡ view_kept l.fn.view)
+    × (l.fn.roots.items ≡ l.fn.seat.got → l.roots.items ≡ l.seat.got)
     × HasGrown l.ground.graph.now.edges l.ground.ranking.now (true ≡ true) l.fn.seat.got l.seat.got (puts_row l.fn.view) (puts_row l.view)
     × StayUncovered l.ground.ranking.now l.fn.view.global (puts_row l.fn.view) (puts_row l.view)

@@ -1,101 +1,102 @@
-use Rattle.std.proofs.Common.{◌≡◌, ◌↔◌, ℕ, ◌-◌, ◌≤◌, ◌++◌, [], ◌∷◌, List, Contains, get_or, length, sym, ap, subst, ◌∙◌, take, arith}
+use Rattle.std.proofs.Common.{◌≡◌, ◌↔◌, ℕ, ◌+◌, ◌-◌, ◌≤◌, inl, inr, List, ◌∷◌, [], ◌++◌, Contains, get_or, length, map, take, sym, ap, subst, ◌∙◌, arith}
 use Rattle.std.specs.Prelude.{IsTrue}
+use Rattle.std.specs.List.Sorted.{IsStrictlyIncreasing}
 use Rattle.std.proofs.Math.ListN.{length-set}
+use Rattle.std.proofs.lemmas.Bool.{cases_eq}
 use Rattle.std.proofs.lemmas.List.{take_all}
-use Rattle.std.proofs.lemmas.List.Elements.{All-contains, Contains-append_left, Contains-get_or}
 use Rattle.walk_laws.specs.declared.graph.Edge.{Edge}
 use Rattle.walk_laws.specs.declared.entry.Entry.{Entry}
 use Rattle.walk_laws.specs.Labelling.{label_row}
 use Rattle.hub_index.specs.declared.entry_sink.NodeEntry.{NodeEntry}
 use Rattle.hub_index.specs.HubIndex.{with_entry}
-use Rattle.hub_index.specs.Sunk.{entry_of}
+use Rattle.hub_index.specs.Sunk.{entries_of_node, entry_of}
 use Rattle.hub_index.specs.Views.{IsNode}
-use Rattle.label_clean.specs.RootRuns.{GoesOn, HaveHubs, IsLatePart, IsNext}
+use Rattle.label_clean.specs.RootRuns.{EndsBelow, HasHubs, JoinsNext}
 use Rattle.label_clean.specs.Tested.{IsCovering}
-use Rattle.label_clean.proofs.GoneOnWith.{hub_is_put, others_are_covered}
-use Rattle.label_clean.proofs.TakenRuns.{GoesOnFrom-more, GoesOnFrom-put, HaveHubs-with, HaveHubs-without, all_below, rows_end_below, so_far_in, step_more}
+use Rattle.label_clean.proofs.Covering.{pos_of}
+use Rattle.label_clean.proofs.TakenRuns.{GoesOnFrom-more, GoesOnFrom-put, here_more, its_hub_row_rises, its_row_ends_below, its_row_grows, its_row_stays, other_same, others_stay}
 use Rattle.label_clean.proofs.taking.take_run.Goals as goal
 use Rattle.label_clean.proofs.taking.take_run.Goals.{After-is_covered_late}
 
 abbrev nothing : NodeEntry
 nothing = record { node = 0; pos = 0; dist = 0 }
 
--- no row goes past the run
-pub returns-then-not-all_end_below-clause-hubs : goal.returns-then-not-all_end_below-clause-hubs
-returns-then-not-all_end_below-clause-hubs c edges c' global entries done g next have =
-    let found : IsTrue c.all_end_below.result =
-    c.all_end_below.ensures.1 (rows_end_below edges c.args.ranking.now c.args.first c' global entries g c.args.pos done c.args.run.now next c.args.rows.now have c.requires.nodes) in
-    absurd cc
+pub loop-entry-preserved-then-not-ends_below : goal.loop-entry-preserved-then-not-ends_below
+loop-entry-preserved-then-not-ends_below c = record {
+  size = c.loop-entry.invariant.size;
+  stays = c.loop-entry.invariant.stays;
+  hubs = λ edges at c' k v before done more k_in next have.
+      let run = c.args.run.now in
+      let i = c.loop-entry.entry-index in
+      let has = c.loop-entry.invariant.hubs edges at c' k v before done more k_in next have in
+      elim (cases_eq (get_or run i nothing).node k) [
+        | inr other ↦ others_stay edges at c.args.first c' c.args.pos v c.args.hub_row.now before done more k run i nothing c.loop-entry-test.true next (label_row c.loop-entry.rows k) has other
+        | inl same ↦
+            let ends = its_row_ends_below edges at c.args.first c' c.args.pos v c.args.hub_row.now before done more k run i nothing c.loop-entry-test.true next (label_row c.loop-entry.rows k) has same in
+            let found : IsTrue c.ends_below.result = c.ends_below.ensures.1 (subst (λ u. EndsBelow c.args.pos (label_row c.loop-entry.rows u)) (sym same) ends) in
+            absurd cc
+      ];
+}
 
-module _ (c : After-is_covered_late) where
-  abbrev x : NodeEntry
-  x = get_or c.args.run.now c.loop-entry.entry-index nothing
+-- an entry of a row is found to be covered just where it is
+module _ (c : After-is_covered_late) (edges : List Edge) (at : List ℕ) (c' k v : ℕ) (before done more : List Entry) (k_in : IsNode (length c.args.rows.now) k) (next : JoinsNext edges at c.args.first c' c.args.pos v c.args.hub_row.now before done (entries_of_node c.args.run.now k) more) (have : HasHubs edges at v before done (label_row c.args.rows.now k)) where
+  has : HasHubs edges at v before (done ++ entries_of_node (take c.loop-entry.entry-index c.args.run.now) k) (label_row c.loop-entry.rows k)
+  has = c.loop-entry.invariant.hubs edges at c' k v before done more k_in next have
 
-  x_in : IsNode (length c.args.ranking.now) (get_or c.args.run.now c.loop-entry.entry-index nothing).node
-  x_in = c.requires.nodes c.loop-entry.entry-index nothing c.loop-entry-test.true
-
-  module _ (edges : List Edge) (c' : ℕ) (global : List (List Entry)) (entries done : List NodeEntry) (g : GoesOn edges c.args.ranking.now c.args.first c' global entries) (next : IsNext c.args.pos entries done c.args.run.now) (have : HaveHubs edges c.args.ranking.now global done c.args.rows.now) where
-    has : HaveHubs edges c.args.ranking.now global (done ++ take c.loop-entry.entry-index c.args.run.now) c.loop-entry.rows
-    has = c.loop-entry.invariant.hubs edges c' global entries done g next have
-
-    late : IsLatePart c.args.first (label_row c.args.rows.now c.at.result) c.deref.result.now
-    late = subst (IsLatePart c.args.first (label_row c.args.rows.now c.at.result)) (sym c.deref.ensures.value) (c.in_ok-late_part.ensures (have.rising c.at.result (record { from_one = c.at.ensures.node; up_to_n = c.at.ensures.within })))
-
-    x_there : Contains c.args.run.now (get_or c.args.run.now c.loop-entry.entry-index nothing)
-    x_there = Contains-get_or c.args.run.now c.loop-entry.entry-index nothing c.loop-entry-test.true
-
-    x_pos : (get_or c.args.run.now c.loop-entry.entry-index nothing).pos ≡ c.args.pos
-    x_pos = All-contains (λ (e : NodeEntry). e.pos ≡ c.args.pos) c.args.run.now (get_or c.args.run.now c.loop-entry.entry-index nothing) next.one x_there
-
-    test : IsTrue c.is_covered_late.result ↔ ((e : Entry) × Contains (label_row c.loop-entry.rows (get_or c.args.run.now c.loop-entry.entry-index nothing).node) e × (c.args.first ≤ e.pos) × IsCovering c.deref.result.now c.args.pos (get_or c.args.run.now c.loop-entry.entry-index nothing).dist e)
-    test = c.is_covered_late.ensures (has.rising x.node x_in) late.rising
+  test : (get_or c.args.run.now c.loop-entry.entry-index nothing).node ≡ k → IsTrue c.is_covered_late.result ↔ ((e : Entry) × Contains (label_row c.loop-entry.rows k) e × (c.args.first ≤ e.pos) × IsCovering c.args.hub_row.now c.args.pos (get_or c.args.run.now c.loop-entry.entry-index nothing).dist e)
+  test same =
+      let dist = (get_or c.args.run.now c.loop-entry.entry-index nothing).dist in
+      let hub_rises = its_hub_row_rises edges at c.args.first c' c.args.pos v c.args.hub_row.now before done more k c.args.run.now c.loop-entry.entry-index nothing c.loop-entry-test.true next (label_row c.loop-entry.rows k) has same in
+      subst (λ u. IsStrictlyIncreasing (map pos_of (label_row c.loop-entry.rows u)) → IsStrictlyIncreasing (map pos_of c.args.hub_row.now) → IsTrue c.is_covered_late.result ↔ ((e : Entry) × Contains (label_row c.loop-entry.rows u) e × (c.args.first ≤ e.pos) × IsCovering c.args.hub_row.now c.args.pos dist e)) same
+      c.is_covered_late.ensures has.rising hub_rises
 
 pub loop-entry-preserved-then-is_covered_late : goal.loop-entry-preserved-then-is_covered_late
 loop-entry-preserved-then-is_covered_late c = record {
-  rows = c.loop-entry.invariant.rows;
+  size = c.loop-entry.invariant.size;
   stays = c.loop-entry.invariant.stays;
-  hubs = λ edges c' global entries done g next have.
+  hubs = λ edges at c' k v before done more k_in next have.
       let a = (goal.at.loop-entry-preserved-then-is_covered_late c).After-is_covered_late in
       let run = c.args.run.now in
-      let k = c.loop-entry.entry-index in
-      let within = c.loop-entry-test.true in
-      let so_far = done ++ take c.loop-entry.entry-index c.args.run.now in
-      let x : NodeEntry = get_or c.args.run.now c.loop-entry.entry-index nothing in
-      let before = has a edges c' global entries done g next have in
-      subst (λ es. HaveHubs edges c.args.ranking.now global es c.loop-entry.rows) (sym (step_more edges c.args.ranking.now c.args.first c' global entries g c.args.pos done run next k nothing within))
-      (HaveHubs-without edges c.args.ranking.now global so_far c.loop-entry.rows before x
-      (λ hub.
-      hub_is_put edges c.args.ranking.now c.args.first c' global entries g c.args.pos c.at.result done run next c.args.rows.now have c.at.ensures.value c.deref.result.now (late a edges c' global entries done g next have)
-      so_far c.loop-entry.rows (so_far_in edges c.args.ranking.now c.args.first c' global entries g c.args.pos done run next k nothing within) (λ e h. Contains-append_left done (take k run) e h) before x
-      (next.here x (x_there a edges c' global entries done g next have)) (x_pos a edges c' global entries done g next have) (x_in a) hub
-      ((test a edges c' global entries done g next have).0 c.if-is_covered_late.true)));
+      let i = c.loop-entry.entry-index in
+      let row = label_row c.loop-entry.rows k in
+      let so_far = has a edges at c' k v before done more k_in next have in
+      elim (cases_eq (get_or run i nothing).node k) [
+        | inr other ↦ others_stay edges at c.args.first c' c.args.pos v c.args.hub_row.now before done more k run i nothing c.loop-entry-test.true next row so_far other
+        | inl same ↦
+            its_row_stays edges at c.args.first c' c.args.pos v c.args.hub_row.now before done more k run i nothing c.loop-entry-test.true next row so_far same
+            ((test a edges at c' k v before done more k_in next have same).0 c.if-is_covered_late.true)
+      ];
 }
 
 pub loop-entry-preserved : goal.loop-entry-preserved
 loop-entry-preserved c =
     let a = (goal.at.loop-entry-preserved c).After-is_covered_late in
+    let run = c.args.run.now in
+    let i = c.loop-entry.entry-index in
+    let was = c.loop-entry.rows in
+    let now = c.push.new.self in
     let x : NodeEntry = get_or c.args.run.now c.loop-entry.entry-index nothing in
-    let put = c.in_ok-push.ensures.ok ∙ ap (with_entry c.loop-entry.rows x.node) c.entry.ensures in
+    let x_in : IsNode (length c.loop-entry.rows) x.node = subst (λ n. IsNode n x.node) (sym c.loop-entry.invariant.size) (c.requires i nothing c.loop-entry-test.true) in
+    let put = c.in_ok-push.ensures.ok ∙ ap (with_entry was x.node) c.entry.ensures in
     record {
-      rows = ap length put ∙ length-set c.loop-entry.rows (x.node - 1) (label_row c.loop-entry.rows x.node ++ entry_of x ∷ []) ∙ c.loop-entry.invariant.rows;
-      stays = λ v v_in.
-          GoesOnFrom-more (label_row c.args.rows.now v) (label_row c.loop-entry.rows v) (label_row c.push.new.self v) (c.loop-entry.invariant.stays v v_in)
-          (GoesOnFrom-put c.loop-entry.rows c.push.new.self x.node v (entry_of x) (subst (λ n. IsNode n x.node) (sym c.loop-entry.invariant.rows) (x_in a)) v_in.from_one put);
-      hubs = λ edges c' global entries done g next have.
-          let run = c.args.run.now in
-          let k = c.loop-entry.entry-index in
-          let within = c.loop-entry-test.true in
-          let so_far = done ++ take c.loop-entry.entry-index c.args.run.now in
-          let before = has a edges c' global entries done g next have in
-          let hub = others_are_covered edges c.args.ranking.now c.args.first c' global entries g c.args.pos c.at.result done run next c.args.rows.now have c.at.ensures.value c.deref.result.now (late a edges c' global entries done g next have)
-          so_far c.loop-entry.rows (so_far_in edges c.args.ranking.now c.args.first c' global entries g c.args.pos done run next k nothing within) (λ e h. Contains-append_left done (take k run) e h) before x
-          (next.here x (x_there a edges c' global entries done g next have)) (x_pos a edges c' global entries done g next have) (x_in a)
-          (λ covered. let found : IsTrue c.is_covered_late.result = (test a edges c' global entries done g next have).1 covered in absurd cc) in
-          subst (λ es. HaveHubs edges c.args.ranking.now global es c.push.new.self) (sym (step_more edges c.args.ranking.now c.args.first c' global entries g c.args.pos done run next k nothing within))
-          (HaveHubs-with edges c.args.ranking.now global so_far c.loop-entry.rows before x c.push.new.self hub c.loop-entry.invariant.rows (x_in a) put
-          (all_below edges c.args.ranking.now c.args.first c' global entries g c.args.pos done run next k nothing within c.loop-entry.rows before (x_in a)));
+      size = ap length put ∙ length-set was (x.node - 1) (label_row was x.node ++ entry_of x ∷ []) ∙ c.loop-entry.invariant.size;
+      stays = λ k k_in. GoesOnFrom-more (label_row c.args.rows.now k) (label_row was k) (label_row now k) (c.loop-entry.invariant.stays k k_in) (GoesOnFrom-put was now x.node k (entry_of x) x_in k_in.from_one put);
+      hubs = λ edges at c' k v before done more k_in next have.
+          let row = label_row was k in
+          let so_far = has a edges at c' k v before done more k_in next have in
+          elim (cases_eq x.node k) [
+            | inr other ↦
+                subst (HasHubs edges at v before (done ++ entries_of_node (take (i + 1) run) k)) (sym (other_same was now x.node k (entry_of x) x_in.from_one k_in.from_one (λ same. other (sym same)) put))
+                (others_stay edges at c.args.first c' c.args.pos v c.args.hub_row.now before done more k run i nothing c.loop-entry-test.true next row so_far other)
+            | inl same ↦
+                let grown : label_row c.push.new.self k ≡ label_row c.loop-entry.rows k ++ entry_of x ∷ [] = subst (λ u. label_row c.push.new.self u ≡ label_row c.loop-entry.rows u ++ entry_of x ∷ []) same (here_more was now x.node (entry_of x) x_in put) in
+                subst (HasHubs edges at v before (done ++ entries_of_node (take (i + 1) run) k)) (sym grown)
+                (its_row_grows edges at c.args.first c' c.args.pos v c.args.hub_row.now before done more k run i nothing c.loop-entry-test.true next row so_far same
+                (λ covered. let found : IsTrue c.is_covered_late.result = (test a edges at c' k v before done more k_in next have same).1 covered in absurd cc))
+          ];
     }
 
 pub returns-clause-hubs : goal.returns-clause-hubs
-returns-clause-hubs c edges c' global entries done g next have =
-    subst (λ es. HaveHubs edges c.args.ranking.now global (done ++ es) c.loop-entry.rows) (take_all c.loop-entry.entry-index c.args.run.now (omega (arith, c.loop-entry-test.false))) (c.loop-entry.invariant.hubs edges c' global entries done g next have)
+returns-clause-hubs c edges at c' k v before done more k_in next have =
+    subst (λ es. HasHubs edges at v before (done ++ entries_of_node es k) (label_row c.loop-entry.rows k)) (take_all c.loop-entry.entry-index c.args.run.now (omega (arith, c.loop-entry-test.false)))
+    (c.loop-entry.invariant.hubs edges at c' k v before done more k_in next have)

@@ -14,7 +14,7 @@ use Rattle.pool_view.proofs.view.PoolView.put.Goals as goal
 pub keep-requires : goal.keep-requires
 keep-requires g c =
     let node = subst (λ (w : Viewing). IsNode (length (order_of w.seat.pool.fact)) c.args.v) (sym c.self.view_is) c.requires.node in
-    record { node = is_node c.self.inside.seat c.self.inside.global.now c.self.inside.puts c.self.invariant.1 c.args.v node }
+    record { node = is_node c.self.inside.seat c.self.inside.global c.self.inside.puts c.self.invariant.1 c.args.v node }
 
 pub invariant_of-self : goal.invariant_of-self
 invariant_of-self g c =
@@ -24,7 +24,7 @@ invariant_of-self g c =
     let node = subst (λ (w : Viewing). IsNode (length (order_of w.seat.pool.fact)) c.args.v) (sym c.self.view_is) c.requires.node in
     let fits = subst (λ w. fact_of w c.args.v c.args.entry) (sym c.self.view_is) c.requires.fits in (
       c.self.invariant.0,
-      viewing-kept seat c.self.inside.global.now puts c.self.invariant.1 c.args.v c.args.entry node fits c.keep.result c.keep.new.self c.keep.ensures.ok c.keep.ensures.err seat past.0 (ap (λ p. record seat { past = p }) past.1),
+      viewing-kept seat c.self.inside.global puts c.self.invariant.1 c.args.v c.args.entry node fits c.keep.result c.keep.new.self c.keep.ensures.ok c.keep.ensures.err seat past.0 (ap (λ p. record seat { past = p }) past.1),
       stays_past c.self.inside.past seat puts c.keep.new.self c.if-self.true c.self.invariant.2,
       pooled-kept seat seat puts c.keep.new.self c.args.v c.args.entry c.keep.result c.keep.ensures.ok c.keep.ensures.err refl c.self.invariant.3,
     )
@@ -33,7 +33,7 @@ pub returns-then-self-clause-ok : goal.returns-then-self-clause-ok
 returns-then-self-clause-ok g c =
     let seat = c.self.inside.seat in
     let puts = c.self.inside.puts in
-    let global = c.self.inside.global.now in
+    let global = c.self.inside.global in
     let past = is_past c.self.inside.past seat puts c.if-self.true c.self.invariant.2 in
     let node = subst (λ (w : Viewing). IsNode (length (order_of w.seat.pool.fact)) c.args.v) (sym c.self.view_is) c.requires.node in
     let fits = subst (λ w. fact_of w c.args.v c.args.entry) (sym c.self.view_is) c.requires.fits in
@@ -44,7 +44,7 @@ pub invariant_of-self-in-Put : goal.invariant_of-self-in-Put
 invariant_of-self-in-Put g c =
     let seat = c.self.inside.seat in
     let puts = c.self.inside.puts in
-    let global = c.self.inside.global.now in
+    let global = c.self.inside.global in
     let none = not_past c.self.inside.past seat puts c.if-self.false c.self.invariant.2 in
     let node = subst (λ (w : Viewing). IsNode (length (order_of w.seat.pool.fact)) c.args.v) (sym c.self.view_is) c.requires.node in
     let fits = subst (λ w. fact_of w c.args.v c.args.entry) (sym c.self.view_is) c.requires.fits in
@@ -59,7 +59,7 @@ pub invariant_of-self-in-Full : goal.invariant_of-self-in-Full
 invariant_of-self-in-Full g c =
     let seat = c.self.inside.seat in
     let puts = c.self.inside.puts in
-    let global = c.self.inside.global.now in
+    let global = c.self.inside.global in
     let x : NodeEntry = record { node = c.args.v; pos = c.args.entry.pos; dist = c.args.entry.dist } in
     let node = subst (λ (w : Viewing). IsNode (length (order_of w.seat.pool.fact)) c.args.v) (sym c.self.view_is) c.requires.node in
     let fits = subst (λ w. fact_of w c.args.v c.args.entry) (sym c.self.view_is) c.requires.fits in

@@ -17,51 +17,54 @@ use Rattle.pool_view.proofs.Answered.{IsVisit, visit-by, visited, row_found, see
 use Rattle.pool_view.proofs.PutViews.{is_node, own_is, view_of}
 use Rattle.pool_view.proofs.view.PoolViewRowView.load_root.Given as given
 use Rattle.pool_view.proofs.view.PoolViewRowView.load_root.Goals as goal
-use Rattle.pool_view.proofs.view.PoolViewRowView.load_root.Goals.{After-note-arg-2-1}
+use Rattle.pool_view.proofs.view.PoolViewRowView.load_root.Goals.{After-note_chain}
 
 -- the view as it was
-abbrev viewed : (g : given.Over) → After-note-arg-2-1 g → Viewing
-viewed g c = view_of c.self.inside.seat c.self.inside.global.now c.self.inside.puts
+abbrev viewed : (g : given.Over) → After-note_chain g → Viewing
+viewed g c = view_of c.self.inside.seat c.self.inside.global c.self.inside.puts
 
-visit_is : (g : given.Over) (c : After-note-arg-2-1 g) → IsVisit (viewed g c) c.args.h c.note_chain.new.seat c.note_chain.ensures.chain.0
+visit_is : (g : given.Over) (c : After-note_chain g) → IsVisit (viewed g c) c.args.h c.note_chain.new.seat c.note_chain.ensures.chain.0
 visit_is g c = visit-by c.self.inside.pool.now (viewed g c) _ c.self.view_is c.self.invariant.0 c.self.invariant.1 c.args.h c.requires.node c.note_chain.new.seat c.note_chain.ensures.chain.0 c.note_chain.ensures.chain.1
 
-sized : (g : given.Over) (c : After-note-arg-2-1 g) → length c.args.table.now ≡ length (order_of c.self.inside.seat.pool.fact)
+sized : (g : given.Over) (c : After-note_chain g) → length c.args.table.now ≡ length (order_of c.self.inside.seat.pool.fact)
 sized g c = c.requires.size ∙ sym (ap (λ (w : Viewing). length (order_of w.seat.pool.fact)) c.self.view_is)
 
 -- the table, when the chain was noted
-chain_size : (g : given.Over) (c : After-note-arg-2-1 g) → length c.note_chain.new.table ≡ length c.args.table.now
+chain_size : (g : given.Over) (c : After-note_chain g) → length c.note_chain.new.table ≡ length c.args.table.now
 chain_size g c = ap length c.note_chain.ensures.chain.2 ∙ length-noted c.clear.new.self (entries_of c.note_chain.ensures.chain.0) ∙ ap length c.clear.ensures ∙ length-replicate {A = Option ℕ} (length c.args.table.now) None
 
-inside : (g : given.Over) (c : After-note-arg-2-1 g) (row : List Entry) (n : ℕ) → n ≡ length c.args.table.now → All (fact_of (viewed g c) c.args.h) row → All (λ e. e.pos < n) row
+inside : (g : given.Over) (c : After-note_chain g) (row : List Entry) (n : ℕ) → n ≡ length c.args.table.now → All (fact_of (viewed g c) c.args.h) row → All (λ e. e.pos < n) row
 inside g c row n is stands =
     subst (λ k. All (λ e. e.pos < k) row) (sym (is ∙ sized g c)) (positions-found (edges_of c.self.inside.seat.pool.fact) (order_of c.self.inside.seat.pool.fact) c.args.h row stands)
 
 -- the own row is what was kept at the root
-own : (g : given.Over) (c : After-note-arg-2-1 g) → label_row (own_rows c.self.inside.puts) c.args.h ≡ entries_of_node c.self.inside.puts.kept c.args.h
-own g c = own_is c.self.inside.seat c.self.inside.global.now c.self.inside.puts c.self.invariant.1 c.args.h (visit_is g c).node
+own : (g : given.Over) (c : After-note_chain g) → label_row (own_rows c.self.inside.puts) c.args.h ≡ entries_of_node c.self.inside.puts.kept c.args.h
+own g c = own_is c.self.inside.seat c.self.inside.global c.self.inside.puts c.self.invariant.1 c.args.h (visit_is g c).node
 
 pub note-requires-clause-node : goal.note-requires-clause-node
-note-requires-clause-node g c = is_node c.self.inside.seat c.self.inside.global.now c.self.inside.puts c.self.invariant.1 c.args.h (visit_is g c).node
+note-requires-clause-node g c =
+    let up = (goal.at.note-requires-clause-node g c).After-note_chain in
+    is_node c.self.inside.seat c.self.inside.global c.self.inside.puts c.self.invariant.1 c.args.h (visit_is g up).node
 
 pub note-requires-clause-positions : goal.note-requires-clause-positions
 note-requires-clause-positions g c =
-    let is = visit_is g c in
-    inside g c (entries_of_node c.self.inside.puts.kept c.args.h) (length c.note_chain.new.table) (chain_size g c) (subst (All (fact_of (viewed g c) c.args.h)) (own g c) (is.viewing.own.fit c.args.h is.node.from_one is.node.up_to_n))
+    let up = (goal.at.note-requires-clause-positions g c).After-note_chain in
+    let is = visit_is g up in
+    inside g up (entries_of_node c.self.inside.puts.kept c.args.h) (length c.note_chain.new.table) (chain_size g up) (subst (All (fact_of (viewed g up) c.args.h)) (own g up) (is.viewing.own.fit c.args.h is.node.from_one is.node.up_to_n))
 
 -- and when what was kept was noted, too
-own_size : (g : given.Over) (c : After-note-arg-2-1 g) (table : List (Option ℕ)) → table ≡ noted c.note_chain.new.table (reverse (entries_of_node c.self.inside.puts.kept c.args.h)) → length table ≡ length c.args.table.now
+own_size : (g : given.Over) (c : After-note_chain g) (table : List (Option ℕ)) → table ≡ noted c.note_chain.new.table (reverse (entries_of_node c.self.inside.puts.kept c.args.h)) → length table ≡ length c.args.table.now
 own_size g c table is = ap length is ∙ length-noted c.note_chain.new.table (reverse (entries_of_node c.self.inside.puts.kept c.args.h)) ∙ chain_size g c
 
 pub note-requires-2-clause-positions : goal.note-requires-2-clause-positions
 note-requires-2-clause-positions g c =
-    let up = (goal.at.note-requires-2-clause-positions g c).After-note-arg-2-1 in
+    let up = (goal.at.note-requires-2-clause-positions g c).After-note_chain in
     let is = visit_is g up in
-    inside g up (label_row c.self.inside.global.now c.args.h) (length c.note.new.table) (own_size g up c.note.new.table c.note.ensures) (is.viewing.global.fit c.args.h is.node.from_one is.node.up_to_n)
+    inside g up (label_row c.self.inside.global c.args.h) (length c.note.new.table) (own_size g up c.note.new.table c.note.ensures) (is.viewing.global.fit c.args.h is.node.from_one is.node.up_to_n)
 
 pub invariant_of-self : goal.invariant_of-self
 invariant_of-self g c =
-    let up = (goal.at.invariant_of-self g c).After-note-arg-2-1 in
+    let up = (goal.at.invariant_of-self g c).After-note_chain in
     let is = visit_is g up in
     let found = c.note_chain.ensures.chain.0 in (
       pool_kept (viewed g up) c.args.h c.note_chain.new.seat found is c.self.inside.pool.now c.self.invariant.0,
@@ -72,14 +75,14 @@ invariant_of-self g c =
 
 pub returns-clause-visit : goal.returns-clause-visit
 returns-clause-visit g c =
-    let up = (goal.at.returns-clause-visit g c).After-note-arg-2-1 in
+    let up = (goal.at.returns-clause-visit g c).After-note_chain in
     let is = visit_is g up in
     let found = c.note_chain.ensures.chain.0 in
     let seat = c.note_chain.new.seat in
     let h = c.args.h in
-    let now : Viewing = view_of seat c.self.inside.global.now c.self.inside.puts in
+    let now : Viewing = view_of seat c.self.inside.global c.self.inside.puts in
     let none = replicate {A = Option ℕ} (length c.args.table.now) None in
-    let global = label_row c.self.inside.global.now h in
+    let global = label_row c.self.inside.global h in
     let kept = entries_of_node c.self.inside.puts.kept h in
     let table : c.note-2.new.table ≡ noted (noted (noted none (entries_of found)) (reverse (label_row (own_rows c.self.inside.puts) h))) global =
     c.note-2.ensures
@@ -96,5 +99,5 @@ returns-clause-visit g c =
 
 pub returns-clause-size : goal.returns-clause-size
 returns-clause-size g c =
-    let up = (goal.at.returns-clause-size g c).After-note-arg-2-1 in
-    ap length c.note-2.ensures ∙ length-noted c.note.new.table (label_row c.self.inside.global.now c.args.h) ∙ own_size g up c.note.new.table c.note.ensures
+    let up = (goal.at.returns-clause-size g c).After-note_chain in
+    ap length c.note-2.ensures ∙ length-noted c.note.new.table (label_row c.self.inside.global c.args.h) ∙ own_size g up c.note.new.table c.note.ensures

@@ -21,7 +21,7 @@ use Rattle.pool_view.proofs.view.PoolViewRowView.offer.Goals.{After-cover}
 
 -- the view as it was
 abbrev viewed : (g : given.Over) → After-cover g → Viewing
-viewed g c = view_of c.self.inside.seat c.self.inside.global.now c.self.inside.puts
+viewed g c = view_of c.self.inside.seat c.self.inside.global c.self.inside.puts
 
 node_is : (g : given.Over) (c : After-cover g) → IsNode (length (order_of c.self.inside.seat.pool.fact)) c.args.v
 node_is g c = subst (λ (w : Viewing). IsNode (length (order_of w.seat.pool.fact)) c.args.v) (sym c.self.view_is) c.requires.node
@@ -40,9 +40,9 @@ returns-in-Some g c =
     record { offered = inl (subst (λ w. IsOfferedToGlobal c.args.table.now w c.args.v c.args.entry c.covered_by.result w) c.self.view_is told) }
 
 -- where none of the global row covers
-uncovered : (g : given.Over) (c : After-cover g) → ((e : Entry) → Contains (label_row c.self.inside.global.now c.args.v) e → ¬ IsCover c.args.table.now c.args.entry.pos c.args.entry.dist e) → All (λ e. ¬ IsCover c.args.table.now c.args.entry.pos c.args.entry.dist e) (label_row c.self.inside.global.now c.args.v)
+uncovered : (g : given.Over) (c : After-cover g) → ((e : Entry) → Contains (label_row c.self.inside.global c.args.v) e → ¬ IsCover c.args.table.now c.args.entry.pos c.args.entry.dist e) → All (λ e. ¬ IsCover c.args.table.now c.args.entry.pos c.args.entry.dist e) (label_row c.self.inside.global c.args.v)
 uncovered g c none =
-    let row = label_row c.self.inside.global.now c.args.v in
+    let row = label_row c.self.inside.global c.args.v in
     All-weaker (Contains row) (λ e. ¬ IsCover c.args.table.now c.args.entry.pos c.args.entry.dist e) none row (All-contains_itself row)
 
 position : (g : given.Over) (c : After-cover g) → c.args.entry.pos ≤ length c.args.table.now
@@ -53,7 +53,7 @@ covered_in_chain-requires-clause-pos g c = position g (goal.at.covered_in_chain-
 
 -- the own row is what was kept at the node
 own : (g : given.Over) (c : After-cover g) → label_row (own_rows c.self.inside.puts) c.args.v ≡ entries_of_node c.self.inside.puts.kept c.args.v
-own g c = own_is c.self.inside.seat c.self.inside.global.now c.self.inside.puts c.self.invariant.1 c.args.v (node_is g c)
+own g c = own_is c.self.inside.seat c.self.inside.global c.self.inside.puts c.self.invariant.1 c.args.v (node_is g c)
 
 -- where none of what was kept at the node covers
 uncovered_own : (g : given.Over) (c : After-cover g) → ((e : Entry) → Contains (entries_of_node c.self.inside.puts.kept c.args.v) e → ¬ IsCover c.args.table.now c.args.entry.pos c.args.entry.dist e) → All (λ e. ¬ IsCover c.args.table.now c.args.entry.pos c.args.entry.dist e) (label_row (own_rows c.self.inside.puts) c.args.v)
@@ -63,7 +63,7 @@ uncovered_own g c none =
     All-weaker (Contains row) (λ e. ¬ IsCover c.args.table.now c.args.entry.pos c.args.entry.dist e) none_of row (All-contains_itself row)
 
 pub cover-requires-2-clause-node : goal.cover-requires-2-clause-node
-cover-requires-2-clause-node g c = let up = (goal.at.cover-requires-2-clause-node g c).After-cover in is_node c.self.inside.seat c.self.inside.global.now c.self.inside.puts c.self.invariant.1 c.args.v (node_is g up)
+cover-requires-2-clause-node g c = let up = (goal.at.cover-requires-2-clause-node g c).After-cover in is_node c.self.inside.seat c.self.inside.global c.self.inside.puts c.self.invariant.1 c.args.v (node_is g up)
 
 pub cover-requires-2-clause-size : goal.cover-requires-2-clause-size
 cover-requires-2-clause-size g c = position g (goal.at.cover-requires-2-clause-size g c).After-cover
@@ -85,7 +85,7 @@ returns-in-Some-covered_in_chain g c =
     let chain = c.in-Some-covered_in_chain.ensures.chain in
     let seat = c.covered_in_chain.new.seat in
     let is = visit_by g up seat chain.0 chain.1 in
-    let now : Viewing = view_of seat c.self.inside.global.now c.self.inside.puts in
+    let now : Viewing = view_of seat c.self.inside.global c.self.inside.puts in
     let cover = c.in-Some-covered_in_chain.cover in
     let told = offered_covered (viewed g up) c.args.v seat chain.0 is c.args.table.now c.args.entry (uncovered g up c.in_default.ensures.none)
     cover (of_chain (viewed g up) chain.0 c.args.v cover chain.2.0) chain.2.1 c.covered_by-in-Some-covered_in_chain.result c.covered_by-in-Some-covered_in_chain.ensures in
@@ -104,7 +104,7 @@ returns-in-Some-cover g c =
     let chain = c.in_default-covered_in_chain.ensures.chain in
     let seat = c.covered_in_chain.new.seat in
     let is = visit_by g up seat chain.0 chain.1 in
-    let now : Viewing = view_of seat c.self.inside.global.now c.self.inside.puts in
+    let now : Viewing = view_of seat c.self.inside.global c.self.inside.puts in
     let some = c.in-Some-cover.ensures.some in
     let cover = c.in-Some-cover.cover in
     let there = subst (λ row. Contains row cover) (sym (own g up)) some.0 in

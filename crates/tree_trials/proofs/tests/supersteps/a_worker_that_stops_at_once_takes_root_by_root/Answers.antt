@@ -1,6 +1,6 @@
 use Rattle.std.proofs.Common.{length, sym, ap, subst}
 use Rattle.label_clean.specs.Below.{IsChlBelow}
-use Rattle.gll_build.proofs.EmptyTables.{IsChlBelow-none}
+use Rattle.tree_trials.proofs.EmptyTables.{IsChlBelow-none}
 use Rattle.tree_trials.proofs.tests.supersteps.a_worker_that_stops_at_once_takes_root_by_root.Goals as goal
 
 pub one_root-requires-clause-global : goal.one_root-requires-clause-global

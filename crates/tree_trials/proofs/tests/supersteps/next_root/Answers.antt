@@ -1,6 +1,6 @@
 use Rattle.std.proofs.Common.{length, sym, ap, subst}
 use Rattle.label_clean.specs.Below.{IsChlBelow}
-use Rattle.gll_build.proofs.EmptyTables.{IsChlBelow-none}
+use Rattle.tree_trials.proofs.EmptyTables.{IsChlBelow-none}
 use Rattle.tree_trials.proofs.tests.supersteps.next_root.Goals as goal
 
 pub superstep-requires-clause-global : goal.superstep-requires-clause-global

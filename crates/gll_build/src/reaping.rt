@@ -1,0 +1,117 @@
+//! What all workers have put in a superstep comes together.
+ghost use Rattle.std.specs.Prelude.{◌≡◌, ◌≤◌, All, IfOk};
+ghost use Rattle.std.specs.List.Sorted.{IsPermutation};
+ghost use Rattle.table_seats.specs.Numbers.{numbers};
+ghost use Rattle.gll_build.specs.Dealing.{ListsHubs};
+ghost use Rattle.gll_build.specs.Growing.{IsSheaf, all_put, all_roots};
+
+use crate::bench::Bench;
+use crate::dealing::list_hubs;
+use crate::floor::Grown;
+use crate::named::Build;
+use crate::site::Site;
+use label_clean::HubEntry;
+use std::alloc::{AllocError, Global};
+use std::marker::Model;
+
+/// What a worker has put, where memory sufficed. Contracts see it.
+#[derive(Drop)]
+pub struct Reaped<B: Build> {
+    pub(crate) bench: Bench<B>,
+    pub(crate) first: u32,
+    pub(crate) far: u32,
+}
+
+impl<B: Build> Model for Reaped<B> {
+    ghost use Rattle.gll_build.specs.Growing.{HaveGrown, Sheaf};
+
+    ghost Value = { Sheaf };
+
+    ghost view = { λ r. record { first = r.first; far = r.far; roots = r.bench.roots.items; list = r.bench.list.items; dealt = r.bench.dealt.items; hubs = r.bench.hubs.items } };
+
+    ghost invariant = { λ r. HaveGrown B.edges B.order B.shift r.first r.far r.bench.roots.items r.bench.list.items r.bench.dealt.items r.bench.hubs.items };
+}
+
+/// What all workers have put over the table up to the position `first`, from 0. The error is that memory ran out for one of
+/// them, or here, or that one of them grew trees over another table.
+pub fn reap<B: Build>(
+    alloc: Global,
+    first: u32,
+    grown: Vec<Grown<B>>,
+) -> Result<Vec<Reaped<B>>, AllocError>
+    ensures first { IfOk result (λ reaped. All (λ s. s.first ≡ first) reaped.items) }
+    ensures are { IfOk result (λ reaped. All (IsSheaf B.edges B.order B.shift) reaped.items) }
+{
+    let mut reaped = Vec::with_capacity(alloc, grown.len())?;
+    for one in grown {
+        let Grown {
+            bench,
+            first: over,
+            far,
+            memory,
+        } = one;
+        memory?;
+        if over != first {
+            return Err(AllocError);
+        }
+        reaped.push(Reaped {
+            bench,
+            first: over,
+            far,
+        })?;
+    }
+    Ok(reaped)
+}
+
+/// The position, from 0, of the root after those whose trees were grown, if these are the ones from `first` on, each once, and
+/// below `n`. The error is that they aren't, or that memory ran out.
+pub fn next_root<B: Build>(
+    alloc: Global,
+    first: u32,
+    n: u32,
+    reaped: &[Reaped<B>],
+) -> Result<u32, AllocError>
+    requires { first ≤ n }
+    ensures up { IfOk result (λ next. first ≤ next) }
+    ensures within { IfOk result (λ next. next ≤ n) }
+    ensures roots { IfOk result (λ next. IsPermutation (all_roots reaped.now) (numbers first next)) }
+{
+    let mut roots = Vec::new(alloc);
+    for one in reaped {
+        roots.extend_from_slice(&one.bench.roots)?;
+    }
+    roots.sort_unstable();
+    let mut next = first;
+    for root in roots.iter() {
+        if *root != next || next >= n {
+            return Err(AllocError);
+        }
+        next += 1;
+    }
+    Ok(next)
+}
+
+/// What all have put at the nodes with positions below the next root's, but for what is of the node itself. The only error is
+/// that memory ran out.
+pub fn hubs_below<B: Build>(
+    site: &Site<'_, B>,
+    next: u32,
+    reaped: &[Reaped<B>],
+) -> Result<Vec<HubEntry>, AllocError>
+    ensures { IfOk result (λ hubs. ListsHubs B.order next (all_put reaped.now) hubs.items) }
+{
+    let n = site.graph.n();
+    let ranked = site.ranking.n();
+    prove!(n == ranked);
+    let mut hubs = Vec::new(site.alloc);
+    let mut more = Vec::new(site.alloc);
+    for one in reaped {
+        if one.far < next {
+            list_hubs(site.ranking, next, &one.bench.list, &mut more)?;
+            hubs.extend_from_slice(&more)?;
+        } else {
+            hubs.extend_from_slice(&one.bench.hubs)?;
+        }
+    }
+    Ok(hubs)
+}

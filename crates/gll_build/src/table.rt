@@ -1,0 +1,116 @@
+//! The global table, in stripes.
+ghost use Rattle.std.specs.Prelude.{◌≡◌, ◌≤◌, length, IfOk};
+ghost use Rattle.label_clean.specs.Below.{IsChlBelow};
+
+use crate::named::Build;
+use crate::site::Site;
+use hub_index::{RowList, SplitRows, StripedRows, Stripes};
+use std::alloc::{AllocError, Global};
+use std::marker::{Model, PhantomData};
+
+/// The global table of a build, in stripes: the labelling up to the position `first`, from 0, of the next root. Contracts see that
+/// position and the rows of each stripe.
+#[derive(Drop)]
+pub struct Table<B: Build> {
+    pub(crate) stripes: Vec<SplitRows>,
+    pub(crate) plan: Stripes,
+    pub(crate) n: u32,
+    pub(crate) first: u32,
+    pub(crate) of: PhantomData<B>,
+}
+
+impl<B: Build> Model for Table<B> {
+    ghost use Rattle.std.specs.Prelude.{◌≡◌, length};
+    ghost use Rattle.gll_build.specs.Tables.{AreStripesBelow, StripedTable};
+
+    ghost Value = { StripedTable };
+
+    ghost view = { λ t. record { first = t.first; stripes = t.stripes.items } };
+
+    ghost invariant = { λ t. (t.n ≡ length B.order) × (t.plan.shift ≡ B.shift) × AreStripesBelow B.edges B.order B.shift t.first t.stripes.items };
+}
+
+/// A stripe of the table by itself, which is the labelling up to the position `first`. Contracts see its number, from 0, that
+/// position and its rows.
+#[derive(Drop)]
+pub struct Stripe<B: Build> {
+    pub(crate) rows: SplitRows,
+    pub(crate) number: u32,
+    pub(crate) first: u32,
+    pub(crate) of: PhantomData<B>,
+}
+
+impl<B: Build> Model for Stripe<B> {
+    ghost use Rattle.std.specs.Prelude.{◌≤◌, length};
+    ghost use Rattle.gll_build.specs.Tables.{IsStripeBelow, OneStripe};
+
+    ghost Value = { OneStripe };
+
+    ghost view = { λ s. record { number = s.number; first = s.first; rows = s.rows } };
+
+    ghost invariant = { λ s. (s.first ≤ length B.order) × IsStripeBelow B.edges B.order B.shift s.first s.number s.rows };
+}
+
+impl<B: Build> Table<B> {
+    /// The table before the first root. The only error is that memory ran out.
+    pub fn new(site: &Site<'_, B>) -> Result<Table<B>, AllocError>
+        ensures { IfOk result (λ table. table.first ≡ 0) }
+    {
+        let n = site.graph.n();
+        let count = site.plan.count(n);
+        let mut stripes = Vec::with_capacity(site.alloc, count as usize)?;
+        for number in 0..count {
+            stripes.push(SplitRows::new(site.alloc, site.plan.size(n, number))?)?;
+        }
+        Ok(Table {
+            stripes,
+            plan: site.plan,
+            n,
+            first: 0,
+            of: PhantomData,
+        })
+    }
+
+    /// The table of these rows, which are the labelling up to the position `first`, from 0. The rows are copied. The only error is that
+    /// memory ran out.
+    pub fn of_rows(site: &Site<'_, B>, rows: &RowList, first: u32) -> Result<Table<B>, AllocError>
+        requires below { IsChlBelow B.edges B.order first rows.now }
+        requires first { first ≤ length B.order }
+        ensures { IfOk result (λ table. table.first ≡ first) }
+    {
+        let n = site.graph.n();
+        let mut stripes = Vec::with_capacity(site.alloc, site.count as usize)?;
+        for number in 0..site.count {
+            stripes.push(SplitRows::of_stripe(site.alloc, rows, site.plan, number)?)?;
+        }
+        Ok(Table {
+            stripes,
+            plan: site.plan,
+            n,
+            first,
+            of: PhantomData,
+        })
+    }
+
+    /// Its rows, to be looked at.
+    pub fn rows(&self) -> StripedRows<'_>
+        ensures { IsChlBelow B.edges B.order self.now.first result }
+    {
+        StripedRows::of(self.stripes.as_slice(), self.plan, self.n)
+    }
+
+    /// Its rows, no longer in stripes. The only error is that memory ran out.
+    pub fn into_rows(self, alloc: Global) -> Result<SplitRows, AllocError>
+        ensures { IfOk result (λ rows. IsChlBelow B.edges B.order self.first rows) }
+    {
+        let Table {
+            stripes,
+            plan,
+            n,
+            first: _,
+            of: _,
+        } = self;
+        let rows = SplitRows::of_stripes(alloc, stripes, plan, n)?;
+        Ok(rows)
+    }
+}
