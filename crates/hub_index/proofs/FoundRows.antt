@@ -5,7 +5,7 @@ use Rattle.std.proofs.lemmas.List.Elements.{All-nil, All-cons, All-head, All-tai
 use Rattle.walk_laws.specs.declared.entry.Entry.{Entry}
 use Rattle.hub_index.specs.declared.row_view.Offer.{Offer}
 use Rattle.hub_index.specs.declared.row_view.Offer.TheVariants.{Put, Covered, NoMemory}
-use Rattle.hub_index.specs.Views.{StandsIn, IsFound, GoesOnFrom, IsFoundOnward, IsSeenAfter, with_put}
+use Rattle.hub_index.specs.Views.{StandsIn, IsFound, GoesOnFrom, IsFoundOnward, with_put}
 
 -- after one more entry, or before more
 pub StandsIn-later : (x : Entry) (list row : List Entry) → StandsIn list row → StandsIn list (x ∷ row)
@@ -49,14 +49,8 @@ IsFound-onward fact before row found = record { still = StandsIn-of_prefix befor
 pub IsFound-weaker : (P Q : Entry → Type 0) (before row : List Entry) → ((e : Entry) → P e → Q e) → IsFound P before row → IsFound Q before row
 IsFound-weaker P Q before row weaker found = record { still = found.still; met = All-weaker P Q weaker row found.met }
 
--- the list seen after an offer, where it is the row with the entry after it where that was put
-pub IsSeenAfter-with_put : (row : List Entry) (e : Entry) (answer : Offer) (seen : List Entry) → seen ≡ with_put row e answer → IsSeenAfter row e answer seen
-IsSeenAfter-with_put row e Put seen is = subst (StandsIn (row ++ e ∷ [])) (sym is) (StandsIn-self (row ++ e ∷ []))
-IsSeenAfter-with_put row e (Covered pos dist) seen is = is
-IsSeenAfter-with_put row e NoMemory seen is = is
-
--- the row that was found still stands after the answer
-pub IsSeenAfter-still : (row : List Entry) (e : Entry) (answer : Offer) (seen : List Entry) → IsSeenAfter row e answer seen → (x : Entry) → Contains row x → Contains seen x
-IsSeenAfter-still row e Put seen after x there = StandsIn-still (row ++ e ∷ []) seen x after (Contains-append_left row (e ∷ []) x there)
-IsSeenAfter-still row e (Covered pos dist) seen after x there = subst (λ xs. Contains xs x) (sym after) there
-IsSeenAfter-still row e NoMemory seen after x there = subst (λ xs. Contains xs x) (sym after) there
+-- the row that was found still stands after the answer to an offer
+pub with_put-still : (row : List Entry) (e : Entry) (answer : Offer) (seen : List Entry) → seen ≡ with_put row e answer → (x : Entry) → Contains row x → Contains seen x
+with_put-still row e Put seen after x there = subst (λ xs. Contains xs x) (sym after) (Contains-append_left row (e ∷ []) x there)
+with_put-still row e (Covered pos dist) seen after x there = subst (λ xs. Contains xs x) (sym after) there
+with_put-still row e NoMemory seen after x there = subst (λ xs. Contains xs x) (sym after) there

@@ -42,9 +42,3 @@ abbrev pub with_put : List Entry → Entry → Offer → List Entry
 with_put entries e Put = entries ++ e ∷ []
 with_put entries e (Covered pos dist) = entries
 with_put entries e NoMemory = entries
-
--- the list seen after the answer to an offer: the row that was found; where the entry was put, that row stands in it with the entry after, and what others put meanwhile may stand between
-abbrev pub IsSeenAfter : List Entry → Entry → Offer → List Entry → Type 0
-IsSeenAfter row e Put seen = StandsIn (row ++ e ∷ []) seen
-IsSeenAfter row e (Covered pos dist) seen = seen ≡ row
-IsSeenAfter row e NoMemory seen = seen ≡ row

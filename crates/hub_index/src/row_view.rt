@@ -23,7 +23,7 @@ pub trait RowView {
     ghost use Rattle.walk_laws.specs.Joined.{Joined};
     ghost use Rattle.walk_laws.specs.Labelling.{EntryFits};
     ghost use Rattle.hub_index.specs.RootDistances.{HoldsRow};
-    ghost use Rattle.hub_index.specs.Views.{IsNode, IsFound, IsAnswerOf, IsSeenAfter, with_put};
+    ghost use Rattle.hub_index.specs.Views.{IsNode, IsFound, IsAnswerOf, with_put};
 
     /// The edges of the graph.
     ghost edges: { Self → List Edge };
@@ -60,8 +60,8 @@ pub trait RowView {
         ensures puts { (x : ℕ) → puts self.new x ≡ puts self.old x };
 
     /// Finds the row of the node `v`, a number from 1, and puts the entry there unless an entry of the row covers it by way
-    /// of the root's hubs in the table. The list seen of `v` is then the row; where the entry was put, it has the row and
-    /// after it the entry. No memory is taken where an entry covers.
+    /// of the root's hubs in the table. The list seen of `v` is then the row; where the entry was put, it is the row
+    /// followed by the entry. No memory is taken where an entry covers.
     fn offer(&mut self, v: u32, entry: Entry, table: &RootTable) -> Offer
         requires node { IsNode (length (order self.old)) v }
         requires size { length table.now ≡ length (order self.old) }
@@ -70,7 +70,7 @@ pub trait RowView {
         ensures order { order self.new ≡ order self.old }
         ensures kept { kept self.new ≡ kept self.old }
         ensures found { (row : List Entry) × IsFound (fact self.old v) (seen self.old v) row
-            × IsAnswerOf table.now row entry result × IsSeenAfter row entry result (seen self.new v) }
+            × IsAnswerOf table.now row entry result × (seen self.new v ≡ with_put row entry result) }
         ensures puts { puts self.new v ≡ with_put (puts self.old v) entry result }
         ensures others_seen { (x : ℕ) → 1 ≤ x → x ≢ v → seen self.new x ≡ seen self.old x }
         ensures others_puts { (x : ℕ) → 1 ≤ x → x ≢ v → puts self.new x ≡ puts self.old x };

@@ -1,11 +1,12 @@
 -- What a worker is given, and what it has done.
-use Rattle.std.specs.Prelude.{◌≡◌, ℕ, ◌<◌, ◌≤◌, true, List, [], All, map}
+use Rattle.std.specs.Prelude.{◌≡◌, ℕ, ◌+◌, ◌<◌, ◌≤◌, true, List, [], All, map, nat_lt, if◌then◌else◌}
 use Rattle.walk_laws.specs.declared.graph.Edge.{Edge}
+use Rattle.plant_build.specs.declared.crew.Crew.{Crew}
 use Rattle.plant_build.specs.declared.hand.Hand.{Hand}
 use Rattle.plant_build.specs.declared.worker.PlantWorker.{PlantWorker}
 use Rattle.plant_build.specs.Balance.{times}
 use Rattle.plant_build.specs.Gains.{HoldsBatches, IsEmptySink}
-use Rattle.plant_build.specs.Rounds.{Share, share_of, reaches, got_from}
+use Rattle.plant_build.specs.Rounds.{Share, share_of, reaches, got_from, put_by}
 
 -- it is for n nodes, and has planted nothing
 pub record IsReady (n : ℕ) (w : PlantWorker) : Type 0 where
@@ -32,3 +33,7 @@ hands_of crew = map (λ w. w.hand) crew
 -- what of the hands of a crew no taking changes
 abbrev pub shares_of : List PlantWorker → List Share
 shares_of crew = map share_of (hands_of crew)
+
+-- the batches 0..batches are dealt among the hands of a crew: each was put into a deque or is among those left, once, and no other number was
+abbrev pub AreDealt : ℕ → Crew → Type 0
+AreDealt batches crew = (x : ℕ) → put_by x (shares_of crew.members.items) + times x crew.left.items ≡ (if nat_lt x batches then 1 else 0)

@@ -3,12 +3,12 @@ ghost use Rattle.walk_laws.specs.Joined.{Joined};
 ghost use Rattle.walk_laws.specs.Labelling.{IsChl};
 ghost use Rattle.hub_index.specs.Sunk.{sunk_at, HoldsPart};
 ghost use Rattle.plant_build.specs.Marks.{IsMissing};
-ghost use Rattle.plant_build.specs.Rounds.{share_of, put_by, IsOneRound};
+ghost use Rattle.plant_build.specs.Rounds.{share_of};
 ghost use Rattle.plant_build.specs.Workers.{IsReady, HasWorked, shares_of};
 
 use crate::batch::plant_batch;
 use crate::collecting::collect;
-use crate::dealing::deal;
+use crate::crew::crew_of;
 use crate::worker::PlantWorker;
 use desk_io::Gate;
 use hub_index::{EntrySink, Index, RowList, gather};
@@ -67,7 +67,16 @@ fn planted_rows<R: Threads + Wait + Sync, G: Gate + Sync>(
     let roots = ranking.n();
     let batches = batches_for(roots, workers, cut);
     let mut crew = crew_of(alloc, n, batches, workers)?;
-    work(rt, alloc, graph, ranking, batches, gate, &mut crew, workers);
+    work(
+        rt,
+        alloc,
+        graph,
+        ranking,
+        batches,
+        gate,
+        &mut crew.members,
+        workers,
+    );
     let (come, mut sinks) = collect(alloc, batches, crew)?;
     sinks.push(plant_missing(alloc, graph, ranking, batches, gate, &come)?)?;
     gather(rt, alloc, n, sinks)
@@ -116,28 +125,6 @@ fn work<R: Threads + Wait + Sync, G: Gate + Sync>(
             ensures { HasWorked graph.entry.now.edges ranking.entry.now batches graph.entry.now.n worker.exit.now × (share_of worker.exit.now.hand ≡ share_of worker.entry.now.hand) }
         { worker.plant(rt, alloc, graph, ranking, batches, gate) },
     );
-}
-
-/// A worker for each hand, among which the batches are dealt. A batch that its deque did not take counts as come from
-/// nobody. The only error is that memory ran out.
-fn crew_of(
-    alloc: Global,
-    n: u32,
-    batches: u32,
-    workers: u32,
-) -> Result<Vec<PlantWorker>, AllocError>
-    requires workers_from { 1 ≤ workers }
-    requires workers_to { workers ≤ 64 }
-    ensures ready { IfOk result (λ crew. All (IsReady n) crew.items) }
-    ensures round { IfOk result (λ crew. IsOneRound (shares_of crew.items)) }
-    ensures once { IfOk result (λ crew. (b : ℕ) → put_by b (shares_of crew.items) ≤ 1) }
-{
-    let (hands, _left) = deal(alloc, batches, workers)?;
-    let mut crew = Vec::with_capacity(alloc, workers as usize)?;
-    for hand in hands {
-        crew.push(PlantWorker::new(alloc, n, hand)?)?;
-    }
-    Ok(crew)
 }
 
 /// What the caller itself plants: the batches that came from nobody. The only error is that memory ran out.

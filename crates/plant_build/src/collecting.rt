@@ -2,10 +2,11 @@ ghost use Rattle.std.specs.Prelude.{◌≡◌, ◌≢◌, ℕ, ◌<◌, ◌≤�
 ghost use Rattle.walk_laws.specs.declared.graph.Edge.{Edge as AnEdge};
 ghost use Rattle.plant_build.specs.Balance.{times};
 ghost use Rattle.plant_build.specs.Marks.{mark, Adds, HasCome};
-ghost use Rattle.plant_build.specs.Rounds.{put_by, IsOneRound};
-ghost use Rattle.plant_build.specs.Workers.{TookItsBatches, HasWorked, hands_of, shares_of};
+ghost use Rattle.plant_build.specs.Rounds.{IsOneRound};
+ghost use Rattle.plant_build.specs.Workers.{TookItsBatches, HasWorked, AreDealt, hands_of, shares_of};
 ghost use Rattle.plant_build.specs.Harvest.{IsHeld, IsBelow, harvest_of};
 
+use crate::crew::Crew;
 use crate::hand::Hand;
 use crate::settling::settle;
 use crate::worker::PlantWorker;
@@ -19,33 +20,35 @@ pub struct Harvest {
     pub sink: EntrySink,
 }
 
-/// What the workers have put, with a mark for each batch that has come. No two of them have planted one batch, since no
-/// batch was taken twice. The only error is that memory ran out, for a worker or here.
+/// What the workers have put, with a mark for each batch that has come. Each batch was dealt, so one without a mark is one
+/// that was taken by nobody. No two workers have planted one batch, since none was taken twice. The only error is that
+/// memory ran out, for a worker or here.
 pub fn collect(
     alloc: Global,
     batches: u32,
-    crew: Vec<PlantWorker>,
+    crew: Crew,
 ) -> Result<(Vec<bool>, Vec<EntrySink>), AllocError>
-    requires round { IsOneRound (shares_of crew.items) }
-    requires once { (b : ℕ) → put_by b (shares_of crew.items) ≤ 1 }
-    requires took { All (TookItsBatches batches) crew.items }
+    requires round { IsOneRound (shares_of crew.members.items) }
+    requires dealt { AreDealt batches crew }
+    requires took { All (TookItsBatches batches) crew.members.items }
     ensures size { IfOk result (λ got. length got.0.items ≡ batches) }
-    ensures come { IfOk result (λ got. (edges : List AnEdge) (at : List ℕ) (n : ℕ) → All (HasWorked edges at batches n) crew.items → HasCome edges at n got.0.items got.1.items) }
+    ensures come { IfOk result (λ got. (edges : List AnEdge) (at : List ℕ) (n : ℕ) → All (HasWorked edges at batches n) crew.members.items → HasCome edges at n got.0.items got.1.items) }
 {
-    let (hands, harvests) = apart(alloc, crew)?;
+    let Crew { members, left: _ } = crew;
+    let (hands, harvests) = apart(alloc, members)?;
     settle(alloc, hands)?;
     bring_in(alloc, batches, harvests)
 }
 
 /// The hands of the workers, and what they have planted. The only error is that memory ran out, for a worker or here.
-fn apart(alloc: Global, crew: Vec<PlantWorker>) -> Result<(Vec<Hand>, Vec<Harvest>), AllocError>
-    ensures hands { IfOk result (λ parts. parts.0.items ≡ hands_of crew.items) }
-    ensures harvests { IfOk result (λ parts. parts.1.items ≡ map harvest_of crew.items) }
-    ensures memory { IfOk result (λ parts. All (λ w. w.memory ≡ true) crew.items) }
+fn apart(alloc: Global, members: Vec<PlantWorker>) -> Result<(Vec<Hand>, Vec<Harvest>), AllocError>
+    ensures hands { IfOk result (λ parts. parts.0.items ≡ hands_of members.items) }
+    ensures harvests { IfOk result (λ parts. parts.1.items ≡ map harvest_of members.items) }
+    ensures memory { IfOk result (λ parts. All (λ w. w.memory ≡ true) members.items) }
 {
-    let mut hands = Vec::with_capacity(alloc, crew.len())?;
-    let mut harvests = Vec::with_capacity(alloc, crew.len())?;
-    for worker in crew {
+    let mut hands = Vec::with_capacity(alloc, members.len())?;
+    let mut harvests = Vec::with_capacity(alloc, members.len())?;
+    for worker in members {
         let PlantWorker {
             hand,
             planter: _,

@@ -11,6 +11,7 @@
 mod batch;
 mod build;
 mod collecting;
+mod crew;
 mod dealing;
 mod hand;
 mod other;

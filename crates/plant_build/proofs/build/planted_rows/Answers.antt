@@ -1,4 +1,5 @@
-use Rattle.std.proofs.Common.{◌≡◌, ℕ, ◌≤◌, List, ◌++◌, [], ◌∷◌, All, length, ap, sym, subst, ◌∙◌, arith}
+use Rattle.std.proofs.Common.{◌≡◌, ℕ, ◌+◌, ◌≤◌, List, nat_lt, ◌++◌, [], ◌∷◌, All, length, ap, sym, subst, ◌∙◌, arith}
+use Rattle.std.specs.Prelude.{if◌then◌else◌}
 use Rattle.std.proofs.lemmas.List.{with_items_is}
 use Rattle.std.proofs.lemmas.List.Elements.{All-push, All-weaker}
 use Rattle.walk_laws.specs.Joined.{Joined}
@@ -6,6 +7,7 @@ use Rattle.walk_laws.specs.Labelling.{IsChl, label_row}
 use Rattle.hub_index.specs.Sunk.{sunk_at, all_sunk, HoldsPart, IsGatheredRow}
 use Rattle.plant_build.specs.Marks.{HasCome, IsMissing}
 use Rattle.plant_build.proofs.HeldParts.{IsChl-whole, both_ok}
+use Rattle.plant_build.specs.Balance.{times}
 use Rattle.plant_build.specs.Rounds.{Share, put_by, IsOneRound}
 use Rattle.plant_build.specs.Workers.{TookItsBatches, HasWorked, shares_of}
 use Rattle.plant_build.proofs.build.planted_rows.Goals as goal
@@ -13,19 +15,20 @@ use Rattle.plant_build.proofs.build.planted_rows.Goals.{In_ok-come}
 
 pub collect-requires-clause-round : goal.collect-requires-clause-round
 collect-requires-clause-round g c =
-    let kept = with_items_is c.in_ok-crew.crew c.work.new.crew (omega arith) in
+    let kept = with_items_is c.in_ok-crew.crew.members c.work.new.crew (omega arith) in
     subst IsOneRound (sym (ap shares_of kept ∙ c.work.ensures.shares ∙ ap shares_of c.deref_mut.ensures.value)) c.in_ok-crew.ensures.round
 
-pub collect-requires-clause-once : goal.collect-requires-clause-once
-collect-requires-clause-once g c b =
-    let kept = with_items_is c.in_ok-crew.crew c.work.new.crew (omega arith) in
-    subst (λ (shares : List Share). put_by b shares ≤ 1) (sym (ap shares_of kept ∙ c.work.ensures.shares ∙ ap shares_of c.deref_mut.ensures.value)) (c.in_ok-crew.ensures.once b)
+pub collect-requires-clause-dealt : goal.collect-requires-clause-dealt
+collect-requires-clause-dealt g c x =
+    let kept = with_items_is c.in_ok-crew.crew.members c.work.new.crew (omega arith) in
+    subst (λ (shares : List Share). put_by x shares + times x c.in_ok-crew.crew.left.items ≡ (if nat_lt x c.batches_for-batches.result then 1 else 0))
+    (sym (ap shares_of kept ∙ c.work.ensures.shares ∙ ap shares_of c.deref_mut.ensures.value)) (c.in_ok-crew.ensures.dealt x)
 
 pub collect-requires-clause-took : goal.collect-requires-clause-took
 collect-requires-clause-took g c =
     let batches = c.batches_for-batches.result in
     let worked = HasWorked c.args.graph.now.edges c.args.ranking.now batches c.args.graph.now.n in
-    subst (All (TookItsBatches batches)) (sym (with_items_is c.in_ok-crew.crew c.work.new.crew (omega arith))) (All-weaker worked (TookItsBatches batches) (λ w h. h.took) c.work.new.crew c.work.ensures.worked)
+    subst (All (TookItsBatches batches)) (sym (with_items_is c.in_ok-crew.crew.members c.work.new.crew (omega arith))) (All-weaker worked (TookItsBatches batches) (λ w h. h.took) c.work.new.crew c.work.ensures.worked)
 
 -- what was taken in of the workers
 come_of : (g : _) (c : In_ok-come g) → HasCome c.args.graph.now.edges c.args.ranking.now c.args.graph.now.n c.in_ok-come.come.items c.in_ok-come.sinks.items
@@ -33,7 +36,7 @@ come_of g c =
     let edges = c.args.graph.now.edges in
     let at = c.args.ranking.now in
     let n = c.args.graph.now.n in
-    let kept = with_items_is c.in_ok-crew.crew c.work.new.crew (omega arith) in
+    let kept = with_items_is c.in_ok-crew.crew.members c.work.new.crew (omega arith) in
     c.in_ok-come.ensures.come edges at n (subst (λ crew. All (HasWorked edges at c.batches_for-batches.result n) crew) (sym kept) c.work.ensures.worked)
 
 pub gather-requires-after_bounds : goal.gather-requires-after_bounds

@@ -6,7 +6,7 @@ use Rattle.plant_build.proofs.collecting.apart.Given as goal
 -- the workers so far are taken apart, and memory has sufficed for them
 abbrev pub invariant-loop-worker : goal.invariant-loop-worker
 invariant-loop-worker l = record {
-  hands : l.hands.items ++ hands_of l.worker-iterator.rest.items ≡ hands_of l.fn.crew.items;
-  harvests : l.harvests.items ++ map harvest_of l.worker-iterator.rest.items ≡ map harvest_of l.fn.crew.items;
-  memory : All (λ w. w.memory ≡ true) l.worker-iterator.rest.items → All (λ w. w.memory ≡ true) l.fn.crew.items;
+  hands : l.hands.items ++ hands_of l.worker-iterator.rest.items ≡ hands_of l.fn.members.items;
+  harvests : l.harvests.items ++ map harvest_of l.worker-iterator.rest.items ≡ map harvest_of l.fn.members.items;
+  memory : All (λ w. w.memory ≡ true) l.worker-iterator.rest.items → All (λ w. w.memory ≡ true) l.fn.members.items;
 }

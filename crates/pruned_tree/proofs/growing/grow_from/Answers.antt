@@ -14,7 +14,7 @@ use Rattle.frontier.specs.Reaches.{settled, with_offer}
 use Rattle.hub_index.specs.declared.row_view.Offer.TheVariants.{Put}
 use Rattle.hub_index.specs.RootDistances.{IsCover}
 use Rattle.hub_index.specs.Views.{IsFound}
-use Rattle.hub_index.proofs.FoundRows.{IsFound-weaker, IsSeenAfter-still}
+use Rattle.hub_index.proofs.FoundRows.{IsFound-weaker, with_put-still}
 use Rattle.pruned_tree.specs.declared.bare.Bare.{Bare}
 use Rattle.pruned_tree.specs.Relaxed.{IsRelaxed}
 use Rattle.pruned_tree.proofs.ApartPuts.{AreApart, AreApart-start, AreApart-same, AreApart-put}
@@ -209,7 +209,7 @@ loop-v-preserved g c =
           c.loop-v.frontier (g.R.RowView.puts c.loop-v.view) (g.R.RowView.seen c.loop-v.view) c.args.table.now (c.requires.root h root) (inv.growth h root) (inv.complete h root) inv.seen c.in-Some.v c.in-Some.found c.in-Some.ensures.queued c.in-Some.ensures.nearest
           offered.found.0 found (g.R.RowView.puts c.offer-in-Some.new.self) offered.puts offered.others_puts (arcs_in c.arc_row.result) c.arc_row.ensures c.relax_row.new.frontier relaxed offered.found.2;
       seen = StillStand-found (g.R.RowView.seen c.args.view.now) (g.R.RowView.seen c.loop-v.view) (g.R.RowView.seen c.offer-in-Some.new.self) c.in-Some.v offered.found.0 inv.seen found.still
-          (IsSeenAfter-still offered.found.0 (record { pos = c.args.p; dist = c.in-Some.found.dist }) Put (g.R.RowView.seen c.offer-in-Some.new.self c.in-Some.v) offered.found.3) offered.others_seen;
+          (with_put-still offered.found.0 (record { pos = c.args.p; dist = c.in-Some.found.dist }) Put (g.R.RowView.seen c.offer-in-Some.new.self c.in-Some.v) offered.found.3) offered.others_seen;
       apart = λ h root. apart_put g up offered.found.0 (g.R.RowView.puts c.offer-in-Some.new.self) found offered.found.2 offered.puts offered.others_puts h root;
       counted = omega (arith, inv.counted, entries-put c.args.ranking.now (g.R.RowView.puts c.loop-v.view) (g.R.RowView.puts c.offer-in-Some.new.self) c.in-Some.v (record { pos = c.args.p; dist = c.in-Some.found.dist }) c.requires.ranking t.from_one (omega (arith, t.up_to_n, c.requires.ranked)) offered.puts offered.others_puts);
       few = omega (arith, unsettled-same c.relax_row.new.frontier (settled c.loop-v.frontier c.in-Some.v c.in-Some.found) relaxed.size relaxed.settled, unsettled-settled c.loop-v.frontier c.in-Some.v c.in-Some.found c.in-Some.ensures.queued, inv.few);

@@ -3,7 +3,7 @@ use Rattle.std.proofs.Common.{refl, ap}
 use Rattle.walk_laws.specs.Joined.{Joined}
 use Rattle.walk_laws.specs.Labelling.{EntryFits, label_row}
 use Rattle.hub_index.specs.PlainRows.{GatheredRows}
-use Rattle.hub_index.proofs.FoundRows.{IsFound-onward, IsSeenAfter-with_put}
+use Rattle.hub_index.proofs.FoundRows.{IsFound-onward}
 use Rattle.hub_index.proofs.plain_rows.PlainRowsRowView.TheImpl.Goals as goal
 
 pub load_root-tells : goal.load_root-tells
@@ -32,7 +32,7 @@ offer-tells c =
         label_row old.rows c.args.v,
         IsFound-onward (EntryFits (Joined old.edges) old.order c.args.v) (label_row old.rows c.args.v) (label_row old.rows c.args.v) c.ensures.found,
         c.ensures.answer,
-        IsSeenAfter-with_put (label_row old.rows c.args.v) c.args.entry c.result (label_row c.new.self.now.rows c.args.v) c.ensures.row,
+        c.ensures.row,
       );
       puts = c.ensures.row;
       others_seen = c.ensures.others;

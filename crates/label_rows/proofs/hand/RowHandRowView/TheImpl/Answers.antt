@@ -8,7 +8,7 @@ use Rattle.walk_laws.specs.Joined.{Joined}
 use Rattle.walk_laws.specs.Labelling.{EntryFits}
 use Rattle.hub_index.specs.RootDistances.{HoldsRow}
 use Rattle.hub_index.specs.Views.{IsFound}
-use Rattle.hub_index.proofs.FoundRows.{IsFound-onward, IsSeenAfter-with_put}
+use Rattle.hub_index.proofs.FoundRows.{IsFound-onward}
 use Rattle.label_rows.specs.declared.rule.Visit.{Visit}
 use Rattle.label_rows.specs.Seats.{Seated, hand_kept}
 use Rattle.label_rows.specs.Visits.{seen_of, puts_of, put_by, visit_of}
@@ -47,7 +47,7 @@ offer-tells g c =
         visit.0,
         IsFound-onward (EntryFits (Joined c.args.self.now.rows.edges) c.args.self.now.rows.order c.args.v) (seen_of old c.args.v) visit.0 visit.1,
         visit.2,
-        IsSeenAfter-with_put visit.0 c.args.entry c.result (seen_of c.new.self.now.visits c.args.v) visit.4,
+        visit.4,
       );
       puts = ap (λ xs. puts_of xs c.args.v) visits ∙ puts-here old made c.args.v refl ∙ put-after (puts_of old c.args.v) c.args.entry c.result;
       others_seen = λ u _ other. ap (λ xs. seen_of xs u) visits ∙ seen-else old made u (λ is. other (sym is));

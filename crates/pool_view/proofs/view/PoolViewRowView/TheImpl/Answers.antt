@@ -1,8 +1,7 @@
 -- The calls of a pool's view keep what a view of rows promises.
 use Rattle.std.proofs.Common.{◌≡◌, inl, inr, sym, ap, subst, ◌∙◌}
 use Rattle.hub_index.specs.RootDistances.{HoldsRow}
-use Rattle.hub_index.specs.Views.{IsFound, IsAnswerOf, IsSeenAfter, with_put}
-use Rattle.hub_index.proofs.FoundRows.{IsSeenAfter-with_put}
+use Rattle.hub_index.specs.Views.{IsFound, IsAnswerOf, with_put}
 use Rattle.pool_view.specs.Fitting.{edges_of, order_of}
 use Rattle.pool_view.specs.Viewing.{ViewKept, view_kept, seen_row, puts_row, whole_row, fact_of}
 use Rattle.pool_view.proofs.Offered.{visited-kept, visited-puts, visited-else, after-kept, after-puts, after-else}
@@ -39,7 +38,7 @@ offer-tells g c =
           seen_row old c.args.v,
           o.row,
           subst (IsAnswerOf c.args.table.now (seen_row old c.args.v) c.args.entry) (sym o.answer_is) (global-seen old c.args.v o.cover o.there, o.covers),
-          subst (λ answer. IsSeenAfter (seen_row old c.args.v) c.args.entry answer (seen_row now c.args.v)) (sym o.answer_is) (ap (λ w. seen_row w c.args.v) o.same),
+          subst (λ answer. seen_row now c.args.v ≡ with_put (seen_row old c.args.v) c.args.entry answer) (sym o.answer_is) (ap (λ w. seen_row w c.args.v) o.same),
         );
         puts = subst (λ answer. puts_row now c.args.v ≡ with_put (puts_row old c.args.v) c.args.entry answer) (sym o.answer_is) (ap (λ w. puts_row w c.args.v) o.same);
         others_seen = λ u _ other. ap (λ w. seen_row w u) o.same;
@@ -51,7 +50,7 @@ offer-tells g c =
             edges = ap (λ (k : ViewKept). edges_of k.pool.fact) kept;
             order = ap (λ (k : ViewKept). order_of k.pool.fact) kept;
             kept = kept;
-            found = (whole_row old o.found c.args.v, o.row, o.answer_is, IsSeenAfter-with_put (whole_row old o.found c.args.v) c.args.entry c.result (seen_row now c.args.v) o.seen);
+            found = (whole_row old o.found c.args.v, o.row, o.answer_is, o.seen);
             puts = after-puts o.visited now c.args.v c.args.entry c.requires.node.from_one c.result o.after_is ∙ ap (λ es. with_put es c.args.entry c.result) (visited-puts old o.visited c.args.v o.found o.visit c.args.v);
             others_seen = λ u from_one other. (after-else o.visited now c.args.v c.args.entry c.requires.node.from_one c.result o.after_is u from_one (λ is. other (sym is))).0 ∙ visited-else old o.visited c.args.v o.found o.visit u (λ is. other (sym is));
             others_puts = λ u from_one other. (after-else o.visited now c.args.v c.args.entry c.requires.node.from_one c.result o.after_is u from_one (λ is. other (sym is))).1 ∙ visited-puts old o.visited c.args.v o.found o.visit u;
