@@ -6,6 +6,7 @@ pub mod Decisions
 pub mod Endings
 pub mod Grids
 pub mod AuditAnswers
+pub mod TextAnswers
 pub mod BuiltAudits
 pub mod WalkAnswers
 pub mod WaysToEnd

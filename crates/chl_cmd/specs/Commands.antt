@@ -6,6 +6,7 @@ use Rattle.std.specs.Option.{option_or}
 use Rattle.desk_io.specs.Contents.{Files}
 use Rattle.grid_work.specs.Grid.{grid, grid_edges}
 use Rattle.grid_work.specs.Totals.{totals_of}
+use Rattle.hub_index.specs.HubIndex.{HubIndex}
 use Rattle.hub_query.specs.Paths.{IsPathOf}
 use Rattle.hub_query.specs.declared.path_answer.Path.{Path as AnyPath}
 use Rattle.hub_query.specs.declared.path_answer.Path.TheVariants.{Sizes as OtherSizes, Unreachable, Walk, Stuck as StuckAt}
@@ -15,6 +16,7 @@ use Rattle.index_audit.specs.declared.answer.Audit.TheVariants.{Same}
 use Rattle.index_file.specs.Layout.{index_bytes}
 use Rattle.walk_laws.specs.declared.entry.Entry.{Entry}
 use Rattle.walk_laws.specs.Answer.{IsAnswer}
+use Rattle.walk_laws.specs.Graph.{WeightedGraph}
 use Rattle.walk_laws.specs.Joined.{Joined}
 use Rattle.walk_laws.specs.Labelling.{IsChl}
 use Rattle.walk_laws.specs.Meet.{IsMeet}
@@ -103,15 +105,20 @@ stage_if false stop stage = Comes (Err stop)
 abbrev pub for_sizes : {V : Type 0} → ℕ → ℕ → Stage V → Stage V
 for_sizes graph index stage = stage_if (graph == index) (NotOfGraph (Sizes graph index)) stage
 
+-- an index of as many nodes as a graph, and pairs of them, each with the walk of the graph by the rows of the index
+abbrev pub paths_stage : WeightedGraph → HubIndex → List ℕ → Stage (List ℕ)
+paths_stage g i pairs =
+    for_sizes g.n (length i.order) (
+    Reads (pairs_input (length i.order) pairs) (λ asked.
+    Works (λ walks. AreAnswers (IsPathOf g i) asked walks) (λ walks.
+    Comes (walks_text asked walks))))
+
 -- `path`: a graph, an index of as many nodes, and pairs of them, each with the walk of the graph by the rows of the index
 abbrev pub path_stage : List ℕ → List ℕ → List ℕ → Stage (List ℕ)
 path_stage graph index pairs =
     Reads (graph_input graph) (λ g.
     Reads (index_input index) (λ i.
-    for_sizes g.n (length i.order) (
-    Reads (pairs_input (length i.order) pairs) (λ asked.
-    Works (λ walks. AreAnswers (IsPathOf g i) asked walks) (λ walks.
-    Comes (walks_text asked walks))))))
+    paths_stage g i pairs))
 
 -- the line `same`, ended by one LF, or what is wrong with an index
 abbrev pub audit_text : AnyAudit → Result (List ℕ) Stop

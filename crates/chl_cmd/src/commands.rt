@@ -12,6 +12,7 @@ mod list;
 mod path;
 mod query;
 mod solve;
+mod text;
 
 use crate::construction::Construction;
 use audit::audit_output;
@@ -29,6 +30,7 @@ use solve::solve_output;
 use std::alloc::Global;
 use std::sync::Wait;
 use std::thread::Threads;
+use text::text_output;
 
 /// The bytes that a command gives, or why it gives none. It reads its inputs and works, and writes nothing.
 pub fn output<R: Threads + Wait + Sync, D: Desk, G: Gate + Sync>(
@@ -106,10 +108,7 @@ pub fn output<R: Threads + Wait + Sync, D: Desk, G: Gate + Sync>(
             side,
             seed,
             workers,
-        } => {
-            let text = grid_text(rt, alloc, *side, *seed, *workers, gate)?;
-            Ok(Pieces::one(alloc, text))
-        }
+        } => text_output(alloc, grid_text(rt, alloc, *side, *seed, *workers, gate)),
     }
 }
 

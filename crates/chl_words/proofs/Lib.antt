@@ -1,4 +1,3 @@
-pub mod CommandParts
 pub mod Defaults
 pub mod Levels
 pub mod Options

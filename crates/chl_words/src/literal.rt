@@ -1,7 +1,7 @@
 //! The commands and their options, as clap has them. A new command, or a new option of one, is an entry here and one in
 //! specs/Literal.
 ghost use Rattle.std.specs.Prelude.{◌≡◌, ℕ, List, codes, false, IfOk};
-ghost use Rattle.clap.specs.Words.{App, Rule, with_rule};
+ghost use Rattle.clap.specs.Words.{App, Rule, Shape, with_rule, with_subcommand};
 ghost use Rattle.chl_words.specs.Literal as literal;
 ghost use Rattle.chl_words.specs.Literal.{IsOption, IsProgram, command_alone};
 
@@ -28,76 +28,66 @@ const USUAL_ROOTS: &str = "1024";
 pub fn program<'a>(alloc: Global) -> Result<Command<'a>, AllocError>
     ensures { IfOk result (IsProgram literal.program) }
 {
-    Command::new(alloc, "chl")
+    let bare = Command::new(alloc, "chl")
         .disable_help_flag(true)
         .disable_help_subcommand(true)
-        .subcommand_required(true)
-        .subcommand(list(alloc)?)?
-        .subcommand(build(alloc)?)?
-        .subcommand(solve(alloc)?)?
-        .subcommand(query(alloc)?)?
-        .subcommand(path(alloc)?)?
-        .subcommand(audit(alloc)?)?
-        .subcommand(degree(alloc)?)?
-        .subcommand(grid(alloc)?)
+        .subcommand_required(true);
+    let program = with_command(Ok(bare), list(alloc));
+    let program = with_command(program, build(alloc));
+    let program = with_command(program, solve(alloc));
+    let program = with_command(program, query(alloc));
+    let program = with_command(program, path(alloc));
+    let program = with_command(program, audit(alloc));
+    let program = with_command(program, degree(alloc));
+    with_command(program, grid(alloc))
 }
 
 fn list<'a>(alloc: Global) -> Result<Command<'a>, AllocError>
     ensures { IfOk result (IsProgram (command_alone literal.list)) }
 {
-    Command::new(alloc, "list")
-        .arg(file(alloc, "graph"))?
-        .arg(file(alloc, "order"))
+    let command = with_option(Ok(Command::new(alloc, "list")), file(alloc, "graph"));
+    with_option(command, file(alloc, "order"))
 }
 
 fn build<'a>(alloc: Global) -> Result<Command<'a>, AllocError>
     ensures { IfOk result (IsProgram (command_alone literal.build)) }
 {
-    Command::new(alloc, "build")
-        .arg(file(alloc, "graph"))?
-        .arg(file(alloc, "order"))?
-        .arg(file(alloc, "out"))?
-        .arg(construction(alloc))?
-        .arg(workers(alloc))?
-        .arg(cut(alloc))
+    let command = with_option(Ok(Command::new(alloc, "build")), file(alloc, "graph"));
+    let command = with_option(command, file(alloc, "order"));
+    let command = with_option(command, file(alloc, "out"));
+    with_building(alloc, command)
 }
 
 fn solve<'a>(alloc: Global) -> Result<Command<'a>, AllocError>
     ensures { IfOk result (IsProgram (command_alone literal.solve)) }
 {
-    Command::new(alloc, "solve")
-        .arg(file(alloc, "graph"))?
-        .arg(file(alloc, "order"))?
-        .arg(file(alloc, "pairs"))?
-        .arg(construction(alloc))?
-        .arg(workers(alloc))?
-        .arg(cut(alloc))
+    let command = with_option(Ok(Command::new(alloc, "solve")), file(alloc, "graph"));
+    let command = with_option(command, file(alloc, "order"));
+    let command = with_option(command, file(alloc, "pairs"));
+    with_building(alloc, command)
 }
 
 fn query<'a>(alloc: Global) -> Result<Command<'a>, AllocError>
     ensures { IfOk result (IsProgram (command_alone literal.query)) }
 {
-    Command::new(alloc, "query")
-        .arg(file(alloc, "index"))?
-        .arg(file(alloc, "pairs"))
+    let command = with_option(Ok(Command::new(alloc, "query")), file(alloc, "index"));
+    with_option(command, file(alloc, "pairs"))
 }
 
 fn path<'a>(alloc: Global) -> Result<Command<'a>, AllocError>
     ensures { IfOk result (IsProgram (command_alone literal.path)) }
 {
-    Command::new(alloc, "path")
-        .arg(file(alloc, "graph"))?
-        .arg(file(alloc, "index"))?
-        .arg(file(alloc, "pairs"))
+    let command = with_option(Ok(Command::new(alloc, "path")), file(alloc, "graph"));
+    let command = with_option(command, file(alloc, "index"));
+    with_option(command, file(alloc, "pairs"))
 }
 
 fn audit<'a>(alloc: Global) -> Result<Command<'a>, AllocError>
     ensures { IfOk result (IsProgram (command_alone literal.audit)) }
 {
-    Command::new(alloc, "audit")
-        .arg(file(alloc, "graph"))?
-        .arg(file(alloc, "order"))?
-        .arg(file(alloc, "index"))
+    let command = with_option(Ok(Command::new(alloc, "audit")), file(alloc, "graph"));
+    let command = with_option(command, file(alloc, "order"));
+    with_option(command, file(alloc, "index"))
 }
 
 fn degree<'a>(alloc: Global) -> Result<Command<'a>, AllocError>
@@ -109,10 +99,43 @@ fn degree<'a>(alloc: Global) -> Result<Command<'a>, AllocError>
 fn grid<'a>(alloc: Global) -> Result<Command<'a>, AllocError>
     ensures { IfOk result (IsProgram (command_alone literal.grid)) }
 {
-    Command::new(alloc, "grid")
-        .arg(number_needed(alloc, "side", 1, LONGEST_SIDE))?
-        .arg(number_needed(alloc, "seed", 0, GREATEST_SEED))?
-        .arg(workers(alloc))
+    let side = number_needed(alloc, "side", 1, LONGEST_SIDE);
+    let seed = number_needed(alloc, "seed", 0, GREATEST_SEED);
+    let command = with_option(Ok(Command::new(alloc, "grid")), side);
+    let command = with_option(command, seed);
+    with_option(command, workers(alloc))
+}
+
+/// A program with one more command. It takes both as the steps before gave them, so that a row of such steps has no branch.
+fn with_command<'a>(
+    program: Result<Command<'a>, AllocError>,
+    command: Result<Command<'a>, AllocError>,
+) -> Result<Command<'a>, AllocError>
+    ensures { (app : App) (shape : Shape) → IfOk program.entry (IsProgram app) → IfOk command.entry (IsProgram (command_alone shape)) → IfOk result (IsProgram (with_subcommand app shape)) }
+{
+    program?.subcommand(command?)
+}
+
+/// A command with one more option. It takes the command as the step before gave it.
+fn with_option<'a>(
+    command: Result<Command<'a>, AllocError>,
+    option: Arg<'a>,
+) -> Result<Command<'a>, AllocError>
+    ensures { (app : App) (rule : Rule) → IfOk command.entry (IsProgram app) → IsOption rule option.entry → IfOk result (IsProgram (with_rule app rule)) }
+{
+    command?.arg(option)
+}
+
+/// A command with the options of a build that may be left out. It takes the command as the step before gave it.
+fn with_building<'a>(
+    alloc: Global,
+    command: Result<Command<'a>, AllocError>,
+) -> Result<Command<'a>, AllocError>
+    ensures { (app : App) → IfOk command.entry (IsProgram app) → IfOk result (IsProgram (with_rule (with_rule (with_rule app literal.construction) literal.workers) literal.cut)) }
+{
+    let command = with_option(command, construction(alloc));
+    let command = with_option(command, workers(alloc));
+    with_option(command, cut(alloc))
 }
 
 /// An option that must be there, with the name of a file.

@@ -4,6 +4,7 @@ ghost use Rattle.chl_inputs.specs.Stages.{Goes};
 ghost use Rattle.chl_lines.specs.PrintedOrders.{order_lines as lines_of_nodes};
 ghost use Rattle.chl_cmd.specs.Commands.{degree_stage};
 
+use super::text::text_output;
 use chl_inputs::{Stop, read_graph};
 use chl_lines::order_lines;
 use desk_io::Desk;
@@ -17,8 +18,7 @@ pub fn degree_output<D: Desk>(alloc: Global, graph: &str, desk: &mut D) -> Resul
     ensures { Goes D.Desk (degree_stage graph.now) result desk.old desk.new }
 {
     let graph = read_graph(alloc, graph, desk)?;
-    let text = nodes_text(alloc, &graph)?;
-    Ok(Pieces::one(alloc, text))
+    text_output(alloc, nodes_text(alloc, &graph))
 }
 
 /// The order text of the nodes.

@@ -6,6 +6,7 @@ ghost use Rattle.chl_inputs.specs.Stages.{Goes};
 ghost use Rattle.chl_lines.specs.PrintedRows.{lines_from};
 ghost use Rattle.chl_cmd.specs.Commands.{list_stage};
 
+use super::text::text_output;
 use crate::construction::Construction;
 use crate::labelling::labelling;
 use chl_inputs::{Stop, read_graph, read_order};
@@ -31,8 +32,7 @@ pub fn list_output<R: Threads + Wait + Sync, D: Desk>(
 {
     let graph = read_graph(alloc, graph, desk)?;
     let ranking = read_order(alloc, order, graph.n(), desk)?;
-    let text = rows_text(rt, alloc, &graph, &ranking)?;
-    Ok(Pieces::one(alloc, text))
+    text_output(alloc, rows_text(rt, alloc, &graph, &ranking))
 }
 
 /// The lines of the rows.

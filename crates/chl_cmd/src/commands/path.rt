@@ -6,8 +6,9 @@ ghost use Rattle.walk_laws.specs.Graph.{IsGraph};
 ghost use Rattle.chl_inputs.specs.Inputs.{ArePairsWithin};
 ghost use Rattle.chl_inputs.specs.Stages.{Goes};
 ghost use Rattle.chl_inputs.specs.declared.stop.Stop.TheVariants.{NoMemory};
-ghost use Rattle.chl_cmd.specs.Commands.{AreAnswers, first_stop, path_stage, stop_at};
+ghost use Rattle.chl_cmd.specs.Commands.{AreAnswers, first_stop, path_stage, paths_stage, stop_at};
 
+use super::text::text_output;
 use chl_inputs::{NotOf, Stop, read_graph, read_index, read_pairs};
 use chl_lines::walk_lines;
 use desk_io::Desk;
@@ -31,6 +32,21 @@ pub fn path_output<D: Desk>(
 {
     let graph = read_graph(alloc, graph, desk)?;
     let index = read_index(alloc, index, desk)?;
+    paths_output(alloc, &graph, &index, pairs, desk)
+}
+
+/// The lines of the walks of the pairs of a text in a graph, by the rows of an index that has as many nodes.
+fn paths_output<D: Desk>(
+    alloc: Global,
+    graph: &Graph,
+    index: &Index,
+    pairs: &str,
+    desk: &mut D,
+) -> Result<Pieces, Stop>
+    requires graph { IsGraph graph.now.n graph.now.edges }
+    requires index { IsWellFormed index.now.order index.now.rows }
+    ensures { Goes D.Desk (paths_stage graph.now index.now pairs.now) result desk.old desk.new }
+{
     if graph.n() != index.n() {
         return Err(Stop::NotOfGraph(NotOf::Sizes {
             graph: graph.n(),
@@ -38,9 +54,8 @@ pub fn path_output<D: Desk>(
         }));
     }
     let pairs = read_pairs(alloc, pairs, index.n(), desk)?;
-    let walks = walks_of(alloc, &graph, &index, &pairs)?;
-    let text = walk_lines(alloc, pairs.list(), &walks)?;
-    Ok(Pieces::one(alloc, text))
+    let walks = walks_of(alloc, graph, index, &pairs)?;
+    text_output(alloc, walk_lines(alloc, pairs.list(), &walks))
 }
 
 /// The walks of the pairs, or the first one that is stuck.

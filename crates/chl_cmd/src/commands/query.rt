@@ -5,6 +5,7 @@ ghost use Rattle.chl_inputs.specs.Stages.{Goes};
 ghost use Rattle.chl_lines.specs.PrintedAnswers.{answer_lines as lines_of_answers};
 ghost use Rattle.chl_cmd.specs.Commands.{AreAnswers, query_stage};
 
+use super::text::text_output;
 use chl_inputs::{Stop, read_index, read_pairs};
 use chl_lines::answer_lines;
 use desk_io::Desk;
@@ -28,8 +29,7 @@ pub fn query_output<R: Threads + Sync, D: Desk>(
 {
     let index = read_index(alloc, index, desk)?;
     let pairs = read_pairs(alloc, pairs, index.n(), desk)?;
-    let text = replies_text(rt, alloc, &index, &pairs)?;
-    Ok(Pieces::one(alloc, text))
+    text_output(alloc, replies_text(rt, alloc, &index, &pairs))
 }
 
 /// The lines of what the rows say of the pairs.

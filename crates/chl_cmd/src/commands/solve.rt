@@ -10,6 +10,7 @@ ghost use Rattle.chl_cmd.specs.Commands.{AreAnswers, solve_stage};
 ghost use Rattle.chl_words.specs.Asking.{AreWithinLimits};
 
 use super::query::replies_text;
+use super::text::text_output;
 use crate::construction::Construction;
 use crate::labelling::labelling;
 use chl_inputs::{Stop, read_graph, read_order, read_pairs};
@@ -39,8 +40,10 @@ pub fn solve_output<R: Threads + Wait + Sync, D: Desk, G: Gate + Sync>(
     let graph = read_graph(alloc, graph, desk)?;
     let ranking = read_order(alloc, order, graph.n(), desk)?;
     let pairs = read_pairs(alloc, pairs, graph.n(), desk)?;
-    let text = answers_text(rt, alloc, &graph, &ranking, &pairs, construction, gate)?;
-    Ok(Pieces::one(alloc, text))
+    text_output(
+        alloc,
+        answers_text(rt, alloc, &graph, &ranking, &pairs, construction, gate),
+    )
 }
 
 /// The lines of the answers, by the rows of the graph's labelling.

@@ -1,7 +1,7 @@
 use Rattle.std.specs.Prelude.{Ok}
-use Rattle.std.proofs.Common.{ap, refl, ◌∙◌}
-use Rattle.std.proofs.lemmas.Result.{err_from_is_err_and}
-use Rattle.chl_inputs.proofs.StagesInTurn.{goes_comes, goes_lost, goes_works}
+use Rattle.std.proofs.Common.{ap, refl}
+use Rattle.chl_inputs.proofs.StagesInTurn.{goes_comes, goes_works}
+use Rattle.chl_cmd.proofs.TextAnswers.{goes_told}
 use Rattle.chl_cmd.proofs.commands.output.Goals as goal
 
 pub returns-in-List : goal.returns-in-List
@@ -32,12 +32,7 @@ pub returns-in-Degree : goal.returns-in-Degree
 returns-in-Degree g c =
     rw c.in-Degree.is (rw c.text-in-Degree.ensures at c.degree_output.ensures)
 
-pub returns-in_err-text-in-Grid : goal.returns-in_err-text-in-Grid
-returns-in_err-text-in-Grid g c =
-    let p = err_from_is_err_and c.from_residual.result c.from_residual.ensures.1 in
-    rw (c.in-Grid.is, p.1, p.2) (goes_lost _)
-
-pub returns-in_ok-text-in-Grid : goal.returns-in_ok-text-in-Grid
-returns-in_ok-text-in-Grid g c =
-    let text = c.in_ok-text-in-Grid.ensures in
-    rw c.in-Grid.is (goes_works text.0 text.1 (goes_works text.2.0 text.2.1 (goes_comes (ap Ok (c.one.ensures ∙ text.2.2)) tt refl)))
+pub returns-in-Grid : goal.returns-in-Grid
+returns-in-Grid g c =
+    rw c.in-Grid.is (goes_told _ _ c.grid_text.result _ c.grid_text.ensures c.text_output.ensures
+    (λ t text. goes_works text.0 text.1 (goes_works text.2.0 text.2.1 (goes_comes (ap Ok text.2.2) tt refl))))

@@ -1,12 +1,9 @@
 use Rattle.std.proofs.Common.{◌≡◌, ◌∙◌, ap, codes, true}
-use Rattle.std.proofs.lemmas.Result.{IfOk-weaker}
 use Rattle.clap.specs.Words.{App, Shape, new_app}
 use Rattle.clap.specs.Simple.{app_of_fields, on_top}
 use Rattle.clap.specs.declared.builder.command.Command.{Command}
 use Rattle.clap.specs.declared.builder.command.Command.TheViews.{out-Command as fields_of}
-use Rattle.chl_words.specs.Literal as literal
 use Rattle.chl_words.specs.Literal.{IsProgram}
-use Rattle.chl_words.proofs.CommandParts.{with_command}
 use Rattle.chl_words.proofs.literal.program.Goals as goal
 
 without_flag : (app : App) (old new : Command) → IsProgram app old → fields_of new ≡ record (fields_of old) { disable_help_flag = true } → IsProgram (on_top (λ (s : Shape). record s { disable_help_flag = true }) app) new
@@ -23,12 +20,12 @@ returns c =
     let bare : IsProgram (new_app (codes "chl")) c.new.result = (c.new.ensures.app, c.new.ensures.local) in
     let first = without_flag _ _ _ bare c.disable_help_flag.ensures in
     let second = without_subcommand _ _ _ first c.disable_help_subcommand.ensures in
-    let third = wants_command _ _ _ second c.subcommand_required.ensures in
-    let one = with_command _ _ _ _ _ third c.in_ok-list.ensures c.in_ok-subcommand.ensures in
-    let two = with_command _ _ _ _ _ one c.in_ok-build.ensures c.in_ok-subcommand-2.ensures in
-    let three = with_command _ _ _ _ _ two c.in_ok-solve.ensures c.in_ok-subcommand-3.ensures in
-    let four = with_command _ _ _ _ _ three c.in_ok-query.ensures c.in_ok-subcommand-4.ensures in
-    let five = with_command _ _ _ _ _ four c.in_ok-path.ensures c.in_ok-subcommand-5.ensures in
-    let six = with_command _ _ _ _ _ five c.in_ok-audit.ensures c.in_ok-subcommand-6.ensures in
-    let seven = with_command _ _ _ _ _ six c.in_ok-degree.ensures c.in_ok-subcommand-7.ensures in
-    IfOk-weaker c.subcommand-8.result _ (IsProgram literal.program) (λ r adds. with_command _ _ _ _ _ seven c.in_ok-grid.ensures adds) c.subcommand-8.ensures
+    let third = wants_command _ _ _ second c.subcommand_required-bare.ensures in
+    let one = c.with_command-program.ensures _ _ third c.list.ensures in
+    let two = c.with_command-program-2.ensures _ _ one c.build.ensures in
+    let three = c.with_command-program-3.ensures _ _ two c.solve.ensures in
+    let four = c.with_command-program-4.ensures _ _ three c.query.ensures in
+    let five = c.with_command-program-5.ensures _ _ four c.path.ensures in
+    let six = c.with_command-program-6.ensures _ _ five c.audit.ensures in
+    let seven = c.with_command-program-7.ensures _ _ six c.degree.ensures in
+    c.with_command.ensures _ _ seven c.grid.ensures

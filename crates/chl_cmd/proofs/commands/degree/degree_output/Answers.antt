@@ -1,7 +1,6 @@
-use Rattle.std.specs.Prelude.{Ok}
-use Rattle.std.proofs.Common.{ap, refl, ◌∙◌}
 use Rattle.std.proofs.lemmas.Result.{err_from_is_err_and}
-use Rattle.chl_inputs.proofs.StagesInTurn.{goes_comes, goes_lost, goes_reads, goes_reads_stop, goes_works}
+use Rattle.chl_inputs.proofs.StagesInTurn.{goes_reads, goes_reads_stop}
+use Rattle.chl_cmd.proofs.TextAnswers.{goes_text}
 use Rattle.chl_cmd.proofs.commands.degree.degree_output.Goals as goal
 
 pub returns-in_err-graph : goal.returns-in_err-graph
@@ -9,11 +8,6 @@ returns-in_err-graph g c =
     let p = err_from_is_err_and c.from_residual.result c.from_residual.ensures.1 in
     rw (p.1, p.2) (goes_reads_stop c.in_err-graph.ensures)
 
-pub returns-in_err-text : goal.returns-in_err-text
-returns-in_err-text g c =
-    let p = err_from_is_err_and c.from_residual-in_err-text.result c.from_residual-in_err-text.ensures.1 in
-    rw (p.1, p.2) (goes_reads c.in_ok-graph.ensures (goes_lost _))
-
 pub returns : goal.returns
 returns g c =
-    goes_reads c.in_ok-graph.ensures (goes_works c.in_ok-text.ensures.0 c.in_ok-text.ensures.1 (goes_comes (ap Ok (c.one.ensures ∙ c.in_ok-text.ensures.2)) tt refl))
+    goes_reads c.in_ok-graph.ensures (goes_text _ _ c.nodes_text.result _ c.nodes_text.ensures c.text_output.ensures)

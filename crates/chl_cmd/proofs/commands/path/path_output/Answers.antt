@@ -1,8 +1,5 @@
-use Rattle.std.proofs.Common.{◌∙◌}
 use Rattle.std.proofs.lemmas.Result.{err_from_is_err_and}
-use Rattle.std.proofs.lemmas.Slice.Zip.{AllZip-long}
-use Rattle.chl_inputs.proofs.StagesInTurn.{goes_lost, goes_reads, goes_reads_stop}
-use Rattle.chl_cmd.proofs.WalkAnswers.{goes_sized, goes_stuck, goes_unsized, goes_walked}
+use Rattle.chl_inputs.proofs.StagesInTurn.{goes_reads, goes_reads_stop}
 use Rattle.chl_cmd.proofs.commands.path.path_output.Goals as goal
 
 pub returns-in_err-graph : goal.returns-in_err-graph
@@ -15,34 +12,5 @@ returns-in_err-index g c =
     let p = err_from_is_err_and c.from_residual-in_err-index.result c.from_residual-in_err-index.ensures.1 in
     rw (p.1, p.2) (goes_reads c.in_ok-graph.ensures (goes_reads_stop c.in_err-index.ensures))
 
-pub returns-then-n : goal.returns-then-n
-returns-then-n g c =
-    rw (c.n-then-n.ensures.value, c.n-then-n-2.ensures.value) (goes_reads c.in_ok-graph.ensures (goes_reads c.in_ok-index.ensures
-    (goes_unsized _ _ _ (rw (c.n.ensures.value, c.n-2.ensures.value) at c.if-n.true))))
-
-pub returns-in_err-pairs : goal.returns-in_err-pairs
-returns-in_err-pairs g c =
-    let p = err_from_is_err_and c.from_residual-in_err-pairs.result c.from_residual-in_err-pairs.ensures.1 in
-    rw (p.1, p.2) (goes_reads c.in_ok-graph.ensures (goes_reads c.in_ok-index.ensures (goes_sized _ _ _ (rw (c.n.ensures.value, c.n-2.ensures.value) at c.if-n.false)
-    (goes_reads_stop (rw c.n-3.ensures.value at c.in_err-pairs.ensures.goes)))))
-
-pub returns-in_err-walks : goal.returns-in_err-walks
-returns-in_err-walks g c =
-    let p = err_from_is_err_and c.from_residual-in_err-walks.result c.from_residual-in_err-walks.ensures.1 in
-    rw (p.1, p.2) (goes_reads c.in_ok-graph.ensures (goes_reads c.in_ok-index.ensures (goes_sized _ _ _ (rw (c.n.ensures.value, c.n-2.ensures.value) at c.if-n.false)
-    (goes_reads (rw c.n-3.ensures.value at c.in_ok-pairs.ensures.goes) (goes_stuck _ _ _ _ c.in_err-walks.ensures.err)))))
-
-pub walk_lines-requires : goal.walk_lines-requires
-walk_lines-requires g c = rw (c.deref.ensures.value, c.list.ensures) (AllZip-long _ _ _ c.in_ok-walks.ensures.ok.0)
-
-pub returns-in_err-text : goal.returns-in_err-text
-returns-in_err-text g c =
-    let p = err_from_is_err_and c.from_residual-in_err-text.result c.from_residual-in_err-text.ensures.1 in
-    rw (p.1, p.2) (goes_reads c.in_ok-graph.ensures (goes_reads c.in_ok-index.ensures (goes_sized _ _ _ (rw (c.n.ensures.value, c.n-2.ensures.value) at c.if-n.false)
-    (goes_reads (rw c.n-3.ensures.value at c.in_ok-pairs.ensures.goes) (goes_lost _)))))
-
 pub returns : goal.returns
-returns g c =
-    goes_reads c.in_ok-graph.ensures (goes_reads c.in_ok-index.ensures (goes_sized _ _ _ (rw (c.n.ensures.value, c.n-2.ensures.value) at c.if-n.false)
-    (goes_reads (rw c.n-3.ensures.value at c.in_ok-pairs.ensures.goes)
-    (goes_walked _ _ _ c.in_ok-walks.walks.items c.one.result c.in_ok-walks.ensures.ok.0 c.in_ok-walks.ensures.ok.1 (c.one.ensures ∙ (rw (c.list.ensures, c.deref.ensures.value) at c.in_ok-text.ensures))))))
+returns g c = goes_reads c.in_ok-graph.ensures (goes_reads c.in_ok-index.ensures c.paths_output.ensures)

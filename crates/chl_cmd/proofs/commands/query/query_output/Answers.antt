@@ -1,7 +1,6 @@
-use Rattle.std.specs.Prelude.{Ok}
-use Rattle.std.proofs.Common.{ap, refl, ◌∙◌}
 use Rattle.std.proofs.lemmas.Result.{err_from_is_err_and}
-use Rattle.chl_inputs.proofs.StagesInTurn.{goes_comes, goes_lost, goes_reads, goes_reads_stop, goes_works}
+use Rattle.chl_inputs.proofs.StagesInTurn.{goes_reads, goes_reads_stop}
+use Rattle.chl_cmd.proofs.TextAnswers.{goes_text}
 use Rattle.chl_cmd.proofs.commands.query.query_output.Goals as goal
 
 pub returns-in_err-index : goal.returns-in_err-index
@@ -14,12 +13,7 @@ returns-in_err-pairs g c =
     let p = err_from_is_err_and c.from_residual-in_err-pairs.result c.from_residual-in_err-pairs.ensures.1 in
     rw (p.1, p.2) (goes_reads c.in_ok-index.ensures (goes_reads_stop (rw c.n.ensures.value at c.in_err-pairs.ensures.goes)))
 
-pub returns-in_err-text : goal.returns-in_err-text
-returns-in_err-text g c =
-    let p = err_from_is_err_and c.from_residual-in_err-text.result c.from_residual-in_err-text.ensures.1 in
-    rw (p.1, p.2) (goes_reads c.in_ok-index.ensures (goes_reads (rw c.n.ensures.value at c.in_ok-pairs.ensures.goes) (goes_lost _)))
-
 pub returns : goal.returns
 returns g c =
     goes_reads c.in_ok-index.ensures (goes_reads (rw c.n.ensures.value at c.in_ok-pairs.ensures.goes)
-    (goes_works c.in_ok-text.ensures.0 c.in_ok-text.ensures.1 (goes_comes (ap Ok (c.one.ensures ∙ c.in_ok-text.ensures.2)) tt refl)))
+    (goes_text _ _ c.replies_text.result _ c.replies_text.ensures c.text_output.ensures))

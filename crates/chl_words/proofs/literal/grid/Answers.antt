@@ -1,0 +1,11 @@
+use Rattle.std.proofs.Common.{codes}
+use Rattle.clap.specs.Words.{new_app}
+use Rattle.chl_words.specs.Literal.{IsProgram}
+use Rattle.chl_words.proofs.literal.grid.Goals as goal
+
+pub returns : goal.returns
+returns c =
+    let none : IsProgram (new_app (codes "grid")) c.new.result = (c.new.ensures.app, c.new.ensures.local) in
+    let one = c.with_option-command.ensures _ _ none c.number_needed-side.ensures in
+    let two = c.with_option-command-2.ensures _ _ one c.number_needed-seed.ensures in
+    c.with_option.ensures _ _ two c.workers.ensures

@@ -1,0 +1,10 @@
+use Rattle.std.proofs.Common.{codes}
+use Rattle.clap.specs.Words.{new_app}
+use Rattle.chl_words.specs.Literal.{IsProgram}
+use Rattle.chl_words.proofs.literal.list.Goals as goal
+
+pub returns : goal.returns
+returns c =
+    let none : IsProgram (new_app (codes "list")) c.new.result = (c.new.ensures.app, c.new.ensures.local) in
+    let one = c.with_option-command.ensures _ _ none c.file.ensures in
+    c.with_option.ensures _ _ one c.file-2.ensures
