@@ -1,9 +1,9 @@
 -- What stands at a root among entries that were listed for roots.
-use Rattle.std.proofs.Common.{◌≡◌, ◌≢◌, inl, inr, ℕ, ◌<◌, ◌≤◌, ◌&&◌, List, [], ◌∷◌, ◌++◌, Contains, filter, length, map, refl, sym, ap, subst, ◌∙◌}
+use Rattle.std.proofs.Common.{◌≡◌, ◌≢◌, inl, inr, ℕ, ◌+◌, ◌<◌, ◌≤◌, ◌&&◌, List, [], ◌∷◌, ◌++◌, Contains, filter, get_or, length, map, take, refl, sym, ap, subst, ◌∙◌}
 use Rattle.std.specs.Prelude.{Bool, Some, nat_lt, slice_get}
 use Rattle.std.proofs.lemmas.Bool.{cases_eq, cases_lt, eq-eqb, ne_eqb, le-ltb}
 use Rattle.std.proofs.Common.{lt-ltb}
-use Rattle.std.proofs.lemmas.List.{map-append}
+use Rattle.std.proofs.lemmas.List.{append-nil, map-append, take_more}
 use Rattle.std.proofs.lemmas.List.Elements.{filter-append}
 use Rattle.std.proofs.lemmas.Option.{same_Some}
 use Rattle.walk_laws.specs.declared.entry.Entry.{Entry}
@@ -39,6 +39,27 @@ module _ (at : List ℕ) (far : ℕ) where
 
   one_own : (x : NodeEntry) → position_of at x.node < far → position_of at x.node ≤ x.pos → hub_entries at far (x ∷ []) ≡ []
   one_own x near past = rw (lt-ltb (position_of at x.node) far near) (rw (le-ltb x.pos (position_of at x.node) past) refl)
+
+  -- one more of them is listed, or isn't
+  module _ (es : List NodeEntry) (i : ℕ) (d : NodeEntry) (within : i < length es) where
+    next_is : hub_entries at far (take (i + 1) es) ≡ hub_entries at far (take i es) ++ hub_entries at far (get_or es i d ∷ [])
+    next_is = ap (hub_entries at far) (take_more es i d within) ∙ hub_entries-append (take i es) (get_or es i d ∷ [])
+
+    pub next_listed : (of : ℕ) (entry : Entry) → of ≡ position_of at (get_or es i d).node → entry ≡ entry_of (get_or es i d) → of < far → (get_or es i d).pos < of → hub_entries at far (take (i + 1) es) ≡ hub_entries at far (take i es) ++ record { of = of; entry = entry } ∷ []
+    next_listed of entry of_is entry_is near above =
+        let x = get_or es i d in
+        next_is
+        ∙ ap (λ hs. hub_entries at far (take i es) ++ hs) (one_listed x (subst (λ p. p < far) of_is near) (subst (λ p. (get_or es i d).pos < p) of_is above))
+        ∙ ap (λ (p : ℕ). hub_entries at far (take i es) ++ record { of = p; entry = entry_of (get_or es i d) } ∷ []) (sym of_is)
+        ∙ ap (λ (e : Entry). hub_entries at far (take i es) ++ record { of = of; entry = e } ∷ []) (sym entry_is)
+
+    pub next_far : (of : ℕ) → of ≡ position_of at (get_or es i d).node → far ≤ of → hub_entries at far (take (i + 1) es) ≡ hub_entries at far (take i es)
+    next_far of of_is past = next_is ∙ ap (λ hs. hub_entries at far (take i es) ++ hs) (one_far (get_or es i d) (subst (λ p. far ≤ p) of_is past)) ∙ append-nil (hub_entries at far (take i es))
+
+    pub next_own : (of : ℕ) → of ≡ position_of at (get_or es i d).node → of < far → of ≤ (get_or es i d).pos → hub_entries at far (take (i + 1) es) ≡ hub_entries at far (take i es)
+    next_own of of_is near past =
+        let x = get_or es i d in
+        next_is ∙ ap (λ hs. hub_entries at far (take i es) ++ hs) (one_own x (subst (λ p. p < far) of_is near) (subst (λ p. p ≤ (get_or es i d).pos) of_is past)) ∙ append-nil (hub_entries at far (take i es))
 
   module _ (ranking : IsRanking at) (q h : ℕ) (near : q < far) (is : slice_get at q ≡ Some h) where
     place : position_of at h ≡ q

@@ -1,5 +1,5 @@
 -- What is listed for the next roots of what all workers hand in.
-use Rattle.std.proofs.Common.{◌≡◌, ℕ, ◌+◌, ◌<◌, ◌≤◌, List, [], ◌∷◌, ◌++◌, All, get_or, length, take, sym, ap, ◌∙◌, arith}
+use Rattle.std.proofs.Common.{◌≡◌, ℕ, ◌+◌, ◌<◌, ◌≤◌, List, [], ◌∷◌, ◌++◌, All, flat_map, get_or, length, take, sym, ap, ◌∙◌, arith}
 use Rattle.std.proofs.lemmas.Grind.{flat_map-append}
 use Rattle.std.proofs.lemmas.List.{append-nil, take_more}
 use Rattle.std.proofs.lemmas.List.Concat.{flat_map-cons}
@@ -16,12 +16,12 @@ use Rattle.gll_build.specs.Dealing.{ListsHubs, entries_below, hub_entries}
 use Rattle.gll_build.specs.Growing.{Sheaf, all_put}
 use Rattle.gll_build.proofs.ListedHubs.{below-append, listed_of_hub}
 
--- what the workers up to one put, and what that one did
-all_put-more : (sheaves : List Sheaf) (i : ℕ) (s : Sheaf) → i < length sheaves → s ≡ get_or sheaves i s → all_put (take (i + 1) sheaves) ≡ all_put (take i sheaves) ++ s.list
-all_put-more sheaves i s within is =
-    ap all_put (take_more sheaves i s within ∙ ap (λ t. take i sheaves ++ t ∷ []) (sym is))
-    ∙ flat_map-append (λ (t : Sheaf). t.list) (take i sheaves) (s ∷ [])
-    ∙ ap (λ list. all_put (take i sheaves) ++ list) (flat_map-cons (λ (t : Sheaf). t.list) s [] ∙ append-nil s.list)
+-- what is listed of the workers up to one, and of that one
+pub one_more : {X : Type 0} (f : Sheaf → List X) (sheaves : List Sheaf) (i : ℕ) (s : Sheaf) → i < length sheaves → s ≡ get_or sheaves i s → flat_map f (take (i + 1) sheaves) ≡ flat_map f (take i sheaves) ++ f s
+one_more f sheaves i s within is =
+    ap (flat_map f) (take_more sheaves i s within ∙ ap (λ t. take i sheaves ++ t ∷ []) (sym is))
+    ∙ flat_map-append f (take i sheaves) (s ∷ [])
+    ∙ ap (λ list. flat_map f (take i sheaves) ++ list) (flat_map-cons f s [] ∙ append-nil (f s))
 
 module _ (at : List ℕ) (next : ℕ) where
   -- what is listed up to a position past the next root's, or at it
@@ -41,4 +41,4 @@ module _ (at : List ℕ) (next : ℕ) where
   ListsHubs-more sheaves i s before more after within is first second added q h low there =
       ap (λ hs. entries_of_hub hs q) added
       ∙ ListsHubs-both (all_put (take i sheaves)) s.list before more first second q h low there
-      ∙ ap (λ list. entries_below q (entries_of_node list h)) (sym (all_put-more sheaves i s within is))
+      ∙ ap (λ list. entries_below q (entries_of_node list h)) (sym (one_more (λ (t : Sheaf). t.list) sheaves i s within is))

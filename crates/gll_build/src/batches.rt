@@ -1,7 +1,11 @@
 //! The table is cut in stripes, and what all workers put in a superstep is dealt to them.
-ghost use Rattle.std.specs.Prelude.{◌≡◌, ℕ, ◌+◌, ◌<◌, All, length, map, take, vec_len, IfOk};
+ghost use Rattle.std.specs.Prelude.{◌≡◌, ℕ, ◌+◌, ◌<◌, ◌≤◌, List, All, length, map, take, vec_len, IfOk};
 ghost use Rattle.hub_index.specs.Stripes.{stripe_count};
-ghost use Rattle.gll_build.specs.Growing.{IsBatch, lists_at};
+ghost use Rattle.label_clean.specs.declared.hub_rows.HubEntry.{HubEntry};
+ghost use Rattle.label_clean.specs.HubRows.{AreGathered};
+ghost use Rattle.gll_build.specs.Dealing.{ListsHubs};
+ghost use Rattle.gll_build.specs.Growing.{IsBatch, all_put, lists_at};
+ghost use Rattle.gll_build.specs.Tables.{IsStripeBelow};
 
 use crate::bench::Bench;
 use crate::floor::Grown;
@@ -10,6 +14,7 @@ use crate::named::Build;
 use crate::reaping::{Reaped, hubs_below, next_root, reap};
 use crate::site::Site;
 use crate::table::{Stripe, Table};
+use hub_index::SplitRows;
 use label_clean::{HubRows, RunList};
 use std::alloc::{AllocError, Global};
 use std::marker::PhantomData;
@@ -38,10 +43,7 @@ pub fn dealt_batches<B: Build>(
     let first = table.first;
     let reaped = reap(alloc, first, grown)?;
     let next = next_root(alloc, first, table.n, &reaped)?;
-    let hubs = hubs_below(site, next, &reaped)?;
-    let mut hub_rows = HubRows::new(alloc);
-    hub_rows.gather(first, next, &[hubs])?;
-    let hub_rows = Arc::new(alloc, hub_rows)?;
+    let hub_rows = rows_of_hubs(site, first, next, &reaped)?;
     let (benches, dealt) = taken_apart(alloc, reaped)?;
     let batches = batches_of(alloc, table, next, dealt, &hub_rows)?;
     Ok(Dealt {
@@ -49,6 +51,24 @@ pub fn dealt_batches<B: Build>(
         next,
         benches,
     })
+}
+
+/// The rows of the nodes with positions from the first one on and below the next root's, of what all have put there. The only error
+/// is that memory ran out.
+fn rows_of_hubs<B: Build>(
+    site: &Site<'_, B>,
+    first: u32,
+    next: u32,
+    reaped: &[Reaped<B>],
+) -> Result<Arc<HubRows, Global>, AllocError>
+    requires { first ≤ next }
+    ensures { IfOk result (λ rows. (hubs : List HubEntry) × ListsHubs B.order next (all_put reaped.now) hubs × AreGathered first next hubs rows.value) }
+{
+    let hubs = hubs_below(site, next, reaped)?;
+    let mut rows = HubRows::new(site.alloc);
+    rows.gather(first, next, &[hubs])?;
+    let rows = Arc::new(site.alloc, rows)?;
+    Ok(rows)
 }
 
 /// The benches, and what was dealt to the stripes on each. The only error is that memory ran out.
@@ -61,34 +81,43 @@ fn taken_apart<B: Build>(
     let mut benches = Vec::with_capacity(alloc, reaped.len())?;
     let mut dealt = Vec::with_capacity(alloc, reaped.len())?;
     for one in reaped {
-        let Reaped {
-            bench,
-            first: _,
-            far: _,
-        } = one;
-        let Bench {
-            index,
-            own,
-            work,
-            list,
-            roots,
-            dealt: lists,
-            hubs,
-            of,
-        } = bench;
+        let (bench, lists) = one_taken_apart(alloc, one);
         dealt.push(lists)?;
-        benches.push(Bench {
-            index,
-            own,
-            work,
-            list,
-            roots,
-            dealt: Vec::new(alloc),
-            hubs,
-            of,
-        })?;
+        benches.push(bench)?;
     }
     Ok((benches, dealt))
+}
+
+/// A worker's bench, and what was dealt to the stripes on it.
+fn one_taken_apart<B: Build>(alloc: Global, one: Reaped<B>) -> (Bench<B>, Vec<RunList>)
+    ensures { result.1.items ≡ one.dealt }
+{
+    let Reaped {
+        bench,
+        first: _,
+        far: _,
+    } = one;
+    let Bench {
+        index,
+        own,
+        work,
+        list,
+        roots,
+        dealt,
+        hubs,
+        of,
+    } = bench;
+    let bench = Bench {
+        index,
+        own,
+        work,
+        list,
+        roots,
+        dealt: Vec::new(alloc),
+        hubs,
+        of,
+    };
+    (bench, dealt)
 }
 
 /// For each stripe of the table the lists that were dealt to it. The only error is that memory ran out.
@@ -114,19 +143,37 @@ fn batches_of<B: Build>(
     while let Some(rows) = stripes.pop() {
         let number = stripes.len() as u32;
         let lists = last_lists(alloc, &mut dealt)?;
-        batches.push(Some(Batch {
-            stripe: Stripe {
-                rows,
-                number,
-                first,
-                of: PhantomData,
-            },
-            next,
-            lists,
-            hub_rows: Arc::try_clone(hub_rows)?,
-        }))?;
+        batches.push(Some(batch_of(rows, number, first, next, lists, hub_rows)?))?;
     }
     Ok(batches)
+}
+
+/// A stripe of the table, which is up to the position `first`, from 0, with the lists that join it. The only error is that memory
+/// ran out.
+fn batch_of<B: Build>(
+    rows: SplitRows,
+    number: u32,
+    first: u32,
+    next: u32,
+    lists: Vec<RunList>,
+    hub_rows: &Arc<HubRows, Global>,
+) -> Result<Batch<B>, AllocError>
+    requires within { first ≤ length B.order }
+    requires stripe { IsStripeBelow B.edges B.order B.shift first number rows }
+    requires lists { IsBatch B.edges B.order B.shift number first next lists.items hub_rows.now.value }
+{
+    let hub_rows = Arc::try_clone(hub_rows)?;
+    Ok(Batch {
+        stripe: Stripe {
+            rows,
+            number,
+            first,
+            of: PhantomData,
+        },
+        next,
+        lists,
+        hub_rows,
+    })
 }
 
 /// Takes the last list of each. The only error is that memory ran out.

@@ -2,7 +2,8 @@
 
 use crate::batches::{Dealt, dealt_batches};
 use crate::bench::Bench;
-use crate::floor::{Floor, FreshPool, Grown, Slot, slots_on};
+use crate::floor::{Floor, Grown, Slot, slots_on};
+use crate::fresh_pool::FreshPool;
 use crate::joining::{Batch, Joined};
 use crate::named::Build;
 use crate::putting_together::joined_table;
@@ -36,6 +37,63 @@ pub enum Stage<B: Build> {
     Turning,
     /// The build is over: with a table, or since memory ran out.
     Over(Result<Table<B>, AllocError>),
+}
+
+impl<B: Build> Stage<B> {
+    /// A task for the worker of this number, from 0, of so many.
+    fn task(&mut self, me: u32, workers: u32) -> Task<B> {
+        match self {
+            Stage::Growing {
+                floor: _,
+                slots,
+                grown: _,
+            } => match take_from(slots, me, workers) {
+                Some(slot) => Task::Grow(slot),
+                None => Task::Wait,
+            },
+            Stage::Joining {
+                batches,
+                joined: _,
+                next: _,
+                benches: _,
+            } => match take_from(batches, me, workers) {
+                Some(batch) => Task::Join(batch),
+                None => Task::Wait,
+            },
+            Stage::Turning => Task::Wait,
+            Stage::Over(_) => Task::End,
+        }
+    }
+
+    /// Adds what was grown. It answers whether nothing else is to come.
+    fn add_grown(&mut self, one: Grown<B>) -> bool {
+        match self {
+            Stage::Growing {
+                floor: _,
+                slots,
+                grown,
+            } => is_last(grown, one, slots.len()),
+            _ => false,
+        }
+    }
+
+    /// Adds a stripe that is done. It answers whether no other is to come.
+    fn add_joined(&mut self, one: Joined<B>) -> bool {
+        match self {
+            Stage::Joining {
+                batches,
+                joined,
+                next: _,
+                benches: _,
+            } => is_last(joined, one, batches.len()),
+            _ => false,
+        }
+    }
+}
+
+/// Adds one to those that are done of so many. It answers whether it was the last, or memory ran out for it.
+fn is_last<T: Drop>(done: &mut Vec<T>, one: T, count: usize) -> bool {
+    done.push(one).is_err() || done.len() >= count
 }
 
 /// What a worker is to do.
@@ -81,27 +139,7 @@ impl<B: Build> Board<B> {
     /// A task for the worker of this number, from 0, of so many.
     pub fn take<R: Wait>(&self, rt: &R, me: u32, workers: u32) -> Task<B> {
         let mut stage = self.stage.lock(rt);
-        match &mut *stage {
-            Stage::Growing {
-                floor: _,
-                slots,
-                grown: _,
-            } => match take_from(slots, me, workers) {
-                Some(slot) => Task::Grow(slot),
-                None => Task::Wait,
-            },
-            Stage::Joining {
-                batches,
-                joined: _,
-                next: _,
-                benches: _,
-            } => match take_from(batches, me, workers) {
-                Some(batch) => Task::Join(batch),
-                None => Task::Wait,
-            },
-            Stage::Turning => Task::Wait,
-            Stage::Over(_) => Task::End,
-        }
+        stage.task(me, workers)
     }
 
     /// Hands in what was grown.
@@ -120,15 +158,7 @@ impl<B: Build> Board<B> {
     /// Adds what was grown, and takes the stage out where nothing else is to come.
     fn with_grown<R: Wait>(&self, rt: &R, one: Grown<B>) -> Stage<B> {
         let mut stage = self.stage.lock(rt);
-        let whole = match &mut *stage {
-            Stage::Growing {
-                floor: _,
-                slots,
-                grown,
-            } => grown.push(one).is_err() || grown.len() >= slots.len(),
-            _ => false,
-        };
-        if whole {
+        if stage.add_grown(one) {
             return replace(&mut *stage, Stage::Turning);
         }
         Stage::Turning
@@ -152,16 +182,7 @@ impl<B: Build> Board<B> {
     /// Adds a stripe that is done, and takes the stage out where no other is to come.
     fn with_joined<R: Wait>(&self, rt: &R, one: Joined<B>) -> Stage<B> {
         let mut stage = self.stage.lock(rt);
-        let whole = match &mut *stage {
-            Stage::Joining {
-                batches,
-                joined,
-                next: _,
-                benches: _,
-            } => joined.push(one).is_err() || joined.len() >= batches.len(),
-            _ => false,
-        };
-        if whole {
+        if stage.add_joined(one) {
             return replace(&mut *stage, Stage::Turning);
         }
         Stage::Turning
@@ -263,6 +284,16 @@ fn growing<B: Build>(
     if table.first >= table.n {
         return Ok(Stage::Over(Ok(table)));
     }
+    growing_over(site, table, benches, fresh)
+}
+
+/// The stage in which trees grow over this table. The only error is that memory ran out.
+fn growing_over<B: Build>(
+    site: &Site<'_, B>,
+    table: Table<B>,
+    benches: Vec<Bench<B>>,
+    fresh: FreshPool<B>,
+) -> Result<Stage<B>, AllocError> {
     let (floor, slots) = slots_on(site, table, benches, fresh)?;
     let grown = Vec::with_capacity(site.alloc, slots.len())?;
     Ok(Stage::Growing {
@@ -307,11 +338,19 @@ fn growing_on<B: Build>(
     if site.once {
         return Ok(Stage::Over(Ok(table)));
     }
-    let fresh = match fresh {
-        Some(fresh) => fresh,
-        None => FreshPool::new(site)?,
-    };
+    let fresh = fresh_or_new(site, fresh)?;
     growing(site, table, benches, fresh)
+}
+
+/// The pool, or where there is none a new one. The only error is that memory ran out.
+fn fresh_or_new<B: Build>(
+    site: &Site<'_, B>,
+    fresh: Option<FreshPool<B>>,
+) -> Result<FreshPool<B>, AllocError> {
+    match fresh {
+        Some(fresh) => Ok(fresh),
+        None => FreshPool::new(site),
+    }
 }
 
 /// The floor, once all others have let go of it.

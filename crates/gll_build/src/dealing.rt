@@ -94,12 +94,16 @@ pub fn list_hubs(
     hubs.clear();
     for entry in entries {
         let of = ranking.pos(entry.node);
-        if of < below && entry.pos < of {
-            hubs.push(HubEntry {
-                of,
-                entry: entry.entry(),
-            })?;
+        if of >= below {
+            continue;
         }
+        if entry.pos >= of {
+            continue;
+        }
+        hubs.push(HubEntry {
+            of,
+            entry: entry.entry(),
+        })?;
     }
     Ok(())
 }

@@ -1,33 +1,28 @@
 //! What the workers of a superstep stand on, and their places there.
-ghost use Rattle.std.specs.Prelude.{◌≡◌, ℕ, [], All, ◌+◌, ◌-◌, ◌*◌, ◌/◌, ◌^◌, ◌<◌, ◌≤◌, IfOk, length, min};
+ghost use Rattle.std.specs.Prelude.{◌≡◌, ℕ, [], All, ◌+◌, ◌-◌, ◌<◌, ◌≤◌, IfOk, length};
 ghost use Rattle.hub_index.specs.Views.{IsNode};
 ghost use Rattle.gll_build.specs.Growing.{HavePutOver};
 ghost use Rattle.gll_build.specs.Shares.{AreNew, AreSeatsOf};
 
 use crate::bench::Bench;
 use crate::dealing::{deal, list_hubs};
+use crate::fresh_pool::FreshPool;
 use crate::ground::Ground;
 use crate::named::Build;
 use crate::share::{Seats, Share, grow_share};
 use crate::site::Site;
 use crate::table::Table;
 use desk_io::Gate;
-use label_pool::{Pool, PoolSeat};
+use label_pool::Pool;
 use pool_view::Fits;
 use pruned_tree::Work;
 use rank_table::Ranking;
 use root_claims::Claims;
 use std::alloc::{AllocError, Global};
-use std::marker::{Model, PhantomData};
+use std::marker::Model;
 use std::sync::atomic::AtomicU32;
 use std::sync::{Arc, Wait};
 use walk_laws::Graph;
-
-/// The most cells that the pool of a superstep has.
-const MOST_CELLS: u64 = 1_048_576;
-
-/// How many cells a block of a large pool has.
-const BLOCK: u32 = 64;
 
 /// Of how many positions from the first root's on a worker lists what it put at the nodes there, before anyone knows which
 /// root comes next.
@@ -110,50 +105,6 @@ impl<B: Build> Floor<B> {
     }
 }
 
-/// A pool for one superstep, which nobody has sat down at. Contracts see for how many workers it has seats.
-#[derive(Drop)]
-pub struct FreshPool<B: Build> {
-    pool: Pool<Fits>,
-    seat: PoolSeat<Fits>,
-    workers: u32,
-    of: PhantomData<B>,
-}
-
-impl<B: Build> Model for FreshPool<B> {
-    ghost use Rattle.std.specs.Prelude.{ℕ};
-    ghost use Rattle.gll_build.specs.Shares.{IsFreshPool};
-
-    ghost Value = { ℕ };
-
-    ghost view = { λ p. p.workers };
-
-    ghost invariant = { λ p. IsFreshPool B.edges B.order p.workers p.pool p.seat };
-}
-
-impl<B: Build> FreshPool<B> {
-    /// A pool for the site's workers. The only error is that memory ran out.
-    pub fn new(site: &Site<'_, B>) -> Result<FreshPool<B>, AllocError> {
-        let workers = site.workers;
-        let fact = Fits::of(site.graph, site.ranking);
-        let cells = cells_for(workers, site.cut);
-        let block = block_for(cells, site.cut, workers);
-        let (pool, seat) = Pool::in_blocks(
-            site.alloc,
-            site.graph.n(),
-            cells / block,
-            block,
-            workers,
-            fact,
-        )?;
-        Ok(FreshPool {
-            pool,
-            seat,
-            workers,
-            of: PhantomData,
-        })
-    }
-}
-
 /// A new floor for this table with this pool, and a slot there for each bench. The error is that memory ran out, or that the pool
 /// isn't for as many workers as the site has.
 pub fn slots_on<B: Build>(
@@ -162,8 +113,21 @@ pub fn slots_on<B: Build>(
     benches: Vec<Bench<B>>,
     fresh: FreshPool<B>,
 ) -> Result<(Arc<Floor<B>, Global>, Vec<Option<Slot<B>>>), AllocError> {
-    let alloc = site.alloc;
-    let n = site.graph.n();
+    let (floor, first) = floor_with(site, table, fresh)?;
+    let slots = slots_at(site.alloc, &floor, site.workers, first, benches)?;
+    Ok((floor, slots))
+}
+
+/// A new floor for this table with this pool, and its first seats, from which those of all workers may be split. The error is that
+/// memory ran out, or that the pool isn't for as many workers as the site has.
+fn floor_with<B: Build>(
+    site: &Site<'_, B>,
+    table: Table<B>,
+    fresh: FreshPool<B>,
+) -> Result<(Arc<Floor<B>, Global>, Seats), AllocError>
+    ensures seats { IfOk result (λ r. AreSeatsOf r.0.value.claims r.0.value.pool (site.now.workers - 1) r.1) }
+    ensures new { IfOk result (λ r. AreNew r.1) }
+{
     let FreshPool {
         pool,
         seat: pool_seat,
@@ -173,13 +137,9 @@ pub fn slots_on<B: Build>(
     if workers != site.workers {
         return Err(AllocError);
     }
-    let (claims, claim_seat) = Claims::new(alloc, table.first, n, workers)?;
-    let first = Seats {
-        claims: claim_seat,
-        pool: pool_seat,
-    };
+    let (claims, claim_seat) = Claims::new(site.alloc, table.first, site.graph.n(), workers)?;
     let floor = Arc::new(
-        alloc,
+        site.alloc,
         Floor {
             table,
             claims,
@@ -187,8 +147,11 @@ pub fn slots_on<B: Build>(
             filled: AtomicU32::new(0),
         },
     )?;
-    let slots = slots_at(alloc, &floor, workers, first, benches)?;
-    Ok((floor, slots))
+    let seats = Seats {
+        claims: claim_seat,
+        pool: pool_seat,
+    };
+    Ok((floor, seats))
 }
 
 /// A slot on the floor for each of so many workers, with seats that are split from the first ones. The only error is that memory
@@ -209,16 +172,28 @@ fn slots_at<B: Build>(
     let mut slots = Vec::with_capacity(alloc, workers as usize)?;
     for _ in 1..workers {
         let seats = split_off(floor, &mut first);
-        let Some(bench) = benches.pop() else {
-            return Err(AllocError);
-        };
-        slots.push(Some(slot_at(floor, seats, bench)?))?;
+        add_slot(floor, seats, &mut benches, &mut slots)?;
     }
+    add_slot(floor, first, &mut benches, &mut slots)?;
+    Ok(slots)
+}
+
+/// Adds a slot on the floor with these seats and the last of the benches. The error is that memory ran out, or that there is no
+/// bench.
+fn add_slot<B: Build>(
+    floor: &Arc<Floor<B>, Global>,
+    seats: Seats,
+    benches: &mut Vec<Bench<B>>,
+    slots: &mut Vec<Option<Slot<B>>>,
+) -> Result<(), AllocError>
+    requires seats { AreSeatsOf floor.now.value.claims floor.now.value.pool 0 seats }
+    requires new { AreNew seats }
+{
     let Some(bench) = benches.pop() else {
         return Err(AllocError);
     };
-    slots.push(Some(slot_at(floor, first, bench)?))?;
-    Ok(slots)
+    slots.push(Some(slot_at(floor, seats, bench)?))?;
+    Ok(())
 }
 
 /// New seats, from which no more may be split.
@@ -362,29 +337,4 @@ fn grow_there<B: Build, R: Wait, G: Gate>(
         filled: &floor.filled,
     };
     grow_share(rt, alloc, &ground, share, work, gate)
-}
-
-/// How many cells the pool of a superstep has: the workers' cuts together, up to a bound.
-fn cells_for(workers: u32, cut: u32) -> u32
-    requires { (1 ≤ workers) × (1 ≤ cut) }
-    ensures cells { result ≡ min (workers * cut) 1048576 }
-    ensures within { (1 ≤ result) × (result ≤ 2 ^ 31) }
-{
-    (u64::from(workers) * u64::from(cut)).min(MOST_CELLS) as u32
-}
-
-/// How many of the cells a worker draws from the pool at once: one, unless they can be drawn in blocks that take no more than
-/// a worker's cut.
-fn block_for(cells: u32, cut: u32, workers: u32) -> u32
-    requires cells { cells ≡ min (workers * cut) 1048576 }
-    requires workers { (1 ≤ workers) × (workers ≤ 64) }
-    requires cut { 1 ≤ cut }
-    ensures some { 1 ≤ result }
-    ensures whole { cells / result * result ≡ cells }
-    ensures each { workers * result ≤ cells }
-{
-    if cut >= BLOCK && cells % BLOCK == 0 {
-        return BLOCK;
-    }
-    1
 }

@@ -20,13 +20,19 @@ pub fn worked_on<B: Build + Send + Sync, R: Threads + Wait + Sync, G: Gate + Syn
     table: Table<B>,
     gate: &G,
 ) -> Result<Table<B>, AllocError> {
+    let benches = benches_for(site)?;
+    let board = Board::new(site, table, benches)?;
+    all_work(rt, site, &board, gate, site.workers);
+    board.into_table()
+}
+
+/// A bench for each worker of the site. The only error is that memory ran out.
+fn benches_for<B: Build>(site: &Site<'_, B>) -> Result<Vec<Bench<B>>, AllocError> {
     let mut benches = Vec::with_capacity(site.alloc, site.workers as usize)?;
     for index in 0..site.workers {
         benches.push(Bench::new(site, index)?)?;
     }
-    let board = Board::new(site, table, benches)?;
-    all_work(rt, site, &board, gate, site.workers);
-    board.into_table()
+    Ok(benches)
 }
 
 /// Lets so many workers work to the end, each in a thread of its own where one can be made: else one after another, and the first

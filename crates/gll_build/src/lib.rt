@@ -7,6 +7,7 @@ mod board;
 mod build;
 mod dealing;
 mod floor;
+mod fresh_pool;
 mod ground;
 mod hall;
 mod joining;

@@ -1,11 +1,13 @@
 //! Stripes that are done make a table again.
 ghost use Rattle.std.specs.Prelude.{◌≡◌, IfOk};
+ghost use Rattle.gll_build.specs.Tables.{IsStripeBelow};
 
 use crate::bench::Bench;
 use crate::joining::Joined;
 use crate::named::Build;
 use crate::site::Site;
 use crate::table::{Stripe, Table};
+use hub_index::SplitRows;
 use label_clean::RunList;
 use std::alloc::{AllocError, Global};
 use std::marker::PhantomData;
@@ -20,29 +22,41 @@ pub fn joined_table<B: Build>(
 ) -> Result<Table<B>, AllocError>
     ensures { IfOk result (λ table. table.first ≡ next) }
 {
-    let mut places = places_for(site)?;
+    let mut places = places_for(site.alloc, site.count)?;
     for one in joined {
-        let Joined { stripe, lists } = one;
-        hand_back(lists, benches)?;
-        put_at_its_place(stripe?, &mut places);
+        put_back(one, benches, &mut places)?;
     }
     table_of(site, next, places)
 }
 
-/// A place for each stripe of the table. The only error is that memory ran out.
-fn places_for<B: Build>(site: &Site<'_, B>) -> Result<Vec<Option<Stripe<B>>>, AllocError> {
-    let mut places = Vec::with_capacity(site.alloc, site.count as usize)?;
-    for _ in 0..site.count {
+/// Hands the lists back, one to each bench, and puts the stripe at its place. The error is that memory ran out, for the stripe or
+/// here.
+fn put_back<B: Build>(
+    one: Joined<B>,
+    benches: &mut Vec<Bench<B>>,
+    places: &mut Vec<Option<Stripe<B>>>,
+) -> Result<(), AllocError> {
+    let Joined { stripe, lists } = one;
+    hand_back(lists, benches)?;
+    let stripe = stripe?;
+    put_at(stripe.number, stripe, places);
+    Ok(())
+}
+
+/// So many places with nothing. The only error is that memory ran out.
+fn places_for<T: Drop>(alloc: Global, count: u32) -> Result<Vec<Option<T>>, AllocError> {
+    let mut places = Vec::with_capacity(alloc, count as usize)?;
+    for _ in 0..count {
         places.push(None)?;
     }
     Ok(places)
 }
 
-/// Puts the stripe at the place of its number.
-fn put_at_its_place<B: Build>(stripe: Stripe<B>, places: &mut Vec<Option<Stripe<B>>>) {
-    let place = stripe.number as usize;
+/// Puts one at the place of this number, from 0, if there is one.
+fn put_at<T: Drop>(number: u32, one: T, places: &mut Vec<Option<T>>) {
+    let place = number as usize;
     if place < places.len() {
-        places[place] = Some(stripe);
+        places[place] = Some(one);
     }
 }
 
@@ -72,18 +86,7 @@ fn table_of<B: Build>(
     }
     let mut stripes = Vec::with_capacity(site.alloc, places.len())?;
     for place in places {
-        let Some(stripe) = place else {
-            return Err(AllocError);
-        };
-        let Stripe {
-            rows,
-            number,
-            first,
-            of: _,
-        } = stripe;
-        if number as usize != stripes.len() || first != next {
-            return Err(AllocError);
-        }
+        let rows = rows_at(place, stripes.len(), next)?;
         stripes.push(rows)?;
     }
     Ok(Table {
@@ -93,4 +96,28 @@ fn table_of<B: Build>(
         first: next,
         of: PhantomData,
     })
+}
+
+/// The rows of the stripe at the place of this number, from 0. The error is that it lacks, or isn't of its place or up to the
+/// position `next`.
+fn rows_at<B: Build>(
+    place: Option<Stripe<B>>,
+    number: usize,
+    next: u32,
+) -> Result<SplitRows, AllocError>
+    ensures { IfOk result (IsStripeBelow B.edges B.order B.shift next number) }
+{
+    let Some(stripe) = place else {
+        return Err(AllocError);
+    };
+    let Stripe {
+        rows,
+        number: its_number,
+        first,
+        of: _,
+    } = stripe;
+    if its_number as usize != number || first != next {
+        return Err(AllocError);
+    }
+    Ok(rows)
 }

@@ -1,6 +1,8 @@
 //! What all workers have put in a superstep comes together.
-ghost use Rattle.std.specs.Prelude.{◌≡◌, ◌≤◌, All, IfOk};
+ghost use Rattle.std.specs.Prelude.{◌≡◌, ◌≤◌, ◌++◌, List, All, IfOk, OnOk};
 ghost use Rattle.std.specs.List.Sorted.{IsPermutation};
+ghost use Rattle.walk_laws.specs.Ranking.{IsRanking};
+ghost use Rattle.label_clean.specs.declared.hub_rows.HubEntry.{HubEntry};
 ghost use Rattle.table_seats.specs.Numbers.{numbers};
 ghost use Rattle.gll_build.specs.Dealing.{ListsHubs};
 ghost use Rattle.gll_build.specs.Growing.{IsSheaf, all_put, all_roots};
@@ -44,23 +46,32 @@ pub fn reap<B: Build>(
 {
     let mut reaped = Vec::with_capacity(alloc, grown.len())?;
     for one in grown {
-        let Grown {
-            bench,
-            first: over,
-            far,
-            memory,
-        } = one;
-        memory?;
-        if over != first {
-            return Err(AllocError);
-        }
-        reaped.push(Reaped {
-            bench,
-            first: over,
-            far,
-        })?;
+        reaped.push(one_reaped(first, one)?)?;
     }
     Ok(reaped)
+}
+
+/// What a worker has put over the table up to the position `first`, from 0. The error is that memory ran out for it, or that it
+/// grew trees over another table.
+fn one_reaped<B: Build>(first: u32, one: Grown<B>) -> Result<Reaped<B>, AllocError>
+    ensures first { IfOk result (λ s. s.first ≡ first) }
+    ensures is { IfOk result (IsSheaf B.edges B.order B.shift) }
+{
+    let Grown {
+        bench,
+        first: over,
+        far,
+        memory,
+    } = one;
+    memory?;
+    if over != first {
+        return Err(AllocError);
+    }
+    Ok(Reaped {
+        bench,
+        first: over,
+        far,
+    })
 }
 
 /// The position, from 0, of the root after those whose trees were grown, if these are the ones from `first` on, each once, and
@@ -76,10 +87,7 @@ pub fn next_root<B: Build>(
     ensures within { IfOk result (λ next. next ≤ n) }
     ensures roots { IfOk result (λ next. IsPermutation (all_roots reaped.now) (numbers first next)) }
 {
-    let mut roots = Vec::new(alloc);
-    for one in reaped {
-        roots.extend_from_slice(&one.bench.roots)?;
-    }
+    let mut roots = roots_of(alloc, reaped)?;
     roots.sort_unstable();
     let mut next = first;
     for root in roots.iter() {
@@ -89,6 +97,17 @@ pub fn next_root<B: Build>(
         next += 1;
     }
     Ok(next)
+}
+
+/// The roots of all workers. The only error is that memory ran out.
+fn roots_of<B: Build>(alloc: Global, reaped: &[Reaped<B>]) -> Result<Vec<u32>, AllocError>
+    ensures { IfOk result (λ roots. roots.items ≡ all_roots reaped.now) }
+{
+    let mut roots = Vec::new(alloc);
+    for one in reaped {
+        roots.extend_from_slice(&one.bench.roots)?;
+    }
+    Ok(roots)
 }
 
 /// What all have put at the nodes with positions below the next root's, but for what is of the node itself. The only error is
@@ -106,12 +125,28 @@ pub fn hubs_below<B: Build>(
     let mut hubs = Vec::new(site.alloc);
     let mut more = Vec::new(site.alloc);
     for one in reaped {
-        if one.far < next {
-            list_hubs(site.ranking, next, &one.bench.list, &mut more)?;
-            hubs.extend_from_slice(&more)?;
-        } else {
-            hubs.extend_from_slice(&one.bench.hubs)?;
-        }
+        add_hubs(site, next, one, &mut more, &mut hubs)?;
     }
     Ok(hubs)
+}
+
+/// Adds what a worker put at the nodes with positions below the next root's, but for what is of the node itself. It is listed in
+/// `more`, in the place of what there was, where the worker's own list doesn't go as far. The only error is that memory ran out.
+fn add_hubs<B: Build>(
+    site: &Site<'_, B>,
+    next: u32,
+    one: &Reaped<B>,
+    more: &mut Vec<HubEntry>,
+    hubs: &mut Vec<HubEntry>,
+) -> Result<(), AllocError>
+    requires { IsRanking B.order }
+    ensures { OnOk result ((list : List HubEntry) × (hubs.new.items ≡ hubs.old.items ++ list) × ListsHubs B.order next one.now.list list) }
+{
+    if one.far < next {
+        list_hubs(site.ranking, next, &one.bench.list, more)?;
+        hubs.extend_from_slice(more.as_slice())?;
+        return Ok(());
+    }
+    hubs.extend_from_slice(&one.bench.hubs)?;
+    Ok(())
 }

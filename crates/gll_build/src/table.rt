@@ -60,7 +60,8 @@ impl<B: Build> Table<B> {
         let count = site.plan.count(n);
         let mut stripes = Vec::with_capacity(site.alloc, count as usize)?;
         for number in 0..count {
-            stripes.push(SplitRows::new(site.alloc, site.plan.size(n, number))?)?;
+            let stripe = SplitRows::new(site.alloc, site.plan.size(n, number))?;
+            stripes.push(stripe)?;
         }
         Ok(Table {
             stripes,
@@ -81,7 +82,8 @@ impl<B: Build> Table<B> {
         let n = site.graph.n();
         let mut stripes = Vec::with_capacity(site.alloc, site.count as usize)?;
         for number in 0..site.count {
-            stripes.push(SplitRows::of_stripe(site.alloc, rows, site.plan, number)?)?;
+            let stripe = SplitRows::of_stripe(site.alloc, rows, site.plan, number)?;
+            stripes.push(stripe)?;
         }
         Ok(Table {
             stripes,

@@ -20,8 +20,8 @@ loop-rows-init g c =
       dealt = none_cut lists_of c.args.dealt.items (length stripes) (subst (λ m. All (λ d. length (lists_of d) ≡ m) c.args.dealt.items) (sym c.table.invariant.2.are.count) c.requires.long);
     }
 
-pub invariant_of-push : goal.invariant_of-push
-invariant_of-push g c =
+pub batch_of-requires-clause-stripe : goal.batch_of-requires-clause-stripe
+batch_of-requires-clause-stripe g c =
     let stripes = c.table.inside.stripes.items in
     let now = c.loop-rows.stripes.items in
     let left = c.pop.new.self.items in
@@ -29,14 +29,12 @@ invariant_of-push g c =
     let are = c.table.invariant.2 in
     let size : length c.loop-rows.stripes.items ≡ length c.pop.new.self.items + 1 = ap length c.in-Some.ensures.items ∙ length-append left (c.in-Some.rows ∷ []) in
     let number_is : c.len-number.result ≡ length c.pop.new.self.items = omega (arith, c.len-number.ensures, c.pop.new.self.ok.0) in
-    let is = last_stripe stripes now left c.in-Some.rows number c.loop-rows.invariant.stripes c.in-Some.ensures.items number_is in (
-      are.within,
-      subst (IsStripeBelow g.B.Build.edges g.B.Build.order g.B.Build.shift c.table.inside.first c.len-number.result) is.0
-          (are.below number (omega (arith, size, number_is, are.are.count, c.loop-rows.invariant.within))),
-    )
+    let is = last_stripe stripes now left c.in-Some.rows number c.loop-rows.invariant.stripes c.in-Some.ensures.items number_is in
+    subst (IsStripeBelow g.B.Build.edges g.B.Build.order g.B.Build.shift c.table.inside.first c.len-number.result) is.0
+    (are.below number (omega (arith, size, number_is, are.are.count, c.loop-rows.invariant.within)))
 
-pub invariant_of-push-in-Some : goal.invariant_of-push-in-Some
-invariant_of-push-in-Some g c =
+pub batch_of-requires-clause-lists : goal.batch_of-requires-clause-lists
+batch_of-requires-clause-lists g c =
     let dealt = c.args.dealt.items in
     let now = c.loop-rows.dealt.items in
     let m = length c.loop-rows.stripes.items in
@@ -49,10 +47,9 @@ invariant_of-push-in-Some g c =
     let long = last_of_each lists_of dealt now m number last cut (stripe_count g.B.Build.shift (length g.B.Build.order)) c.requires.long (omega (arith, low, last)) in
     let lists_are : c.in_ok-lists.lists.items ≡ lists_at (map lists_of c.args.dealt.items) c.len-number.result = lists_there lists_of dealt now m number last cut c.in_ok-lists.lists.items (c.in_ok-lists.ensures.lists number long) in
     let first_is = ap (λ (t : StripedTable). t.first) (sym c.table.view_is) in
-    subst (IsBatch g.B.Build.edges g.B.Build.order g.B.Build.shift c.len-number.result c.table.inside.first c.args.next c.in_ok-lists.lists.items) (sym c.in_ok-try_clone.ensures)
-    (subst (λ lists. IsBatch g.B.Build.edges g.B.Build.order g.B.Build.shift c.len-number.result c.table.inside.first c.args.next lists c.args.hub_rows.now.value) (sym lists_are)
+    subst (λ lists. IsBatch g.B.Build.edges g.B.Build.order g.B.Build.shift c.len-number.result c.table.inside.first c.args.next lists c.args.hub_rows.now.value) (sym lists_are)
     (subst (λ p. IsBatch g.B.Build.edges g.B.Build.order g.B.Build.shift c.len-number.result p c.args.next (lists_at (map lists_of c.args.dealt.items) c.len-number.result) c.args.hub_rows.now.value) first_is
-    (c.requires.each number low)))
+    (c.requires.each number low))
 
 pub loop-rows-preserved : goal.loop-rows-preserved
 loop-rows-preserved g c =

@@ -1,14 +1,11 @@
 use Rattle.std.proofs.Common.{◌≡◌, ◌≤◌, List, Contains, length, map, sym, ap, subst, arith}
 use Rattle.std.specs.List.Sorted.{IsPermutation}
-use Rattle.std.proofs.lemmas.List.{append-nil}
 use Rattle.std.proofs.lemmas.List.Elements.{All-contains}
 use Rattle.walk_laws.specs.Ranking.{IsRanking}
 use Rattle.walk_laws.specs.Laws.{WeighAtLeastOne}
 use Rattle.walk_laws.proofs.JoinedEdges.{weights_of_edges}
 use Rattle.table_seats.specs.Numbers.{numbers}
-use Rattle.label_clean.specs.declared.hub_rows.HubEntry.{HubEntry}
 use Rattle.label_clean.specs.declared.runs.RunList.{RunList}
-use Rattle.label_clean.specs.HubRows.{AreGathered, RowsFrom}
 use Rattle.gll_build.specs.Dealing.{ListsHubs}
 use Rattle.gll_build.specs.Growing.{IsBatch, IsSheaf, Sheaf, all_put, all_roots, lists_at}
 use Rattle.gll_build.specs.Tables.{StripedTable}
@@ -34,10 +31,9 @@ batches_of-requires-clause-each g c number there =
     let are : (s : Sheaf) → Contains c.in_ok-reaped.reaped.items s → IsSheaf g.B.Build.edges g.B.Build.order g.B.Build.shift s = λ s has. All-contains (IsSheaf g.B.Build.edges g.B.Build.order g.B.Build.shift) c.in_ok-reaped.reaped.items s c.in_ok-reaped.ensures.are has in
     let over : (s : Sheaf) → Contains c.in_ok-reaped.reaped.items s → s.first ≡ c.table.inside.first = λ s has. All-contains (λ (s : Sheaf). s.first ≡ c.table.inside.first) c.in_ok-reaped.reaped.items s c.in_ok-reaped.ensures.first has in
     let roots = subst (λ rs. IsPermutation (all_roots rs) (numbers c.table.inside.first c.in_ok-next.next)) c.deref.ensures.value c.in_ok-next.ensures.roots in
-    let listed = subst (λ rs. ListsHubs g.B.Build.order c.in_ok-next.next (all_put rs) c.in_ok-hubs.hubs.items) c.deref-2.ensures.value c.in_ok-hubs.ensures in
-    let gathered = subst (λ (hs : List HubEntry). AreGathered c.table.inside.first c.in_ok-next.next hs c.gather.new.self) (append-nil c.in_ok-hubs.hubs.items) c.in_ok-gather.ensures in
-    let batch = IsBatch-fresh edges at shift number there weights ranking first next c.in_ok-next.ensures.up within sheaves are over roots c.in_ok-hubs.hubs.items listed c.gather.new.self gathered in
+    let hubs = c.in_ok-hub_rows.ensures in
+    let listed = subst (λ rs. ListsHubs g.B.Build.order c.in_ok-next.next (all_put rs) c.in_ok-hub_rows.ensures.0) c.deref-2.ensures.value hubs.1 in
+    let batch = IsBatch-fresh edges at shift number there weights ranking first next c.in_ok-next.ensures.up within sheaves are over roots hubs.0 listed c.in_ok-hub_rows.hub_rows.value hubs.2 in
     let first_is = ap (λ (t : StripedTable). t.first) c.table.view_is in
     subst (λ p. IsBatch g.B.Build.edges g.B.Build.order g.B.Build.shift number p c.in_ok-next.next (lists_at (map (λ d. d.items) c.in_ok-benches.dealt.items) number) c.in_ok-hub_rows.hub_rows.value) first_is
-    (subst (λ (lists : List (List RunList)). IsBatch g.B.Build.edges g.B.Build.order g.B.Build.shift number c.table.inside.first c.in_ok-next.next (lists_at lists number) c.in_ok-hub_rows.hub_rows.value) (sym c.in_ok-benches.ensures)
-    (subst (λ (rows : RowsFrom). IsBatch g.B.Build.edges g.B.Build.order g.B.Build.shift number c.table.inside.first c.in_ok-next.next (lists_at (map (λ (s : Sheaf). s.dealt) c.in_ok-reaped.reaped.items) number) rows) (sym c.in_ok-hub_rows.ensures.ok) batch))
+    (subst (λ (lists : List (List RunList)). IsBatch g.B.Build.edges g.B.Build.order g.B.Build.shift number c.table.inside.first c.in_ok-next.next (lists_at lists number) c.in_ok-hub_rows.hub_rows.value) (sym c.in_ok-benches.ensures) batch)

@@ -73,3 +73,63 @@ pub returns-in_err-push-in-Ok-Some-clause-grown : goal.returns-in_err-push-in-Ok
 returns-in_err-push-in-Ok-Some-clause-grown g c =
     HasGrown-then c.args.ground.now.graph.now.edges c.args.ground.now.ranking.now _ _ _ c.args.seat.now.got c.loop.seat.got c.next_tree.new.seat.got (puts_row c.args.view.now) (puts_row c.loop.view) (puts_row c.next_tree.new.view) c.loop.invariant.10 c.in-Ok-Some.ensures.grown c.next_tree.ensures.once
     (λ ok. absurd (not_ok c.from_residual.result ok c.from_residual.ensures.0))
+
+pub returns-in_err-push-in-Ok-Some-clause-work : goal.returns-in_err-push-in-Ok-Some-clause-work
+returns-in_err-push-in-Ok-Some-clause-work g c = c.next_tree.ensures.work ∙ c.loop.invariant.2 ∙ sym c.requires.work
+
+pub returns-in_err-push-in-Ok-Some-clause-seat : goal.returns-in_err-push-in-Ok-Some-clause-seat
+returns-in_err-push-in-Ok-Some-clause-seat g c = c.next_tree.ensures.seat
+
+pub returns-in_err-push-in-Ok-Some-clause-left : goal.returns-in_err-push-in-Ok-Some-clause-left
+returns-in_err-push-in-Ok-Some-clause-left g c = c.next_tree.ensures.left ∙ c.loop.invariant.4
+
+pub returns-in_err-push-in-Ok-Some-clause-begun : goal.returns-in_err-push-in-Ok-Some-clause-begun
+returns-in_err-push-in-Ok-Some-clause-begun g c = c.next_tree.ensures.begun
+
+pub returns-in_err-push-in-Ok-Some-clause-kept : goal.returns-in_err-push-in-Ok-Some-clause-kept
+returns-in_err-push-in-Ok-Some-clause-kept g c = c.next_tree.ensures.kept ∙ c.loop.invariant.8
+
+pub returns-then-is_done-clause-work : goal.returns-then-is_done-clause-work
+returns-then-is_done-clause-work g c = c.next_tree.ensures.work ∙ c.loop.invariant.2 ∙ sym c.requires.work
+
+pub returns-then-is_done-clause-seat : goal.returns-then-is_done-clause-seat
+returns-then-is_done-clause-seat g c = c.next_tree.ensures.seat
+
+pub returns-then-is_done-clause-left : goal.returns-then-is_done-clause-left
+returns-then-is_done-clause-left g c = c.next_tree.ensures.left ∙ c.loop.invariant.4
+
+pub returns-then-is_done-clause-begun : goal.returns-then-is_done-clause-begun
+returns-then-is_done-clause-begun g c = c.next_tree.ensures.begun
+
+pub returns-then-is_done-clause-kept : goal.returns-then-is_done-clause-kept
+returns-then-is_done-clause-kept g c = c.next_tree.ensures.kept ∙ c.loop.invariant.8
+
+pub returns-in-Ok-None-clause-work : goal.returns-in-Ok-None-clause-work
+returns-in-Ok-None-clause-work g c = c.next_tree.ensures.work ∙ c.loop.invariant.2 ∙ sym c.requires.work
+
+pub returns-in-Ok-None-clause-seat : goal.returns-in-Ok-None-clause-seat
+returns-in-Ok-None-clause-seat g c = c.next_tree.ensures.seat
+
+pub returns-in-Ok-None-clause-left : goal.returns-in-Ok-None-clause-left
+returns-in-Ok-None-clause-left g c = c.next_tree.ensures.left ∙ c.loop.invariant.4
+
+pub returns-in-Ok-None-clause-begun : goal.returns-in-Ok-None-clause-begun
+returns-in-Ok-None-clause-begun g c = c.next_tree.ensures.begun
+
+pub returns-in-Ok-None-clause-kept : goal.returns-in-Ok-None-clause-kept
+returns-in-Ok-None-clause-kept g c = c.next_tree.ensures.kept ∙ c.loop.invariant.8
+
+pub returns-in-Err-clause-work : goal.returns-in-Err-clause-work
+returns-in-Err-clause-work g c = c.next_tree.ensures.work ∙ c.loop.invariant.2 ∙ sym c.requires.work
+
+pub returns-in-Err-clause-seat : goal.returns-in-Err-clause-seat
+returns-in-Err-clause-seat g c = c.next_tree.ensures.seat
+
+pub returns-in-Err-clause-left : goal.returns-in-Err-clause-left
+returns-in-Err-clause-left g c = c.next_tree.ensures.left ∙ c.loop.invariant.4
+
+pub returns-in-Err-clause-begun : goal.returns-in-Err-clause-begun
+returns-in-Err-clause-begun g c = c.next_tree.ensures.begun
+
+pub returns-in-Err-clause-kept : goal.returns-in-Err-clause-kept
+returns-in-Err-clause-kept g c = c.next_tree.ensures.kept ∙ c.loop.invariant.8

@@ -1,7 +1,8 @@
 use Rattle.std.proofs.Common.{◌≡◌, ℕ, ◌<◌, [], List, length, replicate, sym, ap, ◌∙◌, arith}
-use Rattle.std.proofs.lemmas.List.{length-replicate}
+use Rattle.std.proofs.lemmas.List.{length-replicate, length_push}
 use Rattle.walk_laws.specs.declared.entry.Entry.{Entry}
 use Rattle.hub_index.specs.Stripes.{AreStripes, stripe_at, stripe_count, stripe_size}
+use Rattle.gll_build.proofs.PlacedStripes.{placed_next}
 use Rattle.gll_build.proofs.StripedTables.{AreStripesBelow-none}
 use Rattle.gll_build.proofs.table.Table.new.Goals as goal
 
@@ -22,3 +23,16 @@ invariant_of-result g c =
       sizes = λ number there. let none : List Entry = [] in ap length (empty number there) ∙ length-replicate (stripe_size g.B.Build.shift (length g.B.Build.order) number) none;
     } in
     (n_is, site.stripes, AreStripesBelow-none g.B.Build.edges at g.B.Build.shift stripes are empty)
+
+pub loop-number-preserved : goal.loop-number-preserved
+loop-number-preserved g c =
+    let made = c.loop-number.invariant in
+    let stripes = c.loop-number.stripes.items in
+    record {
+      size = omega (arith, ap length c.in_ok-push.ensures.items, length_push stripes c.in_ok-stripe.stripe, made.size);
+      up_to = omega arith;
+      empty = λ k low.
+          ap (λ made. stripe_at made k) c.in_ok-push.ensures.items
+          ∙ placed_next (λ i rows. rows ≡ replicate (stripe_size c.args.site.now.plan.shift c.n-n.result i) []) stripes c.loop-number.number c.in_ok-stripe.stripe (λ i there. made.empty i (omega (arith, there, made.size))) (sym made.size)
+          (c.in_ok-stripe.ensures ∙ ap (λ m. replicate m []) c.size.ensures) k (omega (arith, low, made.size, length_push stripes c.in_ok-stripe.stripe));
+    }
