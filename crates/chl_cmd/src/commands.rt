@@ -1,3 +1,4 @@
+//! The output of any command, and a file for each, which reads its inputs one after another and then works; `grid` reads none.
 ghost use Rattle.std.specs.Prelude.{◌≡◌};
 ghost use Rattle.std.specs.Option.{option_copied};
 ghost use Rattle.chl_inputs.specs.Stages.{Goes};

@@ -41,7 +41,7 @@ within least most n = if nat_le least n && nat_le n most then Some n else None
 abbrev pub number_of : ℕ → ℕ → Text → Option ℕ
 number_of least most word = any_number_of word >>= within least most
 
--- how many workers there may be, and how many roots one may take at a time
+-- how many workers there may be, and how great the cut may be
 abbrev pub most_workers : ℕ
 most_workers = 64
 

@@ -33,7 +33,7 @@ number name most default = record (option_named name) { parser = Some (Unsigned 
 abbrev pub workers : Rule
 workers = number (codes "workers") 64 (codes "1")
 
--- how many roots a worker takes at a time, 1024 where it is left out
+-- how work is cut, 1024 where it is left out: how many roots a batch may have, or how many entries a worker puts at least in a superstep
 abbrev pub cut : Rule
 cut = number (codes "cut") (2 ^ 30) (codes "1024")
 

@@ -159,7 +159,8 @@ fn workers<'a>(alloc: Global) -> Arg<'a>
     number(alloc, "workers", MOST_WORKERS, "1")
 }
 
-/// The option that says how many roots a worker takes at a time.
+/// The option that says how work is cut: how many roots a batch may have, or how many entries a worker puts at least in a
+/// superstep.
 fn cut<'a>(alloc: Global) -> Arg<'a>
     ensures { IsOption literal.cut result }
 {

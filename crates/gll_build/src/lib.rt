@@ -1,4 +1,9 @@
-//! gll
+//! The build of the canonical hub labelling in supersteps (GLL; Planting Trees, PVLDB 2019): workers grow the trees of the
+//! next roots over a global table that nobody writes; what they put is cleaned and joins the table, stripe by stripe.
+//!
+//! [`build_gll`] is the whole build, [`build_gll_split`] the same in the rows that it worked with, [`superstep`] one step.
+//! It stands on pruned_tree, pool_view over label_pool, root_claims, label_clean, hub_index, renumbering and desk_io (the
+//! gate). Its callers' clauses use `IsChl` of walk_laws and `IsChlBelow` of label_clean.
 #![tactic(auto)]
 
 mod batches;

@@ -4,7 +4,7 @@
 //! the rows, and `arc_row` has the arcs in half the room; `lightest` keeps the edges that matter; `entry` has the entries of label rows. `laws` has a function for each law of walks and hubs, and `worked` has
 //! two small graphs, worked by hand. It stands on std alone. Its callers' clauses use `specs/Graph` (`WeightedGraph`,
 //! `IsGraph`, `IsEdge`, `greatest_weight`, `arcs_at`), `specs/Lightest`, `specs/Joined`, `specs/Ranking`, and of walks and hubs `specs/Walk`,
-//! `Least`, `On`, `Top`, `Canonical`, `Cover`, `Labelling`, `Answer` and `Meet`. docs/definitions.md has each in a sentence.
+//! `Least`, `On`, `Top`, `Canonical`, `Cover`, `Labelling`, `Answer` and `Meet`. `tools/definitions walk_laws` prints each.
 #![tactic(auto)]
 
 mod arc_row;
