@@ -1,5 +1,5 @@
 //! The table is cut in stripes, and what all workers put in a superstep is dealt to them.
-ghost use Rattle.std.specs.Prelude.{◌≡◌, ℕ, ◌+◌, ◌<◌, ◌≤◌, List, All, length, map, take, vec_len, IfOk};
+ghost use Rattle.std.specs.Prelude.{◌≡◌, ℕ, ◌+◌, ◌<◌, ◌≤◌, List, [], ◌∷◌, ◌++◌, All, length, map, take, vec_len, IfOk, OnOk};
 ghost use Rattle.hub_index.specs.Stripes.{stripe_count};
 ghost use Rattle.label_clean.specs.declared.hub_rows.HubEntry.{HubEntry};
 ghost use Rattle.label_clean.specs.HubRows.{AreGathered};
@@ -81,15 +81,28 @@ fn taken_apart<B: Build>(
     let mut benches = Vec::with_capacity(alloc, reaped.len())?;
     let mut dealt = Vec::with_capacity(alloc, reaped.len())?;
     for one in reaped {
-        let (bench, lists) = one_taken_apart(alloc, one);
-        dealt.push(lists)?;
-        benches.push(bench)?;
+        add_parts(alloc, one, &mut benches, &mut dealt)?;
     }
     Ok((benches, dealt))
 }
 
+/// Adds a worker's bench, and what was dealt to the stripes on it, to those of others. The only error is that memory ran out.
+fn add_parts<B: Build>(
+    alloc: Global,
+    one: Reaped<B>,
+    benches: &mut Vec<Bench<B>>,
+    dealt: &mut Vec<Vec<RunList>>,
+) -> Result<(), AllocError>
+    ensures { OnOk result (map (λ d. d.items) dealt.new.items ≡ map (λ d. d.items) dealt.old.items ++ one.dealt ∷ []) }
+{
+    let (bench, lists) = parts_of(alloc, one);
+    dealt.push(lists)?;
+    benches.push(bench)?;
+    Ok(())
+}
+
 /// A worker's bench, and what was dealt to the stripes on it.
-fn one_taken_apart<B: Build>(alloc: Global, one: Reaped<B>) -> (Bench<B>, Vec<RunList>)
+fn parts_of<B: Build>(alloc: Global, one: Reaped<B>) -> (Bench<B>, Vec<RunList>)
     ensures { result.1.items ≡ one.dealt }
 {
     let Reaped {
