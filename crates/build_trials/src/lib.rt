@@ -1,5 +1,4 @@
-//! Builds through the whole run, by each construction: tests alone, apart from chl_cmd, on which it stands, so that
-//! the two are proved side by side.
+//! Builds by many workers, watched by gates: tests alone.
 #![tactic(auto)]
 
 #[cfg(test)]

@@ -1,73 +1,113 @@
-//! What the tests of builds share: graphs, orders, and runs over a desk in memory.
-ghost use Rattle.std.specs.Prelude.{◌<◌};
+//! What the tests of builds share: graphs with their rankings, and builds by each construction.
+ghost use Rattle.std.specs.Prelude.{◌≡◌, ◌^◌, ◌≤◌, IfOk, length};
 
-mod files;
+mod batches;
 mod gates;
-mod turns;
+mod meetings;
+mod pools;
+mod roots;
+mod shares;
+mod supersteps;
 
-use chl_cmd::{Status, run};
-use desk_io::{Call, FreeGate, MemDesk};
-use std::alloc::{AllocError, Global};
+use chl_cmd::By;
+use desk_io::{FreeGate, Gate};
+use gll_build::build_gll;
+use grid_work::grid_graph;
+use hub_index::{Entry, Index, RowList};
+use index_file::encode;
+use lcc_build::build_lcc;
+use plant_build::build_plant;
+use rank_table::{Ranking, by_degree};
+use std::alloc::Global;
 use std::process::Abort;
 use std::sync::Wait;
 use std::test::Fail;
 use std::thread::Threads;
+use walk_laws::Graph;
 
-const PATH: &str = "p sp 3 2\na 1 2 1\na 2 3 1\n";
-
-const PATH_ORDER: &str = "2\n1\n3\n";
-
-const SQUARE: &str = "p sp 4 4\na 1 2 1\na 2 3 1\na 3 4 1\na 4 1 1\n";
-
-/// A town of 12 crossings and 18 streets.
-const TOWN: &str = "p sp 12 18
-a 1 2 140\na 2 3 95\na 3 4 210\na 5 6 160\na 6 7 80\na 7 8 175
-a 9 10 130\na 10 11 110\na 11 12 190\na 1 5 120\na 2 6 70\na 3 7 85
-a 4 8 240\na 5 9 150\na 6 10 90\na 7 11 100\na 8 12 65\na 6 11 105
-";
-
-const TOWN_ORDER: &str = "6\n7\n11\n2\n3\n5\n8\n10\n1\n4\n9\n12\n";
-
-/// How many bytes one call of the desk moves at most: a case is run at each.
-const BITES: [u32; 5] = [1, 2, 3, 7, 4096];
-
-/// The words of a line.
-fn words_of(alloc: Global, line: &str) -> Result<Vec<String>, AllocError> {
-    let mut words = Vec::new(alloc);
-    for word in line.split_whitespace() {
-        words.push(String::from_str(alloc, word)?)?;
-    }
-    Ok(words)
-}
-
-/// A desk with a graph and an order, of which these calls fail.
-fn desk_of(
-    alloc: Global,
-    bite: u32,
-    fails: &[(Call, u32)],
-    graph: &str,
-    order: &str,
-) -> Result<MemDesk, AllocError>
-    requires { 0 < bite }
+/// A grid of this side, which is at most 181, and the ranking of its nodes by degree.
+fn grid<R: Abort>(rt: &R, alloc: Global, side: u32) -> Result<(Graph, Ranking), Fail>
+    ensures { IfOk result (λ made. length made.1 ≡ made.0.n) }
 {
-    let mut desk = MemDesk::new(alloc, bite, Vec::from_slice(alloc, fails)?)?;
-    desk.put_file("g", graph.as_bytes())?;
-    desk.put_file("o", order.as_bytes())?;
-    Ok(desk)
+    assert!(rt; side <= 181);
+    let graph = grid_graph(alloc, side, 1)?;
+    let ranking = by_degree(alloc, &graph)?;
+    assert_eq!(rt; ranking.n(), graph.n());
+    Ok((graph, ranking))
 }
 
-/// Runs the words over a desk, and compares the line of the status, and what standard output has taken.
-fn expect<R: Abort + AllocGlobal + Threads + Wait + Sync>(
+/// A construction with its number of workers, from 1 to 64, and its cut.
+#[derive(Clone, Copy, Debug)]
+struct Built {
+    by: By,
+    workers: u32,
+    cut: u32,
+}
+
+/// The index that a construction gives, watched by a gate.
+fn build<R: Abort + AllocGlobal + Threads + Wait + Sync, G: Gate + Sync>(
     rt: &R,
-    desk: &mut MemDesk,
-    words: &str,
-    line: &str,
-    said: &str,
-) -> Result<(), Fail> {
-    let words = words_of(rt.alloc(), words)?;
-    let status = run(rt, rt.alloc(), &words, desk, &FreeGate);
-    let told = format!(in rt.alloc(); "{status}")?;
-    assert_eq!(rt; told.as_str(), line);
-    assert_eq!(rt; desk.said(), said.as_bytes());
+    graph: &Graph,
+    ranking: &Ranking,
+    built: Built,
+    gate: &G,
+) -> Result<Index, Fail>
+    requires { length ranking.now ≡ graph.now.n }
+{
+    let Built { by, workers, cut } = built;
+    assert!(rt; 1 <= workers && workers <= 64);
+    assert!(rt; 1 <= cut && cut <= 1 << 30);
+    let alloc = rt.alloc();
+    let made = match by {
+        By::Plant => build_plant(rt, alloc, graph, ranking, workers, cut, gate),
+        By::Lcc => build_lcc(rt, alloc, graph, ranking, workers, gate),
+        By::Gll => build_gll(rt, alloc, graph, ranking, workers, cut, gate),
+    };
+    Ok(made?)
+}
+
+/// Checks that an index has the file of the one that LCC makes by one worker, which is none of the watched builds.
+fn expect_file<R: Abort + AllocGlobal + Threads + Wait + Sync>(
+    rt: &R,
+    graph: &Graph,
+    ranking: &Ranking,
+    index: &Index,
+) -> Result<(), Fail>
+    requires { length ranking.now ≡ graph.now.n }
+{
+    let alone = Built {
+        by: By::Lcc,
+        workers: 1,
+        cut: 1,
+    };
+    let wanted = build(rt, graph, ranking, alone, &FreeGate)?;
+    let wanted = encode(rt.alloc(), &wanted)?;
+    assert!(rt; encode(rt.alloc(), index)?.as_slice() == wanted.as_slice());
     Ok(())
+}
+
+/// The rows of the grid of side 2, as they are worked in the docs. A smaller number ranks higher.
+const SMALL: [&[Entry]; 4] = [
+    &[Entry { pos: 0, dist: 0 }],
+    &[Entry { pos: 0, dist: 7 }, Entry { pos: 1, dist: 0 }],
+    &[
+        Entry { pos: 0, dist: 7 },
+        Entry { pos: 1, dist: 6 },
+        Entry { pos: 2, dist: 0 },
+    ],
+    &[
+        Entry { pos: 0, dist: 9 },
+        Entry { pos: 1, dist: 2 },
+        Entry { pos: 2, dist: 4 },
+        Entry { pos: 3, dist: 0 },
+    ],
+];
+
+/// Compares rows with those of the grid of side 2.
+fn expect_small<R: Abort>(rt: &R, rows: &RowList) {
+    assert_eq!(rt; rows.n(), 4);
+    for (place, row) in SMALL.iter().enumerate() {
+        let v = place as u32 + 1;
+        assert_eq!(rt; rows.row(v), *row, "{v}");
+    }
 }

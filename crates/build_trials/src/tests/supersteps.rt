@@ -1,0 +1,68 @@
+//! Supersteps one by one.
+ghost use Rattle.std.specs.Prelude.{◌≡◌, ◌<◌, length, IfOk};
+ghost use Rattle.label_clean.specs.Below.{IsChlBelow};
+
+use super::*;
+use gll_build::superstep;
+use hub_index::RowList;
+
+/// One superstep of one worker: it begins with the root `first`, and the next one is `next`.
+fn step<R: Abort + AllocGlobal + Threads + Wait + Sync>(
+    rt: &R,
+    graph: &Graph,
+    ranking: &Ranking,
+    global: RowList,
+    cut: u32,
+    first: u32,
+    next: u32,
+) -> Result<RowList, Fail>
+    requires nodes { length ranking.now ≡ graph.now.n }
+    requires global { IsChlBelow graph.now.edges ranking.now first global }
+    requires first { first < length ranking.now }
+    ensures { IfOk result (IsChlBelow graph.now.edges ranking.now next) }
+{
+    assert!(rt; 1 <= cut && cut <= 1 << 30);
+    let alloc = rt.alloc();
+    let (rows, reached) = superstep(rt, alloc, graph, ranking, global, first, 1, cut, &FreeGate)?;
+    assert_eq!(rt; reached, next, "{cut}");
+    Ok(rows)
+}
+
+/// The first superstep of one worker with this cut ends before the root `next`.
+fn first_step<R: Abort + AllocGlobal + Threads + Wait + Sync>(
+    rt: &R,
+    graph: &Graph,
+    ranking: &Ranking,
+    cut: u32,
+    next: u32,
+) -> Result<RowList, Fail>
+    requires nodes { length ranking.now ≡ graph.now.n }
+    ensures { IfOk result (IsChlBelow graph.now.edges ranking.now next) }
+{
+    let n = graph.n();
+    assert!(rt; n > 0);
+    let none = RowList::new(rt.alloc(), n)?;
+    step(rt, graph, ranking, none, cut, 0, next)
+}
+
+/// The trees of the grid of side 2 put 4, 3, 2 and 1 entries.
+#[test]
+fn a_worker_takes_roots_until_it_has_put_the_cut(rt: HostRuntime) -> Result<(), Fail> {
+    let (graph, ranking) = grid(&rt, rt.alloc(), 2)?;
+    for (cut, next) in [(1, 1), (4, 1), (5, 2), (7, 2), (8, 3), (10, 4)] {
+        first_step(&rt, &graph, &ranking, cut, next)?;
+    }
+    Ok(())
+}
+
+/// Each superstep goes on with the rows of the one before.
+#[test]
+fn supersteps_come_to_all_rows(rt: HostRuntime) -> Result<(), Fail> {
+    let (graph, ranking) = grid(&rt, rt.alloc(), 2)?;
+    assert_eq!(rt; ranking.n(), 4);
+    let rows = first_step(&rt, &graph, &ranking, 1, 1)?;
+    let rows = step(&rt, &graph, &ranking, rows, 1, 1, 2)?;
+    let rows = step(&rt, &graph, &ranking, rows, 1024, 2, 4)?;
+    expect_small(&rt, &rows);
+    Ok(())
+}

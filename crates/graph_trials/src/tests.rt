@@ -1,6 +1,0 @@
-mod audits;
-mod graphs;
-mod grids;
-mod queues;
-mod tours;
-mod trees;

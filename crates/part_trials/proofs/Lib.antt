@@ -1,0 +1,2 @@
+mod CleanedRows
+mod Rests

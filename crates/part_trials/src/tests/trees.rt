@@ -1,0 +1,36 @@
+//! Planted trees of the square.
+
+use super::{one_to_four, square_graph};
+use plant_tree::{plant, plant_counted};
+use std::test::Fail;
+
+/// By falling rank of the root: the nodes for which it is canonical, with their distances.
+const TREES: [&[(u32, u64)]; 4] = [
+    &[(1, 0), (2, 1), (3, 2), (4, 1)],
+    &[(2, 0), (3, 1)],
+    &[(3, 0), (4, 1)],
+    &[(4, 0)],
+];
+
+#[test]
+fn trees_of_the_square(rt: HostRuntime) -> Result<(), Fail> {
+    let graph = square_graph(rt.alloc())?;
+    let ranking = one_to_four(rt.alloc())?;
+    for (p, tree) in TREES.iter().enumerate() {
+        let planted = plant(rt.alloc(), &graph, &ranking, p as u32)?;
+        assert_eq!(rt; planted.as_slice(), *tree, "position {p}");
+    }
+    Ok(())
+}
+
+/// No node beside node 4 can have it for a hub, so its tree ends at once; that of node 1 goes on to the end.
+#[test]
+fn stops_where_no_node_carries_the_root(rt: HostRuntime) -> Result<(), Fail> {
+    let graph = square_graph(rt.alloc())?;
+    let ranking = one_to_four(rt.alloc())?;
+    for (p, count) in [(0, 4), (3, 1)] {
+        let (_planted, settled) = plant_counted(rt.alloc(), &graph, &ranking, p)?;
+        assert_eq!(rt; settled, count, "position {p}");
+    }
+    Ok(())
+}

@@ -1,4 +1,0 @@
-mod CleanedRows
-mod ListedEntries
-mod Rests
-mod TyingRows

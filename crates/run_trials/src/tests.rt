@@ -1,0 +1,115 @@
+//! What the tests of runs share: the square with its order, its pairs and its index, and the commands over them.
+ghost use Rattle.std.specs.Prelude.{◌<◌};
+
+mod calls;
+mod desks;
+mod few_bytes;
+mod pieces;
+
+use chl_cmd::{Status, run};
+use desk_io::{Call, Feed, FreeGate, MemDesk};
+use std::alloc::{AllocError, Global};
+use std::process::Abort;
+use std::sync::Wait;
+use std::test::Fail;
+use std::thread::Threads;
+
+const ROUND_ORDER: &str = "1\n2\n3\n4\n";
+
+/// The index file of the square.
+const SQUARE_FILE: &[u8] = b"CHLABEL\x01\0\0\0\x04\0\0\0\x01\0\0\0\x02\0\0\0\x03\0\0\0\x04\
+\0\0\0\x01\0\0\0\0\0\0\0\0\0\0\0\0\
+\0\0\0\x02\0\0\0\0\0\0\0\0\0\0\0\x01\0\0\0\x01\0\0\0\0\0\0\0\0\
+\0\0\0\x03\0\0\0\0\0\0\0\0\0\0\0\x02\0\0\0\x01\0\0\0\0\0\0\0\x01\0\0\0\x02\0\0\0\0\0\0\0\0\
+\0\0\0\x03\0\0\0\0\0\0\0\0\0\0\0\x01\0\0\0\x02\0\0\0\0\0\0\0\x01\0\0\0\x03\0\0\0\0\0\0\0\0";
+
+/// The files of a desk: four nodes in a round, each edge of weight 1, with their order, two pairs, and the index.
+const FILES: [(&str, &[u8]); 4] = [
+    ("g", b"p sp 4 4\na 1 2 1\na 2 3 1\na 3 4 1\na 4 1 1\n"),
+    ("o", b"1\n2\n3\n4\n"),
+    ("p", b"p aux sp p2p 2\nq 2 4\nq 1 3\n"),
+    ("x", SQUARE_FILE),
+];
+
+/// A command, and the bytes that it says; none for a build, which writes the index file.
+const COMMANDS: [(&str, &str); 10] = [
+    (
+        "chl list --graph g --order o",
+        "l 1 1 0\nl 2 1 1 2 0\nl 3 1 2 2 1 3 0\nl 4 1 1 3 1 4 0\n",
+    ),
+    ("chl build --graph g --order o --out y", ""),
+    (
+        "chl build --graph g --order o --out y --by lcc --workers 2",
+        "",
+    ),
+    (
+        "chl build --graph g --order o --out y --by gll --workers 2",
+        "",
+    ),
+    (
+        "chl solve --graph g --order o --pairs p",
+        "d 2 4 2 1\nd 1 3 2 1\n",
+    ),
+    ("chl query --index x --pairs p", "d 2 4 2 1\nd 1 3 2 1\n"),
+    (
+        "chl path --graph g --index x --pairs p",
+        "w 2 4 2 2 1 4\nw 1 3 2 1 2 3\n",
+    ),
+    ("chl audit --graph g --order o --index x", "same\n"),
+    ("chl degree --graph g", ROUND_ORDER),
+    (
+        "chl grid --side 2 --seed 1",
+        "grid 2 1\nnodes 4 edges 4\nplant 10 35\nlcc 10 35\ngll 10 35\n",
+    ),
+];
+
+/// A desk with all files, each of whose calls moves so many bytes at most, and of which these calls fail.
+fn desk_of(alloc: Global, bite: u32, fails: &[(Call, u32)]) -> Result<MemDesk, AllocError>
+    requires { 0 < bite }
+{
+    let mut desk = MemDesk::new(alloc, bite, Vec::from_slice(alloc, fails)?)?;
+    for (name, bytes) in &FILES {
+        put(&mut desk, name, bytes)?;
+    }
+    Ok(desk)
+}
+
+/// Puts a file on a desk. It promises nothing, so that no proof goes along the bytes.
+fn put(desk: &mut MemDesk, name: &str, bytes: &[u8]) -> Result<(), AllocError> {
+    desk.put_file(name, bytes)
+}
+
+/// Runs a line over a desk in memory.
+fn status_of<R: AllocGlobal + Threads + Wait + Sync>(
+    rt: &R,
+    line: &str,
+    desk: &mut MemDesk,
+) -> Result<Status, AllocError> {
+    let alloc = rt.alloc();
+    let mut words = Vec::new(alloc);
+    for word in line.split_whitespace() {
+        words.push(String::from_str(alloc, word)?)?;
+    }
+    Ok(run(rt, alloc, &words, desk, &FreeGate))
+}
+
+/// What the created file holds; None where there is none.
+fn written(desk: &MemDesk) -> Option<&[u8]> {
+    desk.file("y")
+}
+
+/// A feed that keeps what it is handed.
+#[derive(Drop)]
+struct Kept {
+    bytes: Vec<u8>,
+}
+
+impl Feed for Kept {
+    type Fault = AllocError;
+
+    ghost feed_gives = { λ _ _ _ _. Unit {0} };
+
+    fn feed(&mut self, piece: &[u8]) -> Result<(), AllocError> {
+        self.bytes.extend_from_slice(piece)
+    }
+}

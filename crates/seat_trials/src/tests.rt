@@ -1,2 +1,0 @@
-mod claims;
-mod shared_rows;

@@ -1,2 +1,0 @@
-mod PlantOrders
-mod EmptyTables
