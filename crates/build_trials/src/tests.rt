@@ -6,7 +6,6 @@ mod gates;
 mod meetings;
 mod pools;
 mod roots;
-mod shares;
 mod supersteps;
 
 use chl_cmd::By;

@@ -6,7 +6,6 @@ mod answers;
 mod claims;
 mod cleaning;
 mod graphs;
-mod pieces;
 mod pools;
 mod readers;
 mod rows;

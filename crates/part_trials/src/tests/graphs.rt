@@ -1,42 +1,9 @@
-//! The arcs of a graph, the order in which it is gone through for its new numbers, and rankings.
+//! Graphs with few edges, the order in which one is gone through for its new numbers, and rankings.
 
 use super::one_to_four;
 use renumbering::tour;
 use std::test::Fail;
-use walk_laws::{AnyArc, Arc, ArcRow, Edge, Graph};
-
-#[test]
-fn arcs_of_a_small_graph(rt: HostRuntime) -> Result<(), Fail> {
-    let edges = vec![in rt.alloc();
-        Edge { u: 1, v: 2, w: 5 },
-        Edge { u: 2, v: 1, w: 3 },
-        Edge { u: 2, v: 2, w: 7 },
-        Edge { u: 3, v: 2, w: 1 },
-    ]?;
-    let graph = Graph::new(rt.alloc(), 3, edges)?;
-    assert_eq!(rt; (graph.n(), graph.edges().len()), (3, 4));
-    let arcs = [(1, 5), (1, 3), (2, 7), (2, 7), (3, 1)];
-    for (arc, (to, w)) in graph.arcs(2).iter().zip(&arcs) {
-        assert_eq!(rt; *arc, Arc { to: *to, w: *w });
-    }
-    assert_eq!(rt; graph.arcs(2).len(), 5);
-    Ok(())
-}
-
-/// Of the weights that fit in half the room the greatest is 4294967295.
-#[test]
-fn a_great_weight_takes_full_room(rt: HostRuntime) -> Result<(), Fail> {
-    for (w, fits) in [(4_294_967_295, true), (4_294_967_296, false)] {
-        let edges = vec![in rt.alloc(); Edge { u: 1, v: 2, w }]?;
-        let graph = Graph::new(rt.alloc(), 2, edges)?.with_narrow_arcs(rt.alloc())?;
-        let (narrow, arc) = match graph.arc_row(2) {
-            ArcRow::Narrow(arcs) => (true, arcs.first().map(|arc| arc.widened())),
-            ArcRow::Wide(arcs) => (false, arcs.first().copied()),
-        };
-        assert_eq!(rt; (narrow, arc), (fits, Some(Arc { to: 1, w })));
-    }
-    Ok(())
-}
+use walk_laws::{Arc, Edge, Graph};
 
 /// A graph of 2^30 nodes and one edge is made at once, and a node without edges has no arcs.
 #[test]
