@@ -1,6 +1,5 @@
-//! Readers and lines, fed in pieces: a reader that has refused refuses whatever follows, and the end, for the same reason.
+//! A reader that has refused refuses whatever follows, and the end, for the same reason; and lines.
 
-use super::SQUARE_FILE;
 use desk_io::{Lines, Reader};
 use dimacs_text::{GrFault, GrReader, PairsFault, PairsReader, TextFault, TextKind};
 use index_file::{IndexFault, IndexReader};
@@ -12,77 +11,41 @@ use std::test::Fail;
 /// What may follow a piece that was refused.
 const MORE: [&[u8]; 4] = [b"", b"\n", b"1\n", b"a 1 2 1\n"];
 
-/// Why a reader refuses the bytes, fed in pieces of this size. Once it has refused a piece it has to refuse whatever follows.
-fn refusal<R: Abort, F: Reader>(
-    rt: &R,
-    mut reader: F,
-    bytes: &[u8],
-    size: usize,
-) -> Option<F::Fault>
+/// Checks that a reader refuses these bytes for this reason, and whatever follows, and the end.
+fn expect_refusal<R: Abort, F: Reader>(rt: &R, mut reader: F, bytes: &[u8], fault: F::Fault)
 where
     F::Fault: Copy + Debug + PartialEq,
     F::Value: Drop,
 {
-    let mut refused = None;
-    for piece in bytes.chunks(size.max(1)) {
-        let answer = reader.feed(piece).err();
-        assert!(rt; refused.is_none() || answer == refused);
-        refused = answer;
-    }
+    assert_eq!(rt; reader.feed(bytes).err(), Some(fault));
     for more in MORE {
-        if refused.is_some() {
-            assert_eq!(rt; reader.feed(more).err(), refused);
-        }
+        assert_eq!(rt; reader.feed(more).err(), Some(fault));
     }
-    let ended = reader.finish().err();
-    assert!(rt; refused.is_none() || ended == refused);
-    ended
+    assert_eq!(rt; reader.finish().err(), Some(fault));
 }
 
-/// How many bytes a piece has.
-const SIZES: [usize; 4] = [1, 2, 7, 1000];
-
-/// The text declares so much that a reader which made room for it would find no memory.
+/// The texts declare so much that a reader which made room for it would find no memory.
 #[test]
 fn damaged_texts_are_refused(rt: HostRuntime) -> Result<(), Fail> {
-    for size in SIZES {
-        let reader = GrReader::new(rt.alloc())?;
-        let text = b"p sp 1073741824 1073741824\na 1 2 0\na 1 2 1\n";
-        let fault = TextFault {
-            line: 2,
-            kind: TextKind::ZeroWeight,
-        };
-        assert_eq!(rt;
-            refusal(&rt, reader, text, size),
-            Some(GrFault::Text(fault))
-        );
-        let reader = PairsReader::new(rt.alloc(), 2)?;
-        let text = b"p aux sp p2p 4294967295\nq 1 2\nq 1 3\nq 1 1\n";
-        let fault = TextFault {
-            line: 3,
-            kind: TextKind::NodeRange,
-        };
-        assert_eq!(rt;
-            refusal(&rt, reader, text, size),
-            Some(PairsFault::Text(fault))
-        );
-    }
+    let line = 2;
+    let text = b"p sp 1073741824 1073741824\na 1 2 0\na 1 2 1\n";
+    let kind = TextKind::ZeroWeight;
+    let fault = GrFault::Text(TextFault { line, kind });
+    expect_refusal(&rt, GrReader::new(rt.alloc())?, text, fault);
+    let text = b"p aux sp p2p 4294967295\nq 1 3\nq 1 1\n";
+    let kind = TextKind::NodeRange;
+    let fault = PairsFault::Text(TextFault { line, kind });
+    expect_refusal(&rt, PairsReader::new(rt.alloc(), 2)?, text, fault);
     Ok(())
 }
 
-/// The order names a node twice, and the index file has the position 2 where it is the node's own, 1, at the latest.
+/// The order names a node twice, and the index file has another version.
 #[test]
 fn damaged_orders_and_index_files_are_refused(rt: HostRuntime) -> Result<(), Fail> {
-    for size in SIZES {
-        let reader = OrderReader::new(rt.alloc(), 1 << 30)?;
-        let fault = OrderFault::Repeated { line: 3, node: 7 };
-        assert_eq!(rt; refusal(&rt, reader, b"7\n1\n7\n2\n", size), Some(fault));
-        let reader = IndexReader::new(rt.alloc())?;
-        let mut file = Vec::from_slice(rt.alloc(), SQUARE_FILE)?;
-        file.extend_from_slice(b"\0\0")?;
-        let fault = IndexFault::Long { at: 152 };
-        assert_eq!(rt; refusal(&rt, reader, &file, size), Some(fault));
-    }
+    let fault = OrderFault::Repeated { line: 2, node: 7 };
+    expect_refusal(&rt, OrderReader::new(rt.alloc(), 9)?, b"7\n7\n", fault);
+    let fault = IndexFault::Version { byte: 3 };
+    expect_refusal(&rt, IndexReader::new(rt.alloc())?, b"CHLABEL\x03\0", fault);
     Ok(())
 }
 
