@@ -1,4 +1,4 @@
-use crate::road::Road;
+use crate::road::{Road, key_of};
 use crate::roads::Roads;
 use crate::table::{count_of, number_at, part, set_number};
 use std::alloc::{AllocError, Global};
@@ -39,14 +39,24 @@ impl CoreRoads {
         Ok(small)
     }
 
+    /// Puts these roads in the row of the next node, by rising length, and leaves none of them.
+    pub fn push_row(&mut self, row: &mut Vec<Road>) -> Result<(), AllocError> {
+        row.sort_unstable_by_key(|road| key_of(road.length, road.to));
+        for road in row.as_slice() {
+            self.push(*road)?;
+        }
+        row.clear();
+        self.end_row()
+    }
+
     /// Puts a road last in the row that is being made.
-    pub fn push(&mut self, road: Road) -> Result<(), AllocError> {
+    fn push(&mut self, road: Road) -> Result<(), AllocError> {
         self.roads.push(road)?;
         Ok(())
     }
 
     /// The row that is being made ends.
-    pub fn end_row(&mut self) -> Result<(), AllocError> {
+    fn end_row(&mut self) -> Result<(), AllocError> {
         let end = count_of(&self.roads);
         self.starts.push(end)?;
         Ok(())

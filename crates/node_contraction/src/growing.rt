@@ -1,6 +1,8 @@
+ghost use Rattle.std.specs.Prelude.{◌≡◌, length};
+
 use crate::core_roads::CoreRoads;
-use crate::road::{FAR, Road, key_of, length_of, node_of};
-use crate::table::{number_at, part, set_number};
+use crate::road::{FAR, key_of, length_of, node_of};
+use crate::table::{number_at, set_number};
 use std::alloc::{AllocError, Global};
 use std::cmp::Reverse;
 use std::collections::BinaryHeap;
@@ -8,20 +10,17 @@ use std::collections::BinaryHeap;
 /// No length to a hub is greater, so that two of them fit.
 const FARTHEST: u32 = 2_147_483_647;
 
-/// How far each node of a core is from each of some hubs: a row of lengths for each node.
+/// How far each node of a core is from each of some hubs: a list of lengths for each hub.
 #[derive(Drop)]
 pub struct HubLengths {
-    lengths: Vec<u32>,
-    /// How many hubs there are.
-    hubs: u32,
+    columns: Vec<Vec<u32>>,
 }
 
 impl HubLengths {
     /// No hubs.
     pub fn none(alloc: Global) -> HubLengths {
         HubLengths {
-            lengths: Vec::new(alloc),
-            hubs: 0,
+            columns: Vec::new(alloc),
         }
     }
 
@@ -32,36 +31,36 @@ impl HubLengths {
         let mut columns = Vec::with_capacity(alloc, hubs.len())?;
         for hub in hubs {
             growing.grow(core, *hub, &none)?;
-            columns.push(Vec::from_slice(alloc, &growing.lengths)?)?;
-        }
-        let mut lengths = Vec::new(alloc);
-        for node in 0..core.count() {
-            for column in columns.as_slice() {
-                lengths.push(number_at(column, node, FAR).min(FARTHEST))?;
+            let mut column = Vec::with_capacity(alloc, growing.lengths.len())?;
+            for length in growing.lengths.as_slice() {
+                column.push((*length).min(FARTHEST))?;
             }
+            columns.push(column)?;
         }
-        Ok(HubLengths {
-            lengths,
-            hubs: u32::try_from(hubs.len()).unwrap_or(0),
-        })
+        Ok(HubLengths { columns })
     }
 
-    /// The lengths from a node to each of the hubs.
-    #[inline(always)]
-    fn row(&self, node: u32) -> &[u32] {
-        let start = node.saturating_mul(self.hubs);
-        part(&self.lengths, start, start.saturating_add(self.hubs))
+    /// Writes how far each node is from a root by a hub, FAR where there is no hub, and answers the greatest of these lengths.
+    fn write_ways(&self, root: u32, lengths: &mut [u32]) -> u32 {
+        lengths.fill(FAR);
+        for column in self.columns.as_slice() {
+            lower_by(number_at(column, root, FARTHEST), column, lengths);
+        }
+        let mut greatest = 0;
+        for length in lengths {
+            greatest = (*length).max(greatest);
+        }
+        greatest
     }
 }
 
-/// The shortest way from one node to another by a hub, from the lengths of both to the hubs; FAR where there is no hub.
-#[inline(always)]
-fn way_by_hub(one: &[u32], other: &[u32]) -> u32 {
-    let mut least = FAR;
-    for (a, b) in one.iter().zip(other.iter()) {
-        least = least.min(a.wrapping_add(*b));
+/// Lowers each length to that of the way by a hub, which is so far from the root, and so far from each node.
+fn lower_by(from_root: u32, from_hub: &[u32], lengths: &mut [u32])
+    ensures { length lengths.new ≡ length lengths.old }
+{
+    for k in 0..lengths.len().min(from_hub.len()) {
+        lengths[k] = lengths[k].min(from_root.wrapping_add(from_hub[k]));
     }
-    least
 }
 
 /// A shortest-path tree that grows in a core. It has no node that is as near by a hub, and none behind such a one.
@@ -94,53 +93,45 @@ impl Growing {
         root: u32,
         hubs: &HubLengths,
     ) -> Result<(), AllocError> {
-        self.lengths.fill(FAR);
+        let limit = hubs.write_ways(root, &mut self.lengths);
         self.nodes.clear();
         self.queue.clear();
         set_number(&mut self.lengths, root, 0);
         self.queue.push(Reverse(key_of(0, root)))?;
-        let from_root = hubs.row(root);
         for _ in 0..u64::MAX {
             let Some(Reverse(key)) = self.queue.pop() else {
                 return Ok(());
             };
             let (length, node) = (length_of(key), node_of(key));
-            if length > number_at(&self.lengths, node, 0) {
-                continue;
-            }
-            self.nodes.push(node)?;
-            for road in core.row(node) {
-                self.offer(node, *road, length, hubs, from_root)?;
+            if length <= number_at(&self.lengths, node, 0) {
+                self.nodes.push(node)?;
+                self.pass(core, node, length, limit)?;
             }
         }
         Ok(())
     }
 
-    /// Offers the end of a road from a node at a length.
+    /// Goes along the roads of a node that is so far from the root. No node is nearer to the root than by a hub from the limit
+    /// on, and the roads stand by rising length.
     #[inline(always)]
-    fn offer(
+    fn pass(
         &mut self,
+        core: &CoreRoads,
         node: u32,
-        road: Road,
         length: u32,
-        hubs: &HubLengths,
-        from_root: &[u32],
+        limit: u32,
     ) -> Result<(), AllocError> {
-        let length = length.saturating_add(road.length);
-        let known = number_at(&self.lengths, road.to, 0);
-        if length >= known {
-            return Ok(());
-        }
-        if known == FAR {
-            let by_hub = way_by_hub(hubs.row(road.to), from_root);
-            set_number(&mut self.lengths, road.to, by_hub.min(length));
-            if by_hub <= length {
+        for road in core.row(node) {
+            let length = length.saturating_add(road.length);
+            if length >= limit {
                 return Ok(());
             }
+            if length < number_at(&self.lengths, road.to, 0) {
+                set_number(&mut self.lengths, road.to, length);
+                set_number(&mut self.parents, road.to, node);
+                self.queue.push(Reverse(key_of(length, road.to)))?;
+            }
         }
-        set_number(&mut self.lengths, road.to, length);
-        set_number(&mut self.parents, road.to, node);
-        self.queue.push(Reverse(key_of(length, road.to)))?;
         Ok(())
     }
 }

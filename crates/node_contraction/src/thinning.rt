@@ -3,10 +3,12 @@ use crate::road::{FAR, Road};
 use crate::table::{number_at, set_number};
 use std::alloc::{AllocError, Global};
 
-/// The core without the roads that two shorter ones stand for: all distances are the same without them.
+/// The core without the roads that two shorter ones stand for: all distances are the same without them. The roads of a node
+/// stand by rising length.
 pub fn thinned(alloc: Global, core: &CoreRoads) -> Result<CoreRoads, AllocError> {
     let mut best = vec![in alloc; FAR; core.count() as usize]?;
     let mut thin = CoreRoads::new(alloc)?;
+    let mut kept = Vec::new(alloc);
     for node in 0..core.count() {
         let row = core.row(node);
         for road in row {
@@ -15,10 +17,10 @@ pub fn thinned(alloc: Global, core: &CoreRoads) -> Result<CoreRoads, AllocError>
         strike_detours(core, row, &mut best);
         for road in row {
             if number_at(&best, road.to, FAR) == road.length {
-                thin.push(*road)?;
+                kept.push(*road)?;
             }
         }
-        thin.end_row()?;
+        thin.push_row(&mut kept)?;
         for road in row {
             set_number(&mut best, road.to, FAR);
         }
