@@ -20,7 +20,7 @@ use Rattle.index_file.specs.Judging.{index_of}
 use Rattle.index_file.proofs.SoundIndexes.{IsWellFormed-index_of}
 use Rattle.index_file.specs.Layout.{index_bytes}
 use Rattle.index_file.proofs.Layouts.{index_of-layout}
-use Rattle.rank_table.proofs.OrderNodes.{orders_rank}
+use Rattle.order_text.proofs.OrderNodes.{orders_rank}
 use Rattle.walk_laws.specs.declared.entry.Entry.{Entry}
 use Rattle.walk_laws.specs.Graph.{WeightedGraph, IsGraph}
 use Rattle.walk_laws.specs.Joined.{Joined}

@@ -2,7 +2,7 @@
 use Rattle.std.specs.Prelude.{◌≡◌, ◌≢◌, ℕ, List, Result, Ok, Err}
 use Rattle.desk_io.specs.Counts.{Rises}
 use Rattle.index_file.specs.declared.fault.IndexFault.TheVariants as index_faults
-use Rattle.rank_table.specs.declared.order_fault.OrderFault.TheVariants as order_faults
+use Rattle.order_text.specs.declared.order_fault.OrderFault.TheVariants as order_faults
 use Rattle.chl_cmd.specs.declared.status.Status.{Status}
 use Rattle.chl_cmd.specs.declared.status.Status.TheVariants.{Done, Differs, Usage, GraphText, OrderText, PairsText, IndexBytes, Overflow, ReadFault, WriteFault, NoMemory, NotOfGraph, TooLong}
 use Rattle.chl_inputs.specs.declared.stop.Stop.{Stop}

@@ -7,7 +7,7 @@ use chl_inputs::{NotOf, Stop};
 use dimacs_text::TextFault;
 use index_audit::Audit;
 use index_file::IndexFault;
-use rank_table::OrderFault;
+use order_text::OrderFault;
 use thiserror::Error;
 
 /// How a run of the program ended. Its text is the line that the program prints on standard error.

@@ -8,7 +8,7 @@ use Rattle.dimacs_text.specs.GraphText.{graph_of_text, graph_fault_within}
 use Rattle.dimacs_text.specs.PairsText.{pairs_of_text, pairs_fault_within}
 use Rattle.hub_index.specs.HubIndex.{HubIndex}
 use Rattle.index_file.specs.Judging.{index_of, fault_within}
-use Rattle.rank_table.specs.OrderText.{order_of_text, order_fault_within}
+use Rattle.order_text.specs.OrderText.{order_of_text, order_fault_within}
 use Rattle.walk_laws.specs.Graph.{WeightedGraph}
 use Rattle.chl_inputs.specs.Stops.{graph_stop, order_stop, pairs_stop, index_stop}
 use Rattle.chl_inputs.specs.declared.stop.Stop.{Stop}

@@ -10,8 +10,8 @@ use Rattle.dimacs_text.specs.declared.fault.PairsFault.{PairsFault}
 use Rattle.dimacs_text.specs.declared.fault.PairsFault.TheVariants as pairs_faults
 use Rattle.index_file.specs.declared.fault.IndexFault.{IndexFault}
 use Rattle.index_file.specs.declared.fault.IndexFault.TheVariants as index_faults
-use Rattle.rank_table.specs.declared.order_fault.OrderFault.{OrderFault}
-use Rattle.rank_table.specs.declared.order_fault.OrderFault.TheVariants as order_faults
+use Rattle.order_text.specs.declared.order_fault.OrderFault.{OrderFault}
+use Rattle.order_text.specs.declared.order_fault.OrderFault.TheVariants as order_faults
 use Rattle.chl_inputs.specs.declared.stop.Stop.{Stop}
 use Rattle.chl_inputs.specs.declared.stop.Stop.TheVariants.{Graph, Overflow, Order, Pairs, Index, TooLong, ReadFailed, NoMemory}
 

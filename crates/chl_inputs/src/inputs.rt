@@ -9,7 +9,8 @@ use desk_io::Desk;
 use dimacs_text::{GrReader, Pairs, PairsReader};
 use hub_index::Index;
 use index_file::IndexReader;
-use rank_table::{OrderReader, Ranking};
+use order_text::OrderReader;
+use rank_table::Ranking;
 use std::alloc::Global;
 use walk_laws::Graph;
 

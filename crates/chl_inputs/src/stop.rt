@@ -4,7 +4,7 @@ ghost use Rattle.chl_inputs.specs.declared.stop.Stop.TheVariants.{NoMemory};
 use dimacs_text::TextFault;
 use index_audit::Audit;
 use index_file::IndexFault;
-use rank_table::OrderFault;
+use order_text::OrderFault;
 use std::alloc::{AllocError, AllocFailed};
 use thiserror::Error;
 

@@ -5,7 +5,7 @@ use crate::stop::Stop;
 use desk_io::{DeskFault, ReadEnd, Reader};
 use dimacs_text::{GrFault, GrReader, PairsFault, PairsReader};
 use index_file::{IndexFault, IndexReader};
-use rank_table::{OrderFault, OrderReader};
+use order_text::{OrderFault, OrderReader};
 
 /// A reader of an input, at whose faults a command stops.
 pub trait StopsAt: Reader {

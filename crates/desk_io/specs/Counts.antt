@@ -1,15 +1,11 @@
 -- Counts of faults.
-use Rattle.std.specs.Prelude.{◌≡◌, ℕ, ◌<◌, ◌+◌, ◌-◌, ◌^◌, ◌⊎◌, min, Result, Ok, Err}
+use Rattle.std.specs.Prelude.{◌≡◌, ℕ, ◌<◌, ◌-◌, ◌^◌, ◌⊎◌, Result, Ok, Err}
 use Rattle.desk_io.specs.declared.desk.DeskFault.{DeskFault}
 use Rattle.desk_io.specs.declared.desk.DeskFault.TheVariants.{Failed, NoMemory}
 
 -- the last value of a count
 abbrev pub last_count : ℕ
 last_count = 2 ^ 64 - 1
-
--- a count, one up; at its last value it stands still
-abbrev pub next : ℕ → ℕ
-next count = min (count + 1) last_count
 
 -- a count has risen, or stands at its last value
 abbrev pub Rises : ℕ → ℕ → Type 0

@@ -1,11 +1,8 @@
 pub mod Contents
 pub mod Counts
 pub mod Feed
-pub mod Files
 pub mod HandOn
 pub mod Lines
-pub mod Memory
-pub mod MemoryCode
 pub mod Outside
 pub mod Reading
 pub mod Reader

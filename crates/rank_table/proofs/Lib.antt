@@ -1,4 +1,3 @@
 pub mod CountedArcs
 pub mod DegreeOrder
 pub mod DegreeRankings
-pub mod OrderNodes

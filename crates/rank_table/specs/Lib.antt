@@ -1,4 +1,2 @@
 pub mod ByDegree
 pub mod DegreeLaws
-pub mod OrderLaws
-pub mod OrderText

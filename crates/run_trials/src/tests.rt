@@ -7,7 +7,8 @@ mod few_bytes;
 mod pieces;
 
 use chl_cmd::{Status, run};
-use desk_io::{Call, Feed, FreeGate, MemDesk};
+use desk_io::{Feed, FreeGate};
+use mem_desk::{Call, MemDesk};
 use std::alloc::{AllocError, Global};
 use std::process::Abort;
 use std::sync::Wait;

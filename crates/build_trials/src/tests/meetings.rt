@@ -3,7 +3,7 @@
 use super::gates::{Order, Watch};
 use super::*;
 use chl_cmd::{Status, run};
-use desk_io::MemDesk;
+use mem_desk::MemDesk;
 use std::alloc::AllocError;
 
 /// The square 1-2-3-4-1, its nodes by rank, and a pair.

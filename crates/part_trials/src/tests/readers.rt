@@ -3,7 +3,7 @@
 use desk_io::{Lines, Reader};
 use dimacs_text::{GrFault, GrReader, PairsFault, PairsReader, TextFault, TextKind};
 use index_file::{IndexFault, IndexReader};
-use rank_table::{OrderFault, OrderReader};
+use order_text::{OrderFault, OrderReader};
 use std::fmt::Debug;
 use std::process::Abort;
 use std::test::Fail;

@@ -1,6 +1,6 @@
 use Rattle.std.proofs.Common.{[], sym, ◌∙◌}
 use Rattle.std.proofs.lemmas.Result.{IfOk-weaker}
-use Rattle.rank_table.proofs.OrderNodes.{orders_rank}
+use Rattle.order_text.proofs.OrderNodes.{orders_rank}
 use Rattle.chl_inputs.specs.Stops.{order_stop}
 use Rattle.chl_inputs.proofs.InputFacts.{reads_as}
 use Rattle.chl_inputs.proofs.inputs.read_order.Goals as goal
