@@ -6,8 +6,8 @@ use Rattle.walk_laws.specs.declared.graph.Edge.{Edge}
 use Rattle.walk_laws.specs.declared.entry.Entry.{Entry}
 use Rattle.walk_laws.specs.Labelling.{label_row}
 use Rattle.walk_laws.specs.Ranking.{IsRanking}
-use Rattle.hub_index.specs.declared.entry_sink.NodeEntry.{NodeEntry}
-use Rattle.hub_index.specs.Sunk.{entries_of_node}
+use Rattle.hub_index.specs.declared.node_entry.NodeEntry.{NodeEntry}
+use Rattle.hub_index.specs.NodeEntries.{entries_of_node}
 use Rattle.hub_index.specs.Views.{IsNode}
 use Rattle.label_clean.specs.Below.{IsChlBelow}
 use Rattle.label_clean.specs.Joining.{IsCoveredBelow}

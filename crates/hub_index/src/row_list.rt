@@ -1,7 +1,7 @@
 ghost use Rattle.std.specs.Prelude.{◌≡◌, ℕ, ◌+◌, ◌-◌, ◌^◌, ◌<◌, ◌≤◌, [], ◌++◌, length, map, replicate, slice_set, vec_len, IfOk, OnOk, OnErr};
 ghost use Rattle.walk_laws.specs.Labelling.{label_row};
 ghost use Rattle.hub_index.specs.HubIndex.{with_entry};
-ghost use Rattle.hub_index.specs.Sunk.{IsGatheredRow};
+ghost use Rattle.hub_index.specs.NodeEntries.{IsGatheredRow};
 ghost use Rattle.hub_index.specs.Views.{IsAnswerOf, with_put};
 
 use crate::root_table::RootTable;

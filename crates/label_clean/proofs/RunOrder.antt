@@ -15,8 +15,8 @@ use Rattle.walk_laws.specs.Joined.{Joined}
 use Rattle.walk_laws.specs.Labelling.{EntryFits}
 use Rattle.walk_laws.proofs.LabelRows.{Rises}
 use Rattle.walk_laws.proofs.Members.{Contains-first}
-use Rattle.hub_index.specs.declared.entry_sink.NodeEntry.{NodeEntry}
-use Rattle.hub_index.specs.Sunk.{entries_of_node, entry_of}
+use Rattle.hub_index.specs.declared.node_entry.NodeEntry.{NodeEntry}
+use Rattle.hub_index.specs.NodeEntries.{entries_of_node, entry_of}
 use Rattle.hub_index.proofs.GatheredRows.{entries_of_node-append}
 use Rattle.label_clean.specs.declared.runs.RunList.{RunList}
 use Rattle.label_clean.specs.declared.turns.Turn.{Turn}

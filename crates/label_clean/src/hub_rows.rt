@@ -1,6 +1,6 @@
 //! The late rows of hubs, which are gathered again and again.
 ghost use Rattle.std.specs.Prelude.{◌≡◌, ℕ, ◌+◌, ◌-◌, ◌<◌, ◌≤◌, ◌++◌, [], get_or, length, map, vec_len, OnOk};
-ghost use Rattle.hub_index.specs.Sunk.{IsGatheredRow};
+ghost use Rattle.hub_index.specs.NodeEntries.{IsGatheredRow};
 ghost use Rattle.label_clean.specs.HubRows.{AreGathered, all_hub_entries, entries_of_hub};
 
 use std::alloc::{AllocError, Global};

@@ -1,6 +1,6 @@
 //! Lists of entries with their runs, each of one root.
 ghost use Rattle.std.specs.Prelude.{◌≡◌, ℕ, ◌<◌, ◌≤◌, [], get_or, length, OnOk};
-ghost use Rattle.hub_index.specs.declared.entry_sink.NodeEntry.{NodeEntry as ANodeEntry};
+ghost use Rattle.hub_index.specs.declared.node_entry.NodeEntry.{NodeEntry as ANodeEntry};
 ghost use Rattle.label_clean.specs.RootRuns.{AreRunsOf};
 ghost use Rattle.label_clean.specs.RunLists.{HasItsRuns};
 
