@@ -1,5 +1,5 @@
 -- What trees put over a table that is the labelling up to a position, said without the table.
-use Rattle.std.proofs.Common.{◌≡◌, ℕ, ◌≤◌, List, [], Contains, length, get_or, sym, subst, arith}
+use Rattle.std.proofs.Common.{◌≡◌, ℕ, ◌≤◌, List, Contains, length, get_or, sym, subst, arith}
 use Rattle.std.specs.Prelude.{Result, Ok, Err, IfOk}
 use Rattle.std.specs.declared.alloc.AllocError.{AllocError}
 use Rattle.walk_laws.specs.declared.graph.Edge.{Edge}
@@ -19,7 +19,7 @@ use Rattle.gll_build.specs.Shares.{HavePut}
 
 module _ (edges : List Edge) (at : List ℕ) (ranking : IsRanking at) (first : ℕ) (global : List (List Entry)) (chl : IsChlBelow edges at first global) where
   -- what hubs below the position cover the table covers
-  needless : (v : ℕ) → IsNode (length at) v → (e : Entry) → first ≤ e.pos → IsCoveredBelow edges at first v e → IsNeedless at [] global v e
+  needless : (v : ℕ) → IsNode (length at) v → (e : Entry) → first ≤ e.pos → IsCoveredBelow edges at first v e → IsNeedless at global v e
   needless v node e late c =
       let h = hub_node at ranking e.pos c.hub c.hub_is in
       let of_hub : Contains (label_row global c.hub) c.of_hub = ((chl.row c.hub h.0 h.1).each c.of_hub).1 (c.is_hubs, c.below) in

@@ -58,7 +58,7 @@ pub record IsSoundGround (ground : Ground) : Type 0 where
 
 -- the global rows of the hub of each entry and of the node v cover none
 abbrev pub AreUncovered : List ℕ → List (List Entry) → ℕ → List Entry → Type 0
-AreUncovered at global v entries = All (λ e. ¬ IsNeedless at [] global v e) entries
+AreUncovered at global v entries = All (λ e. ¬ IsNeedless at global v e) entries
 
 -- where they cover nothing that was put before, they cover nothing that was put by then
 abbrev pub StayUncovered : List ℕ → List (List Entry) → (ℕ → List Entry) → (ℕ → List Entry) → Type 0

@@ -89,18 +89,6 @@ impl SplitRows {
         }
     }
 
-    /// The rows of a list, with most entries in half the room. The only error is that memory ran out.
-    pub fn of(alloc: Global, list: &RowList) -> Result<SplitRows, AllocError>
-        ensures { IfOk result (λ rows. rows ≡ list.now) }
-    {
-        let n = list.n();
-        let mut rows = SplitRows::new(alloc, n)?;
-        for k in 0..n {
-            rows.push_all(k + 1, list.row(k + 1))?;
-        }
-        Ok(rows)
-    }
-
     /// The rows that a list has of the nodes of one stripe, each at its place there, with most entries in half the room. The
     /// stripes count from 0. The only error is that memory ran out.
     pub fn of_stripe(

@@ -52,13 +52,6 @@ impl<'a> StripedRows<'a> {
         }
     }
 
-    /// How many nodes there are.
-    pub fn n(&self) -> u32
-        ensures { result ≡ length self.now }
-    {
-        self.n
-    }
-
     /// Notes the entries of the row of the node `v`, a number from 1, in the table, one after another. It takes no memory.
     pub fn note(&self, v: u32, table: &mut RootTable)
         requires node { 1 ≤ v }

@@ -25,7 +25,7 @@ use Rattle.label_clean.specs.RawRows.{HasEachOnce}
 use Rattle.label_clean.specs.RunLists.{AreTurnsOf, IsTurnOf, all_entries, entries_at, part_of}
 use Rattle.label_clean.specs.Sorted.{IsSortedRow}
 use Rattle.label_clean.proofs.Covering.{pos_of}
-use Rattle.label_clean.proofs.GoneOn.{Rises-append}
+use Rattle.label_clean.proofs.KeptEntries.{Rises-append}
 use Rattle.label_clean.proofs.KeptRows.{once_from_rising}
 use Rattle.label_clean.proofs.RowFacts.{All-sorted}
 use Rattle.label_clean.proofs.TimesOf.{Contains-joined, at_least_one, at_most_one, joined_of, node_entry, of_node, one_if, times-joined, to_node}
