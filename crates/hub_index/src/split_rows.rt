@@ -28,7 +28,7 @@ const FIRST_ROOM: usize = 32;
 /// A row for each of the nodes 1..n: entries of 8 bytes, and from the first on whose distance is too great for that, entries
 /// of 16. The two parts of a row lie apart, since the second is nearly always empty; of rows that were made empty none is looked
 /// at before an entry is put there. Contracts see the list of the rows, node 1 first.
-#[derive(Debug, Drop)]
+#[derive(Drop)]
 pub struct SplitRows {
     narrow: Vec<Vec<NarrowEntry>>,
     wide: WideRows,

@@ -13,7 +13,7 @@ use walk_laws::Entry;
 
 /// The rows of the nodes 1..n that lie in stripes, as one table, to be looked at. Contracts see the list of the rows, node 1
 /// first.
-#[derive(Debug, Drop)]
+#[derive(Drop)]
 pub struct StripedRows<'a> {
     stripes: &'a [SplitRows],
     dealt: Stripes,

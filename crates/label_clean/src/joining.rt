@@ -17,7 +17,7 @@ use std::alloc::{AllocError, Global};
 
 /// What one thread takes once, whatever it lets join: room for the runs of many lists. What stands there between two calls is of
 /// no use.
-#[derive(Debug, Drop)]
+#[derive(Drop)]
 pub struct Cleaner {
     turns: Vec<Turn>,
 }

@@ -1,6 +1,6 @@
 //! What is kept of each row, on all cores, in pieces of about as many entries, each with one table; only a row that loses an
 //! entry is copied.
-ghost use Rattle.std.specs.Prelude.{◌+◌, ◌-◌, ◌^◌, ◌≡◌, ◌↔◌, ℕ, ◌<◌, ◌≤◌, All, length, vec_len, IsTrue, IfOk};
+ghost use Rattle.std.specs.Prelude.{◌+◌, ◌-◌, ◌≡◌, ◌↔◌, ℕ, ◌<◌, ◌≤◌, All, length, IsTrue, IfOk};
 ghost use Rattle.walk_laws.specs.Labelling.{label_row};
 ghost use Rattle.std.specs.Thread.{IsSync};
 ghost use Rattle.label_clean.specs.Needless.{IsNeedless, IsSurvivingRow};
