@@ -4,8 +4,8 @@ use Rattle.std.proofs.Math.ListN.{length-set}
 use Rattle.std.proofs.lemmas.Bool.{cases_lt, cases_eq}
 use Rattle.std.proofs.lemmas.List.{append-nil, get_or_default, get_or_push, get_or-set_same, get_or-set_other, length-append, reverse-append, take_all}
 use Rattle.walk_laws.specs.declared.entry.Entry.{Entry}
-use Rattle.hub_index.specs.declared.entry_sink.NodeEntry.{NodeEntry}
-use Rattle.hub_index.specs.Sunk.{entries_of_node, entry_if, entry_of}
+use Rattle.hub_index.specs.declared.node_entry.NodeEntry.{NodeEntry}
+use Rattle.hub_index.specs.NodeEntries.{entries_of_node, entry_if, entry_of}
 use Rattle.hub_index.specs.Views.{IsNode}
 use Rattle.hub_index.proofs.GatheredRows.{entries_of_node-more, entry_if-other, entry_if-same}
 use Rattle.entry_chains.specs.declared.chains.Chains.{Chains}

@@ -1,8 +1,8 @@
 -- A chain of links through a list of entries: what it has from a link on.
 use Rattle.std.specs.Prelude.{◌≡◌, ℕ, zero, suc, ◌-◌, ◌<◌, ◌≤◌, List, [], ◌∷◌, get_or, length}
 use Rattle.walk_laws.specs.declared.entry.Entry.{Entry}
-use Rattle.hub_index.specs.declared.entry_sink.NodeEntry.{NodeEntry}
-use Rattle.hub_index.specs.Sunk.{entry_of}
+use Rattle.hub_index.specs.declared.node_entry.NodeEntry.{NodeEntry}
+use Rattle.hub_index.specs.NodeEntries.{entry_of}
 
 -- the link leads to this entry of the list, and that one's own link to one before it
 pub record IsLink (entries : List NodeEntry) (nexts : List ℕ) (link : ℕ) (e : Entry) : Type 0 where

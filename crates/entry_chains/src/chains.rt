@@ -1,7 +1,7 @@
 //! Chains through a list of entries of many nodes, one for each node.
 ghost use Rattle.std.specs.Prelude.{◌≡◌, ℕ, ◌+◌, ◌<◌, List, All, get_or, length, reverse, IfOk, OnOk, OnErr};
-ghost use Rattle.hub_index.specs.declared.entry_sink.NodeEntry.{NodeEntry as ANodeEntry};
-ghost use Rattle.hub_index.specs.Sunk.{entries_of_node};
+ghost use Rattle.hub_index.specs.declared.node_entry.NodeEntry.{NodeEntry as ANodeEntry};
+ghost use Rattle.hub_index.specs.NodeEntries.{entries_of_node};
 ghost use Rattle.hub_index.specs.Views.{IsNode};
 ghost use Rattle.entry_chains.specs.Chains.{AreChained, AreEmpty};
 

@@ -5,8 +5,8 @@ use Rattle.std.proofs.lemmas.List.{map-append}
 use Rattle.std.proofs.lemmas.List.Concat.{flat_map-cons}
 use Rattle.std.proofs.lemmas.List.Elements.{All-append, All-nil, All-push, filter-append}
 use Rattle.walk_laws.proofs.Members.{Contains-first, Contains-next}
-use Rattle.hub_index.specs.declared.entry_sink.NodeEntry.{NodeEntry}
-use Rattle.hub_index.specs.Sunk.{entries_of_node, entry_if, entry_of}
+use Rattle.hub_index.specs.declared.node_entry.NodeEntry.{NodeEntry}
+use Rattle.hub_index.specs.NodeEntries.{entries_of_node, entry_if, entry_of}
 use Rattle.hub_index.specs.Stripes.{node_at, stripe_number, stripe_place, stripe_size}
 use Rattle.hub_index.specs.Views.{IsNode}
 use Rattle.hub_index.proofs.DealtNodes.{IsNode-dealt, node_at_place, number_of_node, place_of_node}

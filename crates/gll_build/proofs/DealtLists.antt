@@ -4,7 +4,7 @@ use Rattle.std.proofs.Math.Seq.{map-set_same}
 use Rattle.std.proofs.lemmas.Bool.{cases_eq}
 use Rattle.std.proofs.lemmas.List.{append-nil, get_or-map, get_or-set_other, get_or-set_same, length-map, map-set, take_more}
 use Rattle.std.proofs.lemmas.List.Elements.{All-get_or}
-use Rattle.hub_index.specs.declared.entry_sink.NodeEntry.{NodeEntry}
+use Rattle.hub_index.specs.declared.node_entry.NodeEntry.{NodeEntry}
 use Rattle.hub_index.specs.Stripes.{stripe_number}
 use Rattle.label_clean.specs.declared.runs.RunList.{RunList}
 use Rattle.label_clean.specs.RunLists.{entries_at}

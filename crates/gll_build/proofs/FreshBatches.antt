@@ -10,9 +10,9 @@ use Rattle.walk_laws.specs.declared.entry.Entry.{Entry}
 use Rattle.walk_laws.specs.Laws.{WeighAtLeastOne}
 use Rattle.walk_laws.specs.Ranking.{IsRanking}
 use Rattle.walk_laws.proofs.Members.{Contains-first, Contains-next}
-use Rattle.hub_index.specs.declared.entry_sink.NodeEntry.{NodeEntry}
+use Rattle.hub_index.specs.declared.node_entry.NodeEntry.{NodeEntry}
 use Rattle.hub_index.specs.Stripes.{node_at, stripe_count, stripe_size}
-use Rattle.hub_index.specs.Sunk.{entries_of_node, entry_of}
+use Rattle.hub_index.specs.NodeEntries.{entries_of_node, entry_of}
 use Rattle.hub_index.specs.Views.{IsNode}
 use Rattle.hub_index.proofs.DealtNodes.{place_in_stripe, place_within}
 use Rattle.table_seats.specs.Numbers.{numbers}

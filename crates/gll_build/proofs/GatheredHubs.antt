@@ -13,8 +13,8 @@ use Rattle.walk_laws.specs.Labelling.{EntryFits}
 use Rattle.walk_laws.specs.Laws.{WeighAtLeastOne}
 use Rattle.walk_laws.specs.Ranking.{IsRanking}
 use Rattle.walk_laws.proofs.Filters.{Contains-filter, Contains-from_filter}
-use Rattle.hub_index.specs.declared.entry_sink.NodeEntry.{NodeEntry}
-use Rattle.hub_index.specs.Sunk.{entries_of_node}
+use Rattle.hub_index.specs.declared.node_entry.NodeEntry.{NodeEntry}
+use Rattle.hub_index.specs.NodeEntries.{entries_of_node}
 use Rattle.hub_index.specs.Views.{IsNode}
 use Rattle.table_seats.specs.Numbers.{numbers}
 use Rattle.label_clean.specs.declared.hub_rows.HubEntry.{HubEntry}

@@ -1,13 +1,13 @@
 -- What trees put over a table that is the labelling up to a position, said without the table.
-use Rattle.std.proofs.Common.{◌≡◌, ℕ, ◌≤◌, List, [], Contains, length, get_or, sym, subst, arith}
+use Rattle.std.proofs.Common.{◌≡◌, ℕ, ◌≤◌, List, Contains, length, get_or, sym, subst, arith}
 use Rattle.std.specs.Prelude.{Result, Ok, Err, IfOk}
 use Rattle.std.specs.declared.alloc.AllocError.{AllocError}
 use Rattle.walk_laws.specs.declared.graph.Edge.{Edge}
 use Rattle.walk_laws.specs.declared.entry.Entry.{Entry}
 use Rattle.walk_laws.specs.Labelling.{label_row}
 use Rattle.walk_laws.specs.Ranking.{IsRanking}
-use Rattle.hub_index.specs.declared.entry_sink.NodeEntry.{NodeEntry}
-use Rattle.hub_index.specs.Sunk.{entries_of_node}
+use Rattle.hub_index.specs.declared.node_entry.NodeEntry.{NodeEntry}
+use Rattle.hub_index.specs.NodeEntries.{entries_of_node}
 use Rattle.hub_index.specs.Views.{IsNode}
 use Rattle.label_clean.specs.Below.{IsChlBelow}
 use Rattle.label_clean.specs.Joining.{IsCoveredBelow}
@@ -19,7 +19,7 @@ use Rattle.gll_build.specs.Shares.{HavePut}
 
 module _ (edges : List Edge) (at : List ℕ) (ranking : IsRanking at) (first : ℕ) (global : List (List Entry)) (chl : IsChlBelow edges at first global) where
   -- what hubs below the position cover the table covers
-  needless : (v : ℕ) → IsNode (length at) v → (e : Entry) → first ≤ e.pos → IsCoveredBelow edges at first v e → IsNeedless at [] global v e
+  needless : (v : ℕ) → IsNode (length at) v → (e : Entry) → first ≤ e.pos → IsCoveredBelow edges at first v e → IsNeedless at global v e
   needless v node e late c =
       let h = hub_node at ranking e.pos c.hub c.hub_is in
       let of_hub : Contains (label_row global c.hub) c.of_hub = ((chl.row c.hub h.0 h.1).each c.of_hub).1 (c.is_hubs, c.below) in

@@ -10,8 +10,8 @@ use Rattle.walk_laws.specs.declared.entry.Entry.{Entry}
 use Rattle.walk_laws.specs.Ranking.{IsRanking, position_of}
 use Rattle.walk_laws.proofs.Members.{Contains-first, Contains-next}
 use Rattle.walk_laws.proofs.Positions.{slice_get-position}
-use Rattle.hub_index.specs.declared.entry_sink.NodeEntry.{NodeEntry}
-use Rattle.hub_index.specs.Sunk.{entries_of_node, entry_if, entry_of}
+use Rattle.hub_index.specs.declared.node_entry.NodeEntry.{NodeEntry}
+use Rattle.hub_index.specs.NodeEntries.{entries_of_node, entry_if, entry_of}
 use Rattle.hub_index.specs.Views.{IsNode}
 use Rattle.hub_index.proofs.GatheredRows.{entries_of_node-append, entries_of_node-one, entry_if-other, entry_if-same}
 use Rattle.label_clean.specs.declared.hub_rows.HubEntry.{HubEntry}

@@ -16,7 +16,7 @@ use Rattle.std.proofs.Common.{Contains}
 use Rattle.label_clean.specs.Below.{IsChlBelow, IsRowBelow}
 use Rattle.label_clean.proofs.JoinedRows.{EntryFits-from_hub}
 use Rattle.label_clean.proofs.RowFacts.{label_row-replicate}
-use Rattle.hub_index.specs.Sunk.{entries_of_node}
+use Rattle.hub_index.specs.NodeEntries.{entries_of_node}
 use Rattle.label_clean.specs.declared.runs.RunList.{RunList}
 use Rattle.label_clean.specs.HubRows.{RowsFrom}
 use Rattle.label_clean.specs.Joining.{JoinsRow, JoinsUnder}

@@ -8,7 +8,6 @@ use Rattle.walk_laws.specs.declared.entry.Entry.{Entry}
 use Rattle.walk_laws.specs.Labelling.{label_row}
 use Rattle.hub_index.specs.Views.{IsNode}
 use Rattle.label_clean.specs.Needless.{IsNeedless}
-use Rattle.label_clean.specs.RawRows.{both_rows}
 use Rattle.pruned_tree.specs.Grown.{IsGrown}
 use Rattle.pool_view.specs.Seen.{seen_chain}
 use Rattle.pool_view.specs.Viewing.{Viewing, puts_row, seen_row}
@@ -16,7 +15,7 @@ use Rattle.gll_build.specs.Shares.{AreUncovered, StayUncovered}
 
 module _ (at : List ℕ) where
   -- a row of the global table alone stands in the row that a view saw
-  in_seen : (view : Viewing) (v : ℕ) (e : Entry) → Contains (both_rows [] view.global v) e → Contains (seen_row view v) e
+  in_seen : (view : Viewing) (v : ℕ) (e : Entry) → Contains (label_row view.global v) e → Contains (seen_row view v) e
   in_seen view v e there =
       let chain = reverse (seen_chain view.seat.looks view.seat.marks v) in
       Contains-append_left (label_row view.global v ++ chain) (label_row view.own v) e (Contains-append_left (label_row view.global v) chain e there)
@@ -46,7 +45,7 @@ module _ (at : List ℕ) where
       entry d = record { pos = p; dist = d }
 
       Stays : Entry → Type 0
-      Stays e = ¬ IsNeedless at [] view.global v e
+      Stays e = ¬ IsNeedless at view.global v e
 
   -- none, and trees after others
   pub StayUncovered-none : (global : List (List Entry)) (before : ℕ → List Entry) → StayUncovered at global before before
@@ -58,4 +57,4 @@ module _ (at : List ℕ) where
   -- all that was put, where nothing was put before
   pub AreUncovered-from_nothing : (global : List (List Entry)) (before after entries : ℕ → List Entry) → StayUncovered at global before after → ((v : ℕ) → IsNode (length at) v → before v ≡ []) → ((v : ℕ) → after v ≡ entries v) → (v : ℕ) → IsNode (length at) v → AreUncovered at global v (entries v)
   AreUncovered-from_nothing global before after entries stay empty same v node =
-      subst (AreUncovered at global v) (same v) (stay v node (subst (AreUncovered at global v) (sym (empty v node)) (All-nil (λ e. ¬ IsNeedless at [] global v e))))
+      subst (AreUncovered at global v) (same v) (stay v node (subst (AreUncovered at global v) (sym (empty v node)) (All-nil (λ e. ¬ IsNeedless at global v e))))

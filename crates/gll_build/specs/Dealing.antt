@@ -2,8 +2,8 @@
 use Rattle.std.specs.Prelude.{◌≡◌, ℕ, ◌<◌, ◌==◌, ◌&&◌, List, Some, All, filter, length, map, nat_lt, slice_get}
 use Rattle.walk_laws.specs.declared.entry.Entry.{Entry}
 use Rattle.walk_laws.specs.Ranking.{position_of}
-use Rattle.hub_index.specs.declared.entry_sink.NodeEntry.{NodeEntry}
-use Rattle.hub_index.specs.Sunk.{entries_of_node, entry_of}
+use Rattle.hub_index.specs.declared.node_entry.NodeEntry.{NodeEntry}
+use Rattle.hub_index.specs.NodeEntries.{entries_of_node, entry_of}
 use Rattle.hub_index.specs.Stripes.{stripe_number, stripe_place}
 use Rattle.label_clean.specs.declared.hub_rows.HubEntry.{HubEntry}
 use Rattle.label_clean.specs.declared.runs.RunList.{RunList}

@@ -3,9 +3,9 @@ use Rattle.std.specs.Prelude.{◌≡◌, ℕ, ◌+◌, ◌<◌, ◌≤◌, List,
 use Rattle.std.specs.List.{filter_map}
 use Rattle.std.specs.declared.alloc.AllocError.{AllocError}
 use Rattle.walk_laws.specs.declared.graph.Edge.{Edge}
-use Rattle.hub_index.specs.declared.entry_sink.NodeEntry.{NodeEntry}
+use Rattle.hub_index.specs.declared.node_entry.NodeEntry.{NodeEntry}
 use Rattle.hub_index.specs.Stripes.{node_at, stripe_count, stripe_size}
-use Rattle.hub_index.specs.Sunk.{entries_of_node}
+use Rattle.hub_index.specs.NodeEntries.{entries_of_node}
 use Rattle.hub_index.specs.Views.{IsNode}
 use Rattle.label_clean.specs.declared.hub_rows.HubEntry.{HubEntry}
 use Rattle.label_clean.specs.declared.runs.RunList.{RunList}

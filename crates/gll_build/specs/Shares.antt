@@ -5,9 +5,9 @@ use Rattle.walk_laws.specs.declared.graph.Edge.{Edge}
 use Rattle.walk_laws.specs.declared.entry.Entry.{Entry}
 use Rattle.walk_laws.specs.Joined.{Joined}
 use Rattle.walk_laws.specs.Labelling.{EntryFits, IsHubEntry}
-use Rattle.hub_index.specs.declared.entry_sink.NodeEntry.{NodeEntry}
+use Rattle.hub_index.specs.declared.node_entry.NodeEntry.{NodeEntry}
 use Rattle.hub_index.specs.PlainRows.{IsGathered}
-use Rattle.hub_index.specs.Sunk.{entries_of_node}
+use Rattle.hub_index.specs.NodeEntries.{entries_of_node}
 use Rattle.hub_index.specs.Views.{IsNode}
 use Rattle.root_claims.specs.Seats.{Claimed, ClaimsId, IsSeatOf as IsClaimSeatOf}
 use Rattle.label_pool.specs.Seats.{PoolId, IsSeatOf, Seated}
@@ -58,7 +58,7 @@ pub record IsSoundGround (ground : Ground) : Type 0 where
 
 -- the global rows of the hub of each entry and of the node v cover none
 abbrev pub AreUncovered : List ℕ → List (List Entry) → ℕ → List Entry → Type 0
-AreUncovered at global v entries = All (λ e. ¬ IsNeedless at [] global v e) entries
+AreUncovered at global v entries = All (λ e. ¬ IsNeedless at global v e) entries
 
 -- where they cover nothing that was put before, they cover nothing that was put by then
 abbrev pub StayUncovered : List ℕ → List (List Entry) → (ℕ → List Entry) → (ℕ → List Entry) → Type 0

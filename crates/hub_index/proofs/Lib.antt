@@ -7,8 +7,6 @@ pub mod RowsGathered
 pub mod SquareEntries
 pub mod TouchedPositions
 pub mod GatheredRows
-pub mod Parts
-pub mod PartsOfLabellings
 pub mod NarrowEntries
 pub mod PartedRows
 pub mod LentRows

@@ -1,6 +1,6 @@
 pub mod HubIndex
 pub mod WellFormed
-pub mod Sunk
+pub mod NodeEntries
 pub mod Laws
 pub mod RootDistances
 pub mod Touched

@@ -1,5 +1,4 @@
 //! A walk along a row from its last entry on: first the entries in full room, then those in half the room.
-ghost use Rattle.std.specs.Prelude.{◌≡◌};
 ghost use Rattle.std.specs.Iterator.{YieldsFirst, item_count};
 
 use crate::narrow_row::NarrowEntry;
@@ -7,7 +6,7 @@ use std::marker::Model;
 use walk_laws::Entry;
 
 /// The entries of a row, from the last one on. Contracts see the list of those that are left.
-#[derive(Debug, Drop)]
+#[derive(Drop)]
 pub struct FromLast<'a> {
     pub(crate) narrow: &'a [NarrowEntry],
     pub(crate) wide: &'a [Entry],

@@ -12,7 +12,7 @@ use walk_laws::Entry;
 
 /// The rows of an index and its ranking, however the rows are stored: each has two parts, entries that take half the room and
 /// after them entries in full room. Contracts see the order of the nodes and the rows.
-#[derive(Debug, Drop)]
+#[derive(Drop)]
 pub struct IndexRows<'a> {
     pub(crate) ranking: &'a Ranking,
     /// The first part of each node's row, or nothing where all rows are in full room.

@@ -1,14 +1,8 @@
-//! The laws of rows. Each function does nothing: its contract is the law, over every graph.
-ghost use Rattle.hub_index.specs.Laws.{TheLabellingIsWellFormed, TheGatheredAreThePart};
+//! The law of rows. The function does nothing: its contract is the law, over every graph.
+ghost use Rattle.hub_index.specs.Laws.{TheLabellingIsWellFormed};
 
 /// The canonical hub labelling of a graph is well formed: positions rise, a node's own entry is the last of its row, and
 /// every other distance is at least 1 and below 2^62.
 pub fn the_labelling_is_well_formed()
     ensures { TheLabellingIsWellFormed }
-{}
-
-/// Entries in any order that are those of the hubs at some positions, none twice, are gathered to that part of the
-/// canonical hub labelling.
-pub fn the_gathered_are_the_part()
-    ensures { TheGatheredAreThePart }
 {}

@@ -5,25 +5,24 @@
 //! the nodes are dealt to stripes, each of them split rows of its own that one worker may write, and [`StripedRows`] are the
 //! rows of all stripes, lent as one table. A [`RootTable`] has the least distances of a row by position, by which entries of
 //! another row are seen to cover. A [`RowView`] is what one worker sees of rows while it grows trees, [`PlainRows`] being
-//! that of one thread over split rows, and a [`Row`] is one row, to which entries are offered. An [`EntrySink`] takes what
-//! one worker puts, in any order, and [`gather`] makes rows of what many put. An [`Index`] is a ranking with its rows, and
-//! keeps that they are well formed; so is a [`SplitIndex`], over split rows, and [`IndexRows`] are the rows of either, lent.
-//! `laws` has the law that canonical hub labellings are well formed.
+//! that of one thread over split rows, and a [`Row`] is one row, to which entries are offered. A [`NodeEntry`] is an entry with
+//! the node to whose row it belongs. An [`Index`] is a ranking with its rows, and keeps that they are well formed; so is a
+//! [`SplitIndex`], over split rows, and [`IndexRows`] are the rows of either, lent. `laws` has the law that canonical hub
+//! labellings are well formed.
 //! It stands on walk_laws (`Entry`, `label_row`) and rank_table (`Ranking`). Its callers' clauses use `specs/HubIndex`
 //! (`HubIndex`, `with_entry`), `specs/WellFormed` (`IsWellFormed`, `IsWellFormedRow`, `own_entry`), `specs/RootDistances`
 //! (`root_distance`, `noted`, `IsCover`, `HoldsRow`), `specs/Views` (`IsNode`, `IsFound`, `IsFoundOnward`, `IsAnswerOf`,
-//! `with_put`), `specs/NarrowRows` (`row_of_parts`, `rows_of_parts`), `specs/Sunk` (`sunk_at`, `entries_of_node`),
+//! `with_put`), `specs/NarrowRows` (`row_of_parts`, `rows_of_parts`), `specs/NodeEntries` (`entries_of_node`, `IsGatheredRow`),
 //! `specs/PlainRows` (`IsGathered`) and `specs/Stripes` (`stripe_number`, `stripe_place`, `node_at`, `stripe_size`,
 //! `AreStripes`, `stripe_of`, `striped_rows`), of which `proofs/DealtNodes` and `proofs/RowsInStripes` have the laws.
 #![tactic(auto)]
 
-mod entry_sink;
 mod from_last;
-mod gathering;
 mod index;
 mod index_rows;
 pub mod laws;
 mod narrow_row;
+mod node_entry;
 mod plain_rows;
 mod root_table;
 mod row;
@@ -35,12 +34,11 @@ mod striped_rows;
 mod stripes;
 mod wide_rows;
 
-pub use entry_sink::{EntrySink, NodeEntry};
 pub use from_last::FromLast;
-pub use gathering::gather;
 pub use index::Index;
 pub use index_rows::IndexRows;
 pub use narrow_row::NarrowEntry;
+pub use node_entry::NodeEntry;
 pub use plain_rows::PlainRows;
 pub use root_table::{RootTable, covered};
 pub use row::Row;

@@ -9,7 +9,7 @@ use std::alloc::{AllocError, Global};
 use walk_laws::Entry;
 
 /// An entry whose distance is below 2^32, in half the room of an [`Entry`].
-#[derive(Clone, Copy, Debug)]
+#[derive(Clone, Copy)]
 pub struct NarrowEntry {
     pub pos: u32,
     pub dist: u32,

@@ -8,7 +8,7 @@ use std::marker::Model;
 use walk_laws::Entry;
 
 /// The row of a node. Contracts see the list of its entries.
-#[derive(Debug, Drop)]
+#[derive(Drop)]
 pub struct Row {
     pub entries: Vec<Entry>,
 }

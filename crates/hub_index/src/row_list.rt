@@ -1,11 +1,8 @@
 ghost use Rattle.std.specs.Prelude.{◌≡◌, ℕ, ◌+◌, ◌-◌, ◌^◌, ◌<◌, ◌≤◌, [], ◌++◌, length, map, replicate, slice_set, vec_len, IfOk, OnOk, OnErr};
 ghost use Rattle.walk_laws.specs.Labelling.{label_row};
 ghost use Rattle.hub_index.specs.HubIndex.{with_entry};
-ghost use Rattle.hub_index.specs.Sunk.{IsGatheredRow};
-ghost use Rattle.hub_index.specs.Views.{IsAnswerOf, with_put};
+ghost use Rattle.hub_index.specs.NodeEntries.{IsGatheredRow};
 
-use crate::root_table::RootTable;
-use crate::row_view::Offer;
 use std::alloc::{AllocError, Global};
 use std::marker::Model;
 use walk_laws::Entry;

@@ -10,7 +10,7 @@ use std::marker::Model;
 
 /// An index most of whose entries take half the room: a ranking of the nodes 1..n, and for each node its row. Contracts see the
 /// order of the nodes and the rows.
-#[derive(Debug, Drop)]
+#[derive(Drop)]
 pub struct SplitIndex {
     ranking: Ranking,
     rows: SplitRows,

@@ -28,7 +28,7 @@ const FIRST_ROOM: usize = 32;
 /// A row for each of the nodes 1..n: entries of 8 bytes, and from the first on whose distance is too great for that, entries
 /// of 16. The two parts of a row lie apart, since the second is nearly always empty; of rows that were made empty none is looked
 /// at before an entry is put there. Contracts see the list of the rows, node 1 first.
-#[derive(Debug, Drop)]
+#[derive(Drop)]
 pub struct SplitRows {
     narrow: Vec<Vec<NarrowEntry>>,
     wide: WideRows,
@@ -87,18 +87,6 @@ impl SplitRows {
             narrow: &self.narrow[v as usize - 1],
             wide: self.wide.row(v),
         }
-    }
-
-    /// The rows of a list, with most entries in half the room. The only error is that memory ran out.
-    pub fn of(alloc: Global, list: &RowList) -> Result<SplitRows, AllocError>
-        ensures { IfOk result (λ rows. rows ≡ list.now) }
-    {
-        let n = list.n();
-        let mut rows = SplitRows::new(alloc, n)?;
-        for k in 0..n {
-            rows.push_all(k + 1, list.row(k + 1))?;
-        }
-        Ok(rows)
     }
 
     /// The rows that a list has of the nodes of one stripe, each at its place there, with most entries in half the room. The

@@ -13,7 +13,7 @@ use walk_laws::Entry;
 
 /// The rows of the nodes 1..n that lie in stripes, as one table, to be looked at. Contracts see the list of the rows, node 1
 /// first.
-#[derive(Debug, Drop)]
+#[derive(Drop)]
 pub struct StripedRows<'a> {
     stripes: &'a [SplitRows],
     dealt: Stripes,
@@ -50,13 +50,6 @@ impl<'a> StripedRows<'a> {
             dealt: self.dealt,
             n: self.n,
         }
-    }
-
-    /// How many nodes there are.
-    pub fn n(&self) -> u32
-        ensures { result ≡ length self.now }
-    {
-        self.n
     }
 
     /// Notes the entries of the row of the node `v`, a number from 1, in the table, one after another. It takes no memory.

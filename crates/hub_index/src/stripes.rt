@@ -5,7 +5,7 @@ ghost use Rattle.hub_index.specs.Stripes.{stripe_count, stripe_number, stripe_pl
 /// How the nodes 1..n are cut in stripes of 2^shift nodes: with shift 2 the first stripe has the nodes 1 to 4, the second 5 to 8
 /// and so on, and the last one those that are left. The stripes count from 0, and the places in a stripe from 1. Where 2^shift is
 /// no less than n all nodes lie in one stripe, each at its own place.
-#[derive(Clone, Copy, Debug)]
+#[derive(Clone, Copy)]
 pub struct Stripes {
     pub shift: u32,
 }

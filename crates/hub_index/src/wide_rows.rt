@@ -1,5 +1,5 @@
 //! Rows that are nearly always all empty.
-ghost use Rattle.std.specs.Prelude.{◌≡◌, ◌-◌, ◌≤◌, [], length, map, replicate, slice_set, IfOk, OnOk, OnErr};
+ghost use Rattle.std.specs.Prelude.{◌≡◌, ◌-◌, ◌≤◌, [], length, replicate, slice_set, IfOk, OnOk, OnErr};
 ghost use Rattle.walk_laws.specs.Labelling.{label_row};
 ghost use Rattle.hub_index.specs.HubIndex.{with_entry};
 
@@ -10,7 +10,7 @@ use walk_laws::Entry;
 
 /// A row for each of the nodes 1..n. Of rows that were made empty none is looked at before an entry is put. Contracts see the
 /// list of the rows, node 1 first.
-#[derive(Debug, Drop)]
+#[derive(Drop)]
 pub struct WideRows {
     rows: RowList,
     /// Whether an entry was put in one of them.

@@ -1,8 +1,7 @@
--- In tables that hold every hub up to a position, exactly the hubs' entries are not needless.
-use Rattle.std.proofs.Common.{◌≡◌, ◌↔◌, ℕ, ◌+◌, ◌<◌, ◌≤◌, List, [], ◌++◌, Contains, length, map, refl, sym, ap, subst, ◌∙◌, inl, inr, arith}
+-- In rows that hold every hub up to a position, exactly the hubs' entries are not needless.
+use Rattle.std.proofs.Common.{◌≡◌, ◌↔◌, ℕ, ◌+◌, ◌<◌, ◌≤◌, List, [], All, Contains, length, refl, sym, ap, subst, ◌∙◌, inl, inr, arith}
 use Rattle.std.specs.Prelude.{Some, slice_get, Result, Ok, Err, IfOk}
-use Rattle.std.specs.List.Sorted.{IsStrictlyIncreasing}
-use Rattle.std.proofs.lemmas.List.Elements.{All-contains, Contains-append_left, Contains-append_right, Contains-append_cases}
+use Rattle.std.proofs.lemmas.List.Elements.{All-contains}
 use Rattle.std.proofs.lemmas.Option.{get_or_from_slice_get, slice_get_within, same_Some}
 use Rattle.walk_laws.specs.declared.graph.Edge.{Edge}
 use Rattle.walk_laws.specs.declared.entry.Entry.{Entry}
@@ -16,10 +15,10 @@ use Rattle.walk_laws.proofs.Positions.{position-get_or, slice_get-at_position}
 use Rattle.walk_laws.proofs.JoinedEdges.{Joined-sym}
 use Rattle.walk_laws.proofs.JoinedDecisions.{IsCanonical-or_joined_cover}
 use Rattle.walk_laws.proofs.CanonicalHubs.{IsCanonical-no_cover}
-use Rattle.label_clean.specs.RawRows.{both_rows}
+use Rattle.label_clean.specs.RawRows.{HasEachOnce, both_rows}
 use Rattle.label_clean.specs.Needless.{IsNeedless, IsSurvivingRow}
 use Rattle.label_clean.specs.Below.{HoldsBelow, IsRowBelow, IsChlBelow}
-use Rattle.label_clean.proofs.Covering.{pos_of, entry, covered, IsCovered-more}
+use Rattle.label_clean.proofs.Covering.{entry, covered, IsCovered-more}
 use Rattle.label_clean.proofs.RowFacts.{same_entry}
 
 module _ (at : List ℕ) (ranking : IsRanking at) where
@@ -41,30 +40,30 @@ module _ (at : List ℕ) (ranking : IsRanking at) where
       let higher : RanksAbove at to_hub.walk.0 h = omega (arith, hub_place x.pos to_hub.walk.0 to_hub.walk.1, hub_place e.pos h hub_is, above) in
       IsCanonical-no_cover (Joined edges) at (Joined-sym edges) h v to_hub.walk.0 e.dist x.dist y.dist is_hub higher to_hub.walk.2 on_to_node short
 
-  -- tables with more entries make as much needless
-  pub IsNeedless-more : (global raw others later : List (List Entry)) → ((v : ℕ) → 1 ≤ v → v ≤ length at → (e : Entry) → Contains (both_rows global raw v) e → Contains (both_rows others later v) e) → (v : ℕ) → 1 ≤ v → v ≤ length at → (e : Entry) → IsNeedless at global raw v e → IsNeedless at others later v e
-  IsNeedless-more global raw others later more v from_one up_to_n e n =
+  -- rows with more entries make as much needless
+  IsNeedless-more : (rows others : List (List Entry)) → ((v : ℕ) → 1 ≤ v → v ≤ length at → (e : Entry) → Contains (label_row rows v) e → Contains (label_row others v) e) → (v : ℕ) → 1 ≤ v → v ≤ length at → (e : Entry) → IsNeedless at rows v e → IsNeedless at others v e
+  IsNeedless-more rows others more v from_one up_to_n e n =
       let node = hub_node e.pos n.hub n.hub_is in
       record {
         hub = n.hub;
         hub_is = n.hub_is;
-        covered = IsCovered-more (both_rows global raw n.hub) (both_rows global raw v) (both_rows others later n.hub) (both_rows others later v) e.pos e.dist (more n.hub node.0 node.1) (more v from_one up_to_n) n.covered;
+        covered = IsCovered-more (label_row rows n.hub) (label_row rows v) (label_row others n.hub) (label_row others v) e.pos e.dist (more n.hub node.0 node.1) (more v from_one up_to_n) n.covered;
       }
 
-  module _ (edges : List Edge) (c : ℕ) (global raw : List (List Entry)) (holds : HoldsBelow edges at c global raw) (v : ℕ) (from_one : 1 ≤ v) (up_to_n : v ≤ length at) where
+  module _ (edges : List Edge) (c : ℕ) (rows : List (List Entry)) (holds : HoldsBelow edges at c [] rows) (v : ℕ) (from_one : 1 ≤ v) (up_to_n : v ≤ length at) where
     -- no hub's entry is needless
-    pub hub_stays : (e : Entry) → IsHubEntry (Joined edges) at v e → IsNeedless at global raw v e → ⊥
+    hub_stays : (e : Entry) → IsHubEntry (Joined edges) at v e → IsNeedless at rows v e → ⊥
     hub_stays e hub n =
         let h = n.hub in
         let q = n.covered.position in
         let a = n.covered.shared.before in
         let b = n.covered.shared.after in
         let node = hub_node e.pos h n.hub_is in
-        let to_hub = All-contains (EntryFits (Joined edges) at h) (both_rows global raw h) (entry q a) (holds.fit h node.0 node.1) n.covered.shared.in_first in
-        let to_node = All-contains (EntryFits (Joined edges) at v) (both_rows global raw v) (entry q b) (holds.fit v from_one up_to_n) n.covered.shared.in_second in
+        let to_hub = All-contains (EntryFits (Joined edges) at h) (label_row rows h) (entry q a) (holds.fit h node.0 node.1) n.covered.shared.in_first in
+        let to_node = All-contains (EntryFits (Joined edges) at v) (label_row rows v) (entry q b) (holds.fit v from_one up_to_n) n.covered.shared.in_second in
         hub_uncovered edges h v e (entry q a) (entry q b) n.hub_is hub to_hub to_node refl n.covered.above (omega (arith, n.covered.shared.long, n.covered.short))
 
-    cover_stands : (e : Entry) (h : ℕ) → slice_get at e.pos ≡ Some h → e.pos < c → CoveringHub (Joined edges) at h v e.dist → IsNeedless at global raw v e
+    cover_stands : (e : Entry) (h : ℕ) → slice_get at e.pos ≡ Some h → e.pos < c → CoveringHub (Joined edges) at h v e.dist → IsNeedless at rows v e
     cover_stands e h is below cover =
         let p = position_of at cover.hub in
         let node = hub_node e.pos h is in
@@ -73,75 +72,63 @@ module _ (at : List ℕ) (ranking : IsRanking at) where
         record {
           hub = h;
           hub_is = is;
-          covered = covered (both_rows global raw h) (both_rows global raw v) e.pos e.dist p cover.before cover.after above
+          covered = covered (label_row rows h) (label_row rows v) e.pos e.dist p cover.before cover.after above
               (holds.hubs h node.0 node.1 (entry p cover.before) (cover.hub, stands, cover.to_start) (omega (arith, above, below)))
               (holds.hubs v from_one up_to_n (entry p cover.after) (cover.hub, stands, cover.to_end) (omega (arith, above, below))) cover.short;
         }
 
     -- and each other entry is
-    pub others_go : (e : Entry) → Contains (both_rows global raw v) e → (IsNeedless at global raw v e → ⊥) → IsHubEntry (Joined edges) at v e
+    others_go : (e : Entry) → Contains (label_row rows v) e → (IsNeedless at rows v e → ⊥) → IsHubEntry (Joined edges) at v e
     others_go e there kept =
-        let fits : EntryFits (Joined edges) at v e = All-contains (EntryFits (Joined edges) at v) (both_rows global raw v) e (holds.fit v from_one up_to_n) there in
-        let below : e.pos < c = All-contains (λ (x : Entry). x.pos < c) (both_rows global raw v) e (holds.below v from_one up_to_n) there in
+        let fits : EntryFits (Joined edges) at v e = All-contains (EntryFits (Joined edges) at v) (label_row rows v) e (holds.fit v from_one up_to_n) there in
+        let below : e.pos < c = All-contains (λ (x : Entry). x.pos < c) (label_row rows v) e (holds.below v from_one up_to_n) there in
         let h = fits.walk.0 in
         let node = hub_node e.pos h fits.walk.1 in
         elim (IsCanonical-or_joined_cover edges holds.weights at ranking h v e.dist node.0 node.1 fits.walk.2) [
           | inr cover ↦ absurd (kept (cover_stands e h fits.walk.1 below cover))
           | inl hub ↦
               let stands = holds.hubs v from_one up_to_n (entry e.pos hub.0) (h, fits.walk.1, hub.2) below in
-              let same : entry e.pos hub.0 ≡ e = same_entry (both_rows global raw v) (entry e.pos hub.0) e (holds.once v from_one up_to_n) stands there refl in
+              let same : entry e.pos hub.0 ≡ e = same_entry (label_row rows v) (entry e.pos hub.0) e (holds.once v from_one up_to_n) stands there refl in
               subst (IsHubEntry (Joined edges) at v) same (h, fits.walk.1, hub.2)
         ]
 
-    -- so the entries of both tables that are not needless are the hubs
-    pub IsRowBelow-from_kept : (row : List Entry) → IsStrictlyIncreasing (map pos_of row) → ((e : Entry) → Contains row e ↔ (Contains (both_rows global raw v) e × (IsNeedless at global raw v e → ⊥))) → IsRowBelow edges at c v row
-    IsRowBelow-from_kept row rising each = record {
-      rising = rising;
+    -- so the entries that are not needless are the hubs
+    IsRowBelow-surviving : (row : List Entry) → IsSurvivingRow at rows v row → IsRowBelow edges at c v row
+    IsRowBelow-surviving row is = record {
+      rising = is.rising;
       each = λ e. (
-        λ here. let kept = (each e).0 here in (others_go e kept.0 kept.1, All-contains (λ (x : Entry). x.pos < c) (both_rows global raw v) e (holds.below v from_one up_to_n) kept.0),
-        λ hub. (each e).1 (holds.hubs v from_one up_to_n e hub.0 hub.1, hub_stays e hub.0),
+        λ here. let kept = (is.each e).0 here in (others_go e kept.0 kept.1, All-contains (λ (x : Entry). x.pos < c) (label_row rows v) e (holds.below v from_one up_to_n) kept.0),
+        λ hub. (is.each e).1 (holds.hubs v from_one up_to_n e hub.0 hub.1, hub_stays e hub.0),
       );
     }
 
--- rows with the same entries lose the same
-module _ (at : List ℕ) (ranking : IsRanking at) (global near raw : List (List Entry)) (same : (v : ℕ) → 1 ≤ v → v ≤ length at → (e : Entry) → Contains (label_row near v) e ↔ Contains (label_row raw v) e) where
-  beside : (xs ys zs : List Entry) → ((e : Entry) → Contains ys e → Contains zs e) → (e : Entry) → Contains (xs ++ ys) e → Contains (xs ++ zs) e
-  beside xs ys zs more e h = elim (Contains-append_cases xs ys e h) [ inl here ↦ Contains-append_left xs zs e here | inr there ↦ Contains-append_right xs zs e (more e there) ]
-
-  pub IsSurvivingRow-same : (v : ℕ) (row : List Entry) → 1 ≤ v → v ≤ length at → IsSurvivingRow at global near v row → IsSurvivingRow at global raw v row
-  IsSurvivingRow-same v row from_one up_to_n is = record {
-    rising = is.rising;
-    each = λ e. (
-      λ here. let known = (is.each e).0 here in ((same v from_one up_to_n e).0 known.0, λ needless. known.1 (IsNeedless-more at ranking global raw global near (λ x low high. beside (label_row global x) (label_row raw x) (label_row near x) (λ f. (same x low high f).1)) v from_one up_to_n e needless)),
-      λ kept. (is.each e).1 ((same v from_one up_to_n e).1 kept.0, λ needless. kept.1 (IsNeedless-more at ranking global near global raw (λ x low high. beside (label_row global x) (label_row near x) (label_row raw x) (λ f. (same x low high f).0)) v from_one up_to_n e needless)),
-    );
-  }
-
--- where all rows are put together, what is kept of them is the labelling up to the position
-module _ (at : List ℕ) (ranking : IsRanking at) (global raw all : List (List Entry)) (is : (v : ℕ) → 1 ≤ v → v ≤ length at → label_row all v ≡ both_rows global raw v) where
-  there : (v : ℕ) → 1 ≤ v → v ≤ length at → (e : Entry) → Contains (both_rows [] all v) e → Contains (both_rows global raw v) e
-  there v from_one up_to_n e h = subst (λ row. Contains row e) (is v from_one up_to_n) h
-
-  back : (v : ℕ) → 1 ≤ v → v ≤ length at → (e : Entry) → Contains (both_rows global raw v) e → Contains (both_rows [] all v) e
-  back v from_one up_to_n e h = subst (λ row. Contains row e) (sym (is v from_one up_to_n)) h
-
-  pub IsChlBelow-from_surviving : (rows : List (List Entry)) → length rows ≡ length at → ((v : ℕ) → 1 ≤ v → v ≤ length at → IsSurvivingRow at [] all v (label_row rows v)) → (edges : List Edge) (c : ℕ) → HoldsBelow edges at c global raw → IsChlBelow edges at c rows
-  IsChlBelow-from_surviving rows size survive edges c holds = record {
+  -- what is kept of rows that hold every hub up to a position is the labelling up to it
+  pub IsChlBelow-surviving : (edges : List Edge) (c : ℕ) (raw rows : List (List Entry)) → length rows ≡ length at → ((v : ℕ) → 1 ≤ v → v ≤ length at → IsSurvivingRow at raw v (label_row rows v)) → HoldsBelow edges at c [] raw → IsChlBelow edges at c rows
+  IsChlBelow-surviving edges c raw rows size survive holds = record {
     size = size;
-    row = λ v from_one up_to_n.
-        let row = survive v from_one up_to_n in
-        IsRowBelow-from_kept at ranking edges c global raw holds v from_one up_to_n (label_row rows v) row.rising (λ e. (
-          λ here. let known = (row.each e).0 here in (there v from_one up_to_n e known.0, λ needless. known.1 (IsNeedless-more at ranking global raw [] all back v from_one up_to_n e needless)),
-          λ kept. (row.each e).1 (back v from_one up_to_n e kept.0, λ needless. kept.1 (IsNeedless-more at ranking [] all global raw there v from_one up_to_n e needless)),
-        ));
+    row = λ v from_one up_to_n. IsRowBelow-surviving edges c raw holds v from_one up_to_n (label_row rows v) (survive v from_one up_to_n);
   }
 
--- what survives are the hubs of the raw rows
-pub surviving_hubs : (at : List ℕ) (ranking : IsRanking at) (edges : List Edge) (c : ℕ) (global raw : List (List Entry)) → HoldsBelow edges at c global raw → (v : ℕ) → 1 ≤ v → v ≤ length at → (row : List Entry) → IsSurvivingRow at global raw v row → (e : Entry) → Contains row e ↔ (Contains (label_row raw v) e × IsHubEntry (Joined edges) at v e)
-surviving_hubs at ranking edges c global raw holds v from_one up_to_n row is e = (
-  λ here. let known = (is.each e).0 here in (known.0, others_go at ranking edges c global raw holds v from_one up_to_n e (Contains-append_right (label_row global v) (label_row raw v) e known.0) known.1),
-  λ hub. (is.each e).1 (hub.0, hub_stays at ranking edges c global raw holds v from_one up_to_n e hub.1),
-)
+  -- rows with the same entries lose the same
+  module _ (near raw : List (List Entry)) (same : (v : ℕ) → 1 ≤ v → v ≤ length at → (e : Entry) → Contains (label_row near v) e ↔ Contains (label_row raw v) e) where
+    pub IsSurvivingRow-same : (v : ℕ) (row : List Entry) → 1 ≤ v → v ≤ length at → IsSurvivingRow at near v row → IsSurvivingRow at raw v row
+    IsSurvivingRow-same v row from_one up_to_n is = record {
+      rising = is.rising;
+      each = λ e. (
+        λ here. let known = (is.each e).0 here in ((same v from_one up_to_n e).0 known.0, λ needless. known.1 (IsNeedless-more raw near (λ x low high f. (same x low high f).1) v from_one up_to_n e needless)),
+        λ kept. (is.each e).1 ((same v from_one up_to_n e).1 kept.0, λ needless. kept.1 (IsNeedless-more near raw (λ x low high f. (same x low high f).0) v from_one up_to_n e needless)),
+      );
+    }
+
+-- two tables hold what they hold together
+pub HoldsBelow-together : (edges : List Edge) (at : List ℕ) (c : ℕ) (global raw all : List (List Entry)) → ((v : ℕ) → 1 ≤ v → v ≤ length at → label_row all v ≡ both_rows global raw v) → HoldsBelow edges at c global raw → HoldsBelow edges at c [] all
+HoldsBelow-together edges at c global raw all is holds = record {
+  weights = holds.weights;
+  fit = λ v from_one up_to_n. subst (All (EntryFits (Joined edges) at v)) (sym (is v from_one up_to_n)) (holds.fit v from_one up_to_n);
+  below = λ v from_one up_to_n. subst (All (λ (e : Entry). e.pos < c)) (sym (is v from_one up_to_n)) (holds.below v from_one up_to_n);
+  once = λ v from_one up_to_n. subst HasEachOnce (sym (is v from_one up_to_n)) (holds.once v from_one up_to_n);
+  hubs = λ v from_one up_to_n e hub low. subst (λ row. Contains row e) (sym (is v from_one up_to_n)) (holds.hubs v from_one up_to_n e hub low);
+}
 
 pub both_ok : {T E : Type 0} (r : Result T E) (P Q S : T → Type 0) → IfOk r P → IfOk r Q → ((x : T) → P x → Q x → S x) → IfOk r S
 both_ok (Ok x) P Q S p q f = f x p q

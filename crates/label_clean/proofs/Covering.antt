@@ -1,12 +1,10 @@
 -- Entries that rows cover, and what a table of a row tells of them.
-use Rattle.std.proofs.Common.{◌≡◌, ◌⊎◌, inl, inr, true, false, ℕ, ◌+◌, ◌<◌, ◌≤◌, Option, Some, None, List, ◌++◌, Contains, length, sym, subst, ◌∙◌, arith}
-use Rattle.std.specs.Prelude.{IfSome, IfNone, slice_get}
-use Rattle.std.specs.Option.{is_some}
-use Rattle.std.proofs.lemmas.List.Elements.{Contains-append_left, Contains-append_right, Contains-append_cases}
-use Rattle.std.proofs.lemmas.Option.{get_or_from_slice_get, slice_get_within, same_Some}
+use Rattle.std.proofs.Common.{◌≡◌, ℕ, ◌+◌, ◌<◌, ◌≤◌, Option, Some, List, Contains, length, sym, subst, ◌∙◌, arith}
+use Rattle.std.specs.Prelude.{slice_get}
+use Rattle.std.proofs.lemmas.Option.{same_Some}
 use Rattle.walk_laws.specs.declared.entry.Entry.{Entry}
+use Rattle.walk_laws.specs.Labelling.{label_row}
 use Rattle.hub_index.specs.RootDistances.{IsCover}
-use Rattle.label_clean.specs.RawRows.{both_rows}
 use Rattle.label_clean.specs.Needless.{IsCovered, IsNeedless}
 use Rattle.label_clean.specs.Tested.{HoldsLeast, HasCover}
 
@@ -49,38 +47,16 @@ module _ (table : List (Option ℕ)) (first second : List Entry) (p d : ℕ) (he
         record { above = c.above; root = least.0; held = least.1; short = omega (arith, least.2, c.shared.long, c.short) },
       )
 
--- a cover in one of two parts of a row
-module _ (table : List (Option ℕ)) (p d : ℕ) (xs ys : List Entry) where
-  pub HasCover-left : HasCover table p d xs → HasCover table p d (xs ++ ys)
-  HasCover-left (e, there, cover) = (e, Contains-append_left xs ys e there, cover)
-
-  pub HasCover-right : HasCover table p d ys → HasCover table p d (xs ++ ys)
-  HasCover-right (e, there, cover) = (e, Contains-append_right xs ys e there, cover)
-
-  pub HasCover-parts : HasCover table p d (xs ++ ys) → HasCover table p d xs ⊎ HasCover table p d ys
-  HasCover-parts (e, there, cover) = elim (Contains-append_cases xs ys e there) [ inl here ↦ inl (e, here, cover) | inr later ↦ inr (e, later, cover) ]
-
 -- an entry is needless where an entry of its hub's row covers it by way of the table of its node's row
-module _ (at : List ℕ) (global near : List (List Entry)) (v : ℕ) (e : Entry) (table : List (Option ℕ)) (held : HoldsLeast table (both_rows global near v)) (hub : ℕ) (hub_is : slice_get at e.pos ≡ Some hub) where
-  pub IsNeedless-from_cover : HasCover table e.pos e.dist (both_rows global near hub) → IsNeedless at global near v e
+module _ (at : List ℕ) (near : List (List Entry)) (v : ℕ) (e : Entry) (table : List (Option ℕ)) (held : HoldsLeast table (label_row near v)) (hub : ℕ) (hub_is : slice_get at e.pos ≡ Some hub) where
+  pub IsNeedless-from_cover : HasCover table e.pos e.dist (label_row near hub) → IsNeedless at near v e
   IsNeedless-from_cover (other, there, cover) = record {
     hub = hub;
     hub_is = hub_is;
-    covered = IsCovered-from_cover table (both_rows global near hub) (both_rows global near v) e.pos e.dist held other there cover;
+    covered = IsCovered-from_cover table (label_row near hub) (label_row near v) e.pos e.dist held other there cover;
   }
 
-  pub HasCover-from_needless : e.pos ≤ length table → IsNeedless at global near v e → HasCover table e.pos e.dist (both_rows global near hub)
+  pub HasCover-from_needless : e.pos ≤ length table → IsNeedless at near v e → HasCover table e.pos e.dist (label_row near hub)
   HasCover-from_needless within n =
-      subst (λ h. HasCover table e.pos e.dist (both_rows global near h)) (same_Some n.hub hub (sym n.hub_is ∙ hub_is))
-      (HasCover-from_covered table (both_rows global near n.hub) (both_rows global near v) e.pos e.dist held within n.covered)
-
-pub one_there : {X : Type 0} (o : Option X) (P : X → Type 0) → is_some o ≡ true → IfSome o P → (x : X) × P x
-one_there None P is h = absurd cc
-one_there (Some x) P is h = (x, h)
-
-pub none_there : {X : Type 0} (o : Option X) (P : Type 0) → is_some o ≡ false → IfNone o P → P
-none_there None P is h = h
-none_there (Some x) P is h = absurd cc
-
-pub Contains-from_slice_get : (row : List Entry) (k : ℕ) (e : Entry) → slice_get row k ≡ Some e → Contains row e
-Contains-from_slice_get row k e is = (k, slice_get_within row k e is, get_or_from_slice_get row k e e is)
+      subst (λ h. HasCover table e.pos e.dist (label_row near h)) (same_Some n.hub hub (sym n.hub_is ∙ hub_is))
+      (HasCover-from_covered table (label_row near n.hub) (label_row near v) e.pos e.dist held within n.covered)

@@ -7,7 +7,7 @@ use Rattle.std.proofs.lemmas.List.Sorted.{Contains-permutation, IsPermutation-sy
 use Rattle.walk_laws.specs.declared.entry.Entry.{Entry}
 use Rattle.walk_laws.proofs.Members.{Contains-first, Contains-next, Contains-cons_cases, Contains-empty}
 use Rattle.label_clean.specs.declared.hub_rows.HubEntry.{HubEntry}
-use Rattle.hub_index.specs.Sunk.{IsGatheredRow}
+use Rattle.hub_index.specs.NodeEntries.{IsGatheredRow}
 use Rattle.label_clean.specs.HubRows.{AreGathered, entries_of_hub}
 use Rattle.label_clean.proofs.RowFacts.{IsSortedRow-from_sort}
 use Rattle.label_clean.proofs.RowItems.{items_of}

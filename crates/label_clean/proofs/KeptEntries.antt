@@ -3,14 +3,12 @@ use Rattle.std.proofs.Common.{◌≡◌, ◌↔◌, ℕ, ◌+◌, ◌<◌, ◌�
 use Rattle.std.specs.List.Sorted.{IsStrictlyIncreasing}
 use Rattle.std.proofs.Math.Seq.{take-suc}
 use Rattle.std.proofs.lemmas.List.{take_all, length-map, length-take, get_or-map, get_or-take, map-append}
-use Rattle.std.proofs.lemmas.List.Elements.{Contains-append_left, Contains-append_right, Contains-append_cases, Contains-get_or}
-use Rattle.std.proofs.lemmas.List.Kept.{AllPairs-from_increasing}
+use Rattle.std.proofs.lemmas.List.Elements.{All-append, All-contains_itself, All-map, All-weaker, Contains-append_left, Contains-append_right, Contains-append_cases, Contains-get_or}
+use Rattle.std.proofs.lemmas.List.Kept.{AllPairs-from_increasing, AllPairs-cons}
 use Rattle.std.proofs.lemmas.List.Quantifiers.{all_pairs_push}
 use Rattle.walk_laws.specs.declared.entry.Entry.{Entry}
-use Rattle.walk_laws.specs.Labelling.{label_row}
-use Rattle.walk_laws.proofs.LabelRows.{Rises}
-use Rattle.walk_laws.proofs.Members.{Contains-first, Contains-cons_cases, Contains-empty}
-use Rattle.label_clean.specs.Needless.{IsSurvivingRow}
+use Rattle.walk_laws.proofs.LabelRows.{Rises, Rises-first, Rises-rest}
+use Rattle.walk_laws.proofs.Members.{Contains-first, Contains-next, Contains-cons_cases, Contains-empty}
 use Rattle.label_clean.proofs.Covering.{pos_of}
 
 -- the row without the entries of one kind
@@ -28,6 +26,17 @@ Rises-push xs x up below =
     far k d lt =
         let within : k < length xs = omega (arith, length-map xs pos_of) in
         omega (arith, get_or-map pos_of xs k x d within, below (get_or xs k x) (Contains-get_or xs k x within))
+
+-- two rising rows, one after the other
+pub Rises-append : (xs ys : List Entry) → Rises pos_of xs → Rises pos_of ys → ((e f : Entry) → Contains xs e → Contains ys f → e.pos < f.pos) → Rises pos_of (xs ++ ys)
+Rises-append [] ys up more below = more
+Rises-append (x ∷ xs) ys up more below =
+    AllPairs-cons (λ a b. a < b) x.pos (map pos_of (xs ++ ys))
+    (All-map (λ q. x.pos < q) pos_of (xs ++ ys)
+    (All-append (λ (e : Entry). x.pos < e.pos) xs ys
+    (All-weaker (Contains xs) (λ (e : Entry). x.pos < e.pos) (λ e h. Rises-first pos_of x e xs up h) xs (All-contains_itself xs))
+    (All-weaker (Contains ys) (λ (e : Entry). x.pos < e.pos) (λ e h. below x e (Contains-first x xs) h) ys (All-contains_itself ys))))
+    (Rises-append xs ys (Rises-rest pos_of x xs up) more (λ e f h k. below e f (Contains-next x e xs h) k))
 
 -- in a rising row the entries before a place are below the one that stands there
 before_place : (row : List Entry) (i : ℕ) (d e : Entry) → IsStrictlyIncreasing (map pos_of row) → i < length row → Contains (take i row) e → e.pos < (get_or row i d).pos
@@ -99,10 +108,3 @@ module _ (P : Entry → Type 0) where
 
   pub IsKept-rising : (row kept : List Entry) → IsKept P row kept → IsStrictlyIncreasing (map pos_of kept)
   IsKept-rising row kept all k within = all.rises k (k + 1) 0 (omega arith) within
-
--- of a row without entries none is kept
-pub IsSurvivingRow-none : (at : List ℕ) (global near : List (List Entry)) (v : ℕ) → length (label_row near v) ≡ 0 → IsSurvivingRow at global near v []
-IsSurvivingRow-none at global near v none = record {
-  rising = λ k within. absurd (omega (arith, within));
-  each = λ e. (λ h. absurd (Contains-empty e h), λ h. let within = h.0.1 in absurd (omega (arith, within, none)));
-}

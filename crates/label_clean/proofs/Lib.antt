@@ -1,10 +1,8 @@
 pub mod Covering
-pub mod NotedRows
 pub mod RowFacts
 pub mod NearRows
 pub mod Cleaned
 pub mod KeptEntries
-pub mod GoneOn
 pub mod RowItems
 pub mod KeptRows
 pub mod JoinedRows

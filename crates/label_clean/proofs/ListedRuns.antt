@@ -5,7 +5,7 @@ use Rattle.std.proofs.lemmas.Grind.{flat_map-append}
 use Rattle.std.proofs.lemmas.List.{append-nil, get_or-take, get_or-drop, length-take, length-drop}
 use Rattle.std.proofs.lemmas.List.Concat.{flat_map-cons}
 use Rattle.std.proofs.lemmas.List.Elements.{All-from_get_or}
-use Rattle.hub_index.specs.declared.entry_sink.NodeEntry.{NodeEntry}
+use Rattle.hub_index.specs.declared.node_entry.NodeEntry.{NodeEntry}
 use Rattle.label_clean.specs.declared.runs.Run.{Run}
 use Rattle.label_clean.specs.RootRuns.{IsRunIn, entries_of_run}
 

@@ -1,5 +1,5 @@
 -- Rows by rising distance.
-use Rattle.std.proofs.Common.{◌≡◌, ℕ, ◌<◌, inl, inr, Option, List, All, length, map, get_or, take, ap, ◌∙◌, eqb, arith}
+use Rattle.std.proofs.Common.{◌≡◌, ℕ, ◌<◌, ◌≤◌, inl, inr, Option, List, All, length, map, get_or, take, refl, ap, subst, ◌∙◌, eqb, arith}
 use Rattle.std.specs.List.Sorted.{IsPermutation, IsNonDecreasingBy}
 use Rattle.std.proofs.lemmas.Bool.{cases_lt}
 use Rattle.std.proofs.lemmas.List.{get_or-take, get_or_default, length-take}
@@ -7,11 +7,12 @@ use Rattle.std.proofs.lemmas.List.Elements.{All-contains}
 use Rattle.std.proofs.lemmas.List.Sorted.{IsPermutation-map, IsPermutation-sym, Contains-permutation}
 use Rattle.std.proofs.lemmas.Map.Keys.{IsDistinct-IsPermutation}
 use Rattle.walk_laws.specs.declared.entry.Entry.{Entry}
-use Rattle.hub_index.specs.RootDistances.{IsCover}
+use Rattle.walk_laws.specs.Labelling.{label_row}
+use Rattle.hub_index.specs.RootDistances.{IsCover, HoldsRow}
 use Rattle.label_clean.specs.RawRows.{HasEachOnce, IsRawRow}
-use Rattle.label_clean.specs.Tested.{IsNearRow, HasCover}
-use Rattle.label_clean.proofs.Covering.{pos_of}
-use Rattle.label_clean.proofs.RowFacts.{eqb_flips, All-each}
+use Rattle.label_clean.specs.Tested.{AreNearRows, IsNearRow, HasCover, HoldsLeast}
+use Rattle.label_clean.proofs.Covering.{entry, pos_of}
+use Rattle.label_clean.proofs.RowFacts.{eqb_flips, same_entry, All-each}
 
 abbrev pub dist_of : Entry → ℕ
 dist_of e = e.dist
@@ -39,3 +40,19 @@ no_cover_after table p d row i none nearing within far before (e, (k, k_within, 
       let same : (get_or row k none).dist ≡ e.dist = ap dist_of (get_or_default row k none e k_within ∙ is) in
       omega (arith, nearing i k none later k_within, same, far, cover.short)
 ]
+
+-- a table that was loaded with a row, which has one entry of each hub
+pub HoldsLeast-loaded : (n : ℕ) (near : List (List Entry)) (v : ℕ) (row : List Entry) (table : List (Option ℕ)) → AreNearRows n near → 1 ≤ v → v ≤ n → row ≡ label_row near v → HoldsRow table row → HoldsLeast table (label_row near v)
+HoldsLeast-loaded n near v row table are from_one up_to_n is held =
+    let loaded : HoldsRow table (label_row near v) = subst (HoldsRow table) is held in
+    record {
+      there = λ p d root. ((loaded p d).0 root).there;
+      least = λ e here inside. (
+        e.dist,
+        (loaded e.pos e.dist).1 (record {
+          there = here;
+          least = λ d other. let same : e.dist ≡ d = ap dist_of (same_entry (label_row near v) e (entry e.pos d) (are.raw v from_one up_to_n).once here other refl) in omega (arith, same);
+        }),
+        omega arith,
+      );
+    }

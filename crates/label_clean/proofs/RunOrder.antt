@@ -15,8 +15,8 @@ use Rattle.walk_laws.specs.Joined.{Joined}
 use Rattle.walk_laws.specs.Labelling.{EntryFits}
 use Rattle.walk_laws.proofs.LabelRows.{Rises}
 use Rattle.walk_laws.proofs.Members.{Contains-first}
-use Rattle.hub_index.specs.declared.entry_sink.NodeEntry.{NodeEntry}
-use Rattle.hub_index.specs.Sunk.{entries_of_node, entry_of}
+use Rattle.hub_index.specs.declared.node_entry.NodeEntry.{NodeEntry}
+use Rattle.hub_index.specs.NodeEntries.{entries_of_node, entry_of}
 use Rattle.hub_index.proofs.GatheredRows.{entries_of_node-append}
 use Rattle.label_clean.specs.declared.runs.RunList.{RunList}
 use Rattle.label_clean.specs.declared.turns.Turn.{Turn}
@@ -25,7 +25,7 @@ use Rattle.label_clean.specs.RawRows.{HasEachOnce}
 use Rattle.label_clean.specs.RunLists.{AreTurnsOf, IsTurnOf, all_entries, entries_at, part_of}
 use Rattle.label_clean.specs.Sorted.{IsSortedRow}
 use Rattle.label_clean.proofs.Covering.{pos_of}
-use Rattle.label_clean.proofs.GoneOn.{Rises-append}
+use Rattle.label_clean.proofs.KeptEntries.{Rises-append}
 use Rattle.label_clean.proofs.KeptRows.{once_from_rising}
 use Rattle.label_clean.proofs.RowFacts.{All-sorted}
 use Rattle.label_clean.proofs.TimesOf.{Contains-joined, at_least_one, at_most_one, joined_of, node_entry, of_node, one_if, times-joined, to_node}

@@ -6,9 +6,9 @@ use Rattle.std.proofs.lemmas.List.{append-nil, get_or-set_same, get_or-set_other
 use Rattle.walk_laws.specs.declared.graph.Edge.{Edge}
 use Rattle.walk_laws.specs.declared.entry.Entry.{Entry}
 use Rattle.walk_laws.specs.Labelling.{label_row}
-use Rattle.hub_index.specs.declared.entry_sink.NodeEntry.{NodeEntry}
+use Rattle.hub_index.specs.declared.node_entry.NodeEntry.{NodeEntry}
 use Rattle.hub_index.specs.HubIndex.{with_entry}
-use Rattle.hub_index.specs.Sunk.{entries_of_node, entry_if, entry_of}
+use Rattle.hub_index.specs.NodeEntries.{entries_of_node, entry_if, entry_of}
 use Rattle.hub_index.specs.Views.{GoesOnFrom, IsNode}
 use Rattle.hub_index.proofs.GatheredRows.{entries_of_node-append, entries_of_node-one, entry_if-same, entry_if-other}
 use Rattle.label_clean.specs.RootRuns.{EndsBelow, HasHubs, JoinsNext}

@@ -7,7 +7,7 @@ use Rattle.walk_laws.specs.Joined.{Joined}
 use Rattle.walk_laws.specs.Labelling.{IsHubEntry}
 use Rattle.walk_laws.specs.Laws.{WeighAtLeastOne}
 use Rattle.walk_laws.specs.Ranking.{IsRanking}
-use Rattle.hub_index.specs.declared.entry_sink.NodeEntry.{NodeEntry}
+use Rattle.hub_index.specs.declared.node_entry.NodeEntry.{NodeEntry}
 use Rattle.hub_index.specs.Views.{IsNode}
 use Rattle.label_clean.specs.declared.runs.Run.{Run}
 use Rattle.label_clean.specs.Below.{IsRowBelow}

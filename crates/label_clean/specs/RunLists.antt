@@ -1,7 +1,7 @@
 -- Many lists of entries with their runs, and their runs in turn.
 use Rattle.std.specs.Prelude.{◌≡◌, ℕ, ◌<◌, List, [], All, get_or, length, map, flat_map}
 use Rattle.std.specs.List.Sorted.{IsNonDecreasingBy, IsPermutation}
-use Rattle.hub_index.specs.declared.entry_sink.NodeEntry.{NodeEntry}
+use Rattle.hub_index.specs.declared.node_entry.NodeEntry.{NodeEntry}
 use Rattle.label_clean.specs.declared.runs.Run.{Run}
 use Rattle.label_clean.specs.declared.runs.RunList.{RunList}
 use Rattle.label_clean.specs.declared.turns.Turn.{Turn}

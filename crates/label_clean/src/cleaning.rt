@@ -1,11 +1,7 @@
-ghost use Rattle.std.specs.Prelude.{◌≡◌, ◌↔◌, ℕ, ◌≤◌, [], List, Contains, length, IfOk};
+ghost use Rattle.std.specs.Prelude.{◌≡◌, ℕ, ◌≤◌, [], List, length, IfOk};
 ghost use Rattle.walk_laws.specs.declared.graph.Edge.{Edge as AnEdge};
-ghost use Rattle.walk_laws.specs.declared.entry.Entry.{Entry as AnEntry};
-ghost use Rattle.walk_laws.specs.Joined.{Joined};
-ghost use Rattle.walk_laws.specs.Labelling.{label_row, IsHubEntry};
-ghost use Rattle.walk_laws.specs.Ranking.{IsRanking};
+ghost use Rattle.walk_laws.specs.Labelling.{label_row};
 ghost use Rattle.label_clean.specs.RawRows.{IsRawRow, both_rows};
-ghost use Rattle.label_clean.specs.Needless.{IsSurvivingRow};
 ghost use Rattle.label_clean.specs.Kept.{AreKeptRows, HasSurvivors};
 ghost use Rattle.label_clean.specs.Tested.{AreNearRows};
 ghost use Rattle.label_clean.specs.Below.{HoldsBelow, IsChlBelow};
@@ -46,32 +42,7 @@ pub fn clean<R: Threads + Sync>(
     ensures { IfOk result (λ rows. (edges : List AnEdge) (c : ℕ) → HoldsBelow edges ranking.now c global.now raw.now → IsChlBelow edges ranking.now c rows) }
 {
     let all = together(alloc, global, raw)?;
-    let none = RowList::new(alloc, 0)?;
-    surviving(rt, alloc, ranking, &none, all)
-}
-
-/// The raw entries that no hub of both tables makes needless, each row by rising position. The rows of both tables may come
-/// in any order. Where `clean` would make the canonical hub labelling up to a position, these are exactly the canonical ones
-/// of the raw entries. The raw rows are copied, at a cost in their entries and in the nodes, and the rows that they are
-/// tested against are read; the only error is that memory ran out.
-pub fn survivors<R: Threads + Sync>(
-    rt: &R,
-    alloc: Global,
-    ranking: &Ranking,
-    global: &RowList,
-    raw: &RowList,
-) -> Result<RowList, AllocError>
-    requires global_size { length global.now ≡ length ranking.now }
-    requires raw_size { length raw.now ≡ length ranking.now }
-    requires raw_rows { (v : ℕ) → 1 ≤ v → v ≤ length ranking.now → IsRawRow (length ranking.now) (label_row raw.now v) }
-    ensures size { IfOk result (λ rows. length rows ≡ length ranking.now) }
-    ensures rows { IfOk result (λ rows. (v : ℕ) → 1 ≤ v → v ≤ length ranking.now → IsSurvivingRow ranking.now global.now raw.now v (label_row rows v)) }
-    ensures hubs { IfOk result (λ rows. (edges : List AnEdge) (c : ℕ) → HoldsBelow edges ranking.now c global.now raw.now → (v : ℕ) → 1 ≤ v → v ≤ length ranking.now
-        → (e : AnEntry) → Contains (label_row rows v) e ↔ (Contains (label_row raw.now v) e × IsHubEntry (Joined edges) ranking.now v e)) }
-{
-    let none = RowList::new(alloc, 0)?;
-    let copy = together(alloc, &none, raw)?;
-    surviving(rt, alloc, ranking, global, copy)
+    clean_in_place(rt, alloc, ranking, all)
 }
 
 /// The canonical hub labelling, up to a position, of a graph on the ranking's nodes, in the memory of the raw rows: where
@@ -88,41 +59,18 @@ pub fn clean_in_place<R: Threads + Sync>(
     requires raw_rows { (v : ℕ) → 1 ≤ v → v ≤ length ranking.now → IsRawRow (length ranking.now) (label_row raw v) }
     ensures { IfOk result (λ rows. (edges : List AnEdge) (c : ℕ) → HoldsBelow edges ranking.now c [] raw → IsChlBelow edges ranking.now c rows) }
 {
-    let none = RowList::new(alloc, 0)?;
-    surviving(rt, alloc, ranking, &none, raw)
-}
-
-/// The raw entries that no hub of both tables makes needless, each row by rising position, in the memory of the raw rows.
-fn surviving<R: Threads + Sync>(
-    rt: &R,
-    alloc: Global,
-    ranking: &Ranking,
-    global: &RowList,
-    raw: RowList,
-) -> Result<RowList, AllocError>
-    requires raw_size { length raw ≡ length ranking.now }
-    requires raw_rows { (v : ℕ) → 1 ≤ v → v ≤ length ranking.now → IsRawRow (length ranking.now) (label_row raw v) }
-    ensures ranking { IsRanking ranking.now }
-    ensures size { IfOk result (λ rows. length rows ≡ length ranking.now) }
-    ensures rows { IfOk result (λ rows. (v : ℕ) → 1 ≤ v → v ≤ length ranking.now → IsSurvivingRow ranking.now global.now raw v (label_row rows v)) }
-{
     let n = ranking.n();
     let near = by_distance(rt, raw);
-    let kept = test_rows(rt, alloc, ranking, global, &near, cuts_for(rt, n), 0, n)?;
-    Ok(by_position(rt, replaced(ranking, global, near, kept)))
+    let kept = test_rows(rt, alloc, ranking, &near, cuts_for(rt, n), 0, n)?;
+    Ok(by_position(rt, replaced(ranking, near, kept)))
 }
 
 /// The near rows, each replaced by what is kept of it where it loses an entry.
-fn replaced(
-    ranking: &Ranking,
-    global: &RowList,
-    near: RowList,
-    kept: Vec<Option<Vec<Entry>>>,
-) -> RowList
+fn replaced(ranking: &Ranking, near: RowList, kept: Vec<Option<Vec<Entry>>>) -> RowList
     requires near { AreNearRows (length ranking.now) near }
-    requires kept { AreKeptRows ranking.now global.now near 0 (length ranking.now) kept.items }
+    requires kept { AreKeptRows ranking.now near 0 (length ranking.now) kept.items }
     ensures size { length result ≡ length ranking.now }
-    ensures rows { (v : ℕ) → 1 ≤ v → v ≤ length ranking.now → HasSurvivors ranking.now global.now near v (label_row result v) }
+    ensures rows { (v : ℕ) → 1 ≤ v → v ≤ length ranking.now → HasSurvivors ranking.now near v (label_row result v) }
 {
     let mut rows = near.into_rows();
     let mut kept = kept;

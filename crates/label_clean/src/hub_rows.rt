@@ -1,6 +1,6 @@
 //! The late rows of hubs, which are gathered again and again.
 ghost use Rattle.std.specs.Prelude.{◌≡◌, ℕ, ◌+◌, ◌-◌, ◌<◌, ◌≤◌, ◌++◌, [], get_or, length, map, vec_len, OnOk};
-ghost use Rattle.hub_index.specs.Sunk.{IsGatheredRow};
+ghost use Rattle.hub_index.specs.NodeEntries.{IsGatheredRow};
 ghost use Rattle.label_clean.specs.HubRows.{AreGathered, all_hub_entries, entries_of_hub};
 
 use std::alloc::{AllocError, Global};
@@ -8,7 +8,7 @@ use std::marker::Model;
 use walk_laws::Entry;
 
 /// An entry of the row of a hub: the hub's position in the ranking, from 0, and the entry.
-#[derive(Clone, Copy, Debug)]
+#[derive(Clone, Copy)]
 pub struct HubEntry {
     pub of: u32,
     pub entry: Entry,
@@ -16,7 +16,7 @@ pub struct HubEntry {
 
 /// The late rows of the hubs at the positions from a first one up to a next one, from 0, each by rising position. They are
 /// gathered again and again, in the room of those before. Contracts see the first position and the list of the rows.
-#[derive(Debug, Drop)]
+#[derive(Drop)]
 pub struct HubRows {
     first: u32,
     count: usize,

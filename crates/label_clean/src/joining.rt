@@ -2,7 +2,7 @@
 ghost use Rattle.std.specs.Prelude.{◌≡◌, ℕ, ◌+◌, ◌<◌, ◌≤◌, All, List, length, OnOk};
 ghost use Rattle.walk_laws.specs.declared.graph.Edge.{Edge as AnEdge};
 ghost use Rattle.walk_laws.specs.Labelling.{label_row};
-ghost use Rattle.hub_index.specs.Sunk.{entries_of_node};
+ghost use Rattle.hub_index.specs.NodeEntries.{entries_of_node};
 ghost use Rattle.hub_index.specs.Views.{GoesOnFrom, IsNode};
 ghost use Rattle.label_clean.specs.Below.{IsRowBelow};
 ghost use Rattle.label_clean.specs.Joining.{JoinsRow, JoinsUnder};
@@ -17,7 +17,7 @@ use std::alloc::{AllocError, Global};
 
 /// What one thread takes once, whatever it lets join: room for the runs of many lists. What stands there between two calls is of
 /// no use.
-#[derive(Debug, Drop)]
+#[derive(Drop)]
 pub struct Cleaner {
     turns: Vec<Turn>,
 }

@@ -7,7 +7,7 @@ use std::alloc::{AllocError, Global};
 use walk_laws::Entry;
 
 /// The row of the node `v`, a number from 1, which is empty where there are fewer nodes.
-pub fn row_or_none(rows: &RowList, v: u32) -> &[Entry]
+fn row_or_none(rows: &RowList, v: u32) -> &[Entry]
     requires { 1 ≤ v }
     ensures { result.now ≡ label_row rows.now v }
 {

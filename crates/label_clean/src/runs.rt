@@ -1,6 +1,6 @@
 //! Lists of entries with their runs, each of one root.
 ghost use Rattle.std.specs.Prelude.{◌≡◌, ℕ, ◌<◌, ◌≤◌, [], get_or, length, OnOk};
-ghost use Rattle.hub_index.specs.declared.entry_sink.NodeEntry.{NodeEntry as ANodeEntry};
+ghost use Rattle.hub_index.specs.declared.node_entry.NodeEntry.{NodeEntry as ANodeEntry};
 ghost use Rattle.label_clean.specs.RootRuns.{AreRunsOf};
 ghost use Rattle.label_clean.specs.RunLists.{HasItsRuns};
 
@@ -12,7 +12,7 @@ const LONGEST: usize = 64;
 
 /// A run: entries of one root that stand side by side in a list, up to 64. It has the root's position, from 0, and the places of
 /// the first entry and after the last, from 0. A root may have several runs.
-#[derive(Clone, Copy, Debug)]
+#[derive(Clone, Copy)]
 pub struct Run {
     pub pos: u32,
     pub from: usize,
@@ -21,7 +21,7 @@ pub struct Run {
 
 /// A list of entries, as one worker puts them, and the runs in which they stand there: it is the worker who lists them, while
 /// the entries are in its cache. Who changes the entries lists the runs again.
-#[derive(Debug, Drop)]
+#[derive(Drop)]
 pub struct RunList {
     pub entries: Vec<NodeEntry>,
     pub runs: Vec<Run>,

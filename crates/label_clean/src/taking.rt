@@ -4,7 +4,7 @@ ghost use Rattle.std.specs.List.Sorted.{IsStrictlyIncreasing};
 ghost use Rattle.walk_laws.specs.declared.entry.Entry.{Entry as AnEntry};
 ghost use Rattle.walk_laws.specs.declared.graph.Edge.{Edge as AnEdge};
 ghost use Rattle.walk_laws.specs.Labelling.{label_row};
-ghost use Rattle.hub_index.specs.Sunk.{entries_of_node};
+ghost use Rattle.hub_index.specs.NodeEntries.{entries_of_node};
 ghost use Rattle.hub_index.specs.Views.{GoesOnFrom, IsNode};
 ghost use Rattle.label_clean.specs.Below.{IsRowBelow};
 ghost use Rattle.label_clean.specs.Joining.{JoinsRow, JoinsUnder};

@@ -1,82 +1,52 @@
 //! What is kept of each row, on all cores, in pieces of about as many entries, each with one table; only a row that loses an
 //! entry is copied.
-ghost use Rattle.std.specs.Prelude.{◌+◌, ◌-◌, ◌^◌, ◌≡◌, ◌↔◌, ℕ, ◌<◌, ◌≤◌, All, length, vec_len, IsTrue, IfOk};
+ghost use Rattle.std.specs.Prelude.{◌+◌, ◌-◌, ◌≡◌, ◌↔◌, ℕ, ◌<◌, ◌≤◌, All, length, IsTrue, IfOk};
 ghost use Rattle.walk_laws.specs.Labelling.{label_row};
 ghost use Rattle.std.specs.Thread.{IsSync};
-ghost use Rattle.label_clean.specs.RawRows.{both_rows};
 ghost use Rattle.label_clean.specs.Needless.{IsNeedless, IsSurvivingRow};
 ghost use Rattle.label_clean.specs.Kept.{IsKeptRow, AreKeptRows};
 ghost use Rattle.label_clean.specs.Tested.{AreNearRows, HoldsLeast};
 
-use crate::cover::{is_covered, note_row};
-use crate::rows::row_or_none;
+use crate::cover::is_covered;
 use crate::sorting::sorted_row;
-use hub_index::{RootTable, RowList, covered};
+use hub_index::{RootTable, RowList};
 use rank_table::Ranking;
 use std::alloc::{AllocError, Global};
 use std::thread::{Threads, join};
 use walk_laws::Entry;
 
-/// Whether an entry of a node's row is needless, where the table has the distances of the node's rows. The near rows are
+/// Whether an entry of a node's row is needless, where the table has the distances of the node's row. The near rows are
 /// by rising distance.
-fn is_needless(
-    ranking: &Ranking,
-    global: &RowList,
-    near: &RowList,
-    table: &RootTable,
-    entry: Entry,
-) -> bool
+fn is_needless(ranking: &Ranking, near: &RowList, table: &RootTable, entry: Entry) -> bool
     requires near { AreNearRows (length ranking.now) near.now }
     requires size { length table.now ≡ length ranking.now }
     requires position { entry.pos < length ranking.now }
-    ensures { (v : ℕ) → HoldsLeast table.now (both_rows global.now near.now v) → IsTrue result ↔ IsNeedless ranking.now global.now near.now v entry }
+    ensures { (v : ℕ) → HoldsLeast table.now (label_row near.now v) → IsTrue result ↔ IsNeedless ranking.now near.now v entry }
 {
     let hub = ranking.at(entry.pos);
-    if covered(row_or_none(global, hub), table, entry.pos, entry.dist).is_some() {
-        return true;
-    }
     is_covered(near.row(hub), table, entry.pos, entry.dist)
 }
 
-/// Whether none of the entries, which are of a node's row, is needless, where the table has the distances of the node's rows.
-fn all_stay(
-    ranking: &Ranking,
-    global: &RowList,
-    near: &RowList,
-    table: &RootTable,
-    row: &[Entry],
-) -> bool
+/// Whether none of the entries, which are of a node's row, is needless, where the table has the distances of the node's row.
+fn all_stay(ranking: &Ranking, near: &RowList, table: &RootTable, row: &[Entry]) -> bool
     requires near { AreNearRows (length ranking.now) near.now }
     requires size { length table.now ≡ length ranking.now }
     requires positions { All (λ e. e.pos < length ranking.now) row.now }
-    ensures { (v : ℕ) → HoldsLeast table.now (both_rows global.now near.now v) → IsTrue result → All (λ e. ¬ IsNeedless ranking.now global.now near.now v e) row.now }
+    ensures { (v : ℕ) → HoldsLeast table.now (label_row near.now v) → IsTrue result → All (λ e. ¬ IsNeedless ranking.now near.now v e) row.now }
 {
     for entry in row {
-        if is_needless(ranking, global, near, table, *entry) {
+        if is_needless(ranking, near, table, *entry) {
             return false;
         }
     }
     true
 }
 
-/// Notes both rows of the node `v`, a number from 1, and nothing else, whatever the table held.
-fn note_rows(table: &mut RootTable, global: &RowList, near: &RowList, v: u32)
-    requires node { 1 ≤ v }
-    requires within { v ≤ length near.now }
-    ensures size { length table.new ≡ length table.old }
-    ensures held { HoldsLeast table.new (both_rows global.now near.now v) }
-{
-    table.clear();
-    note_row(table, row_or_none(global, v));
-    note_row(table, near.row(v));
-}
-
 /// The near entries of the node `v`, a number from 1, that are not needless, by rising position, where the table has the
-/// distances of its rows. The only error is that memory ran out.
+/// distances of its row. The only error is that memory ran out.
 fn surviving_row(
     alloc: Global,
     ranking: &Ranking,
-    global: &RowList,
     near: &RowList,
     table: &RootTable,
     v: u32,
@@ -85,13 +55,13 @@ fn surviving_row(
     requires size { length table.now ≡ length ranking.now }
     requires node { 1 ≤ v }
     requires node_within { v ≤ length ranking.now }
-    requires held { HoldsLeast table.now (both_rows global.now near.now v) }
-    ensures { IfOk result (λ row. IsSurvivingRow ranking.now global.now near.now v row.items) }
+    requires held { HoldsLeast table.now (label_row near.now v) }
+    ensures { IfOk result (λ row. IsSurvivingRow ranking.now near.now v row.items) }
 {
     let row = sorted_row(alloc, near.row(v))?;
     let mut kept = Vec::with_capacity(alloc, row.len())?;
     for entry in &row {
-        if is_needless(ranking, global, near, table, *entry) {
+        if is_needless(ranking, near, table, *entry) {
             continue;
         }
         kept.push(*entry)?;
@@ -104,7 +74,6 @@ fn surviving_row(
 fn kept_row(
     alloc: Global,
     ranking: &Ranking,
-    global: &RowList,
     near: &RowList,
     table: &mut RootTable,
     v: u32,
@@ -114,13 +83,13 @@ fn kept_row(
     requires node { 1 ≤ v }
     requires node_within { v ≤ length ranking.now }
     ensures size { length table.new ≡ length table.old }
-    ensures kept { IfOk result (λ kept. IsKeptRow ranking.now global.now near.now v kept) }
+    ensures kept { IfOk result (λ kept. IsKeptRow ranking.now near.now v kept) }
 {
-    note_rows(table, global, near, v);
-    if all_stay(ranking, global, near, table, near.row(v)) {
+    table.load(near.row(v));
+    if all_stay(ranking, near, table, near.row(v)) {
         return Ok(None);
     }
-    let row = surviving_row(alloc, ranking, global, near, table, v)?;
+    let row = surviving_row(alloc, ranking, near, table, v)?;
     Ok(Some(row))
 }
 
@@ -129,7 +98,6 @@ fn kept_row(
 fn test_in_turn(
     alloc: Global,
     ranking: &Ranking,
-    global: &RowList,
     near: &RowList,
     from: u32,
     to: u32,
@@ -137,12 +105,12 @@ fn test_in_turn(
     requires near { AreNearRows (length ranking.now) near.now }
     requires rising { from ≤ to }
     requires within { to ≤ length ranking.now }
-    ensures { IfOk result (λ kept. AreKeptRows ranking.now global.now near.now from to kept.items) }
+    ensures { IfOk result (λ kept. AreKeptRows ranking.now near.now from to kept.items) }
 {
     let mut table = RootTable::new(alloc, ranking.n())?;
     let mut kept = Vec::with_capacity(alloc, (to - from) as usize)?;
     for place in from..to {
-        kept.push(kept_row(alloc, ranking, global, near, &mut table, place + 1)?)?;
+        kept.push(kept_row(alloc, ranking, near, &mut table, place + 1)?)?;
     }
     Ok(kept)
 }
@@ -176,7 +144,6 @@ pub fn test_rows<R: Threads + Sync>(
     rt: &R,
     alloc: Global,
     ranking: &Ranking,
-    global: &RowList,
     near: &RowList,
     cuts: u32,
     from: u32,
@@ -186,10 +153,10 @@ pub fn test_rows<R: Threads + Sync>(
     requires cuts { cuts ≤ 6 }
     requires rising { from ≤ to }
     requires within { to ≤ length ranking.now }
-    ensures { IfOk result (λ kept. AreKeptRows ranking.now global.now near.now from to kept.items) }
+    ensures { IfOk result (λ kept. AreKeptRows ranking.now near.now from to kept.items) }
 {
     if cuts == 0 {
-        return test_in_turn(alloc, ranking, global, near, from, to);
+        return test_in_turn(alloc, ranking, near, from, to);
     }
     let mid = halfway(near, from, to);
     let below = cuts - 1;
@@ -197,12 +164,12 @@ pub fn test_rows<R: Threads + Sync>(
         rt,
         || -> Result<Vec<Option<Vec<Entry>>>, AllocError>
             requires { IsSync R.row × AreNearRows (length ranking.now) near.now × (below ≤ 6) × (from ≤ mid) × (mid ≤ length ranking.now) }
-            ensures { IfOk result (λ kept. AreKeptRows ranking.entry.now global.entry.now near.entry.now from mid kept.items) }
-        { test_rows(rt, alloc, ranking, global, near, below, from, mid) },
+            ensures { IfOk result (λ kept. AreKeptRows ranking.entry.now near.entry.now from mid kept.items) }
+        { test_rows(rt, alloc, ranking, near, below, from, mid) },
         || -> Result<Vec<Option<Vec<Entry>>>, AllocError>
             requires { IsSync R.row × AreNearRows (length ranking.now) near.now × (below ≤ 6) × (mid ≤ to) × (to ≤ length ranking.now) }
-            ensures { IfOk result (λ kept. AreKeptRows ranking.entry.now global.entry.now near.entry.now mid to kept.items) }
-        { test_rows(rt, alloc, ranking, global, near, below, mid, to) },
+            ensures { IfOk result (λ kept. AreKeptRows ranking.entry.now near.entry.now mid to kept.items) }
+        { test_rows(rt, alloc, ranking, near, below, mid, to) },
     );
     let mut kept = first?;
     let mut rest = second?;

@@ -7,7 +7,7 @@ use hub_index::NodeEntry;
 use std::alloc::AllocError;
 
 /// A run of one of many lists: the list's place among them, from 0, and the run.
-#[derive(Clone, Copy, Debug)]
+#[derive(Clone, Copy)]
 pub struct Turn {
     pub list: usize,
     pub run: Run,

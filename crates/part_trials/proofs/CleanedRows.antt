@@ -3,7 +3,6 @@ use Rattle.std.proofs.Common.{ℕ, zero, suc, ◌<◌, ◌≤◌, List, [], ◌�
 use Rattle.std.specs.List.{IsDistinct, AllByRecursion}
 use Rattle.std.proofs.lemmas.List.Elements.{All-from_recursion}
 use Rattle.walk_laws.specs.declared.entry.Entry.{Entry}
-use Rattle.walk_laws.specs.Labelling.{label_row}
 use Rattle.walk_laws.specs.Worked.{entry}
 use Rattle.label_clean.specs.RawRows.{HasEachOnce, IsRawRow, both_rows}
 
@@ -25,12 +24,3 @@ both_may (suc (suc zero)) low high = raw_row (both_rows first later 2) (search r
 both_may (suc (suc (suc zero))) low high = raw_row (both_rows first later 3) (search rules) (search rules)
 both_may (suc (suc (suc (suc zero)))) low high = raw_row (both_rows first later 4) (search rules) (search rules)
 both_may (suc (suc (suc (suc (suc v))))) low high = absurd (omega (arith, high))
-
-pub later_may : (v : ℕ) → 1 ≤ v → v ≤ 4 → IsRawRow 4 (label_row later v)
-unfolding IsDistinct
-later_may zero low high = absurd (omega (arith, low))
-later_may (suc zero) low high = raw_row [] (search rules) (search rules)
-later_may (suc (suc zero)) low high = raw_row (label_row later 2) (search rules) (search rules)
-later_may (suc (suc (suc zero))) low high = raw_row (label_row later 3) (search rules) (search rules)
-later_may (suc (suc (suc (suc zero)))) low high = raw_row (label_row later 4) (search rules) (search rules)
-later_may (suc (suc (suc (suc (suc v))))) low high = absurd (omega (arith, high))

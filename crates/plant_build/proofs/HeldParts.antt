@@ -14,8 +14,9 @@ use Rattle.walk_laws.specs.declared.entry.Entry.{Entry}
 use Rattle.walk_laws.specs.Joined.{Joined}
 use Rattle.walk_laws.specs.Canonical.{IsCanonical}
 use Rattle.walk_laws.specs.Labelling.{IsHubEntry, IsChl, label_row}
-use Rattle.hub_index.specs.Sunk.{Sunk, sunk_at, all_sunk, HoldsPart, IsGatheredRow}
-use Rattle.hub_index.proofs.PartsOfLabellings.{IsPartChl-gathered}
+use Rattle.hub_index.specs.NodeEntries.{IsGatheredRow}
+use Rattle.entry_sinks.specs.Sunk.{Sunk, sunk_at, all_sunk, HoldsPart}
+use Rattle.entry_sinks.proofs.PartsOfLabellings.{IsPartChl-gathered}
 use Rattle.plant_tree.specs.Planted.{NamesEachOnce}
 use Rattle.plant_build.specs.TreeEntries.{entries_of}
 use Rattle.plant_build.specs.Gains.{GainsPart, HoldsBatches}

@@ -9,7 +9,7 @@ use Rattle.std.proofs.lemmas.List.Elements.{filter-append}
 use Rattle.walk_laws.proofs.Members.{Contains-first, Contains-next, Contains-cons_cases, Contains-empty}
 use Rattle.walk_laws.specs.declared.entry.Entry.{Entry}
 use Rattle.plant_tree.specs.Planted.{AreOfNodes, NamesEachOnce}
-use Rattle.hub_index.specs.Sunk.{entry_if}
+use Rattle.hub_index.specs.NodeEntries.{entry_if}
 use Rattle.plant_build.specs.TreeEntries.{entries_of}
 use Rattle.std.proofs.lemmas.Bool.Decides.{Decides-eqb}
 use Rattle.std.proofs.lemmas.Map.Made.{IsDistinct-from_AllPairs}

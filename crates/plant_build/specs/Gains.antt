@@ -2,7 +2,7 @@
 use Rattle.std.specs.Prelude.{◌≡◌, ◌≢◌, ℕ, ◌%◌, List, [], ◌++◌, AllPairs, Contains}
 use Rattle.walk_laws.specs.declared.graph.Edge.{Edge}
 use Rattle.walk_laws.specs.declared.entry.Entry.{Entry}
-use Rattle.hub_index.specs.Sunk.{Sunk, sunk_at, HoldsPart}
+use Rattle.entry_sinks.specs.Sunk.{Sunk, sunk_at, HoldsPart}
 
 -- each node has gained its hubs at the positions of a set, none twice
 pub record GainsPart (edges : List Edge) (at : List ℕ) (InPart : ℕ → Type 0) (old new : Sunk) : Type 0 where

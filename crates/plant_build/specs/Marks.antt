@@ -1,7 +1,7 @@
 -- Which batches have come, a mark for each.
 use Rattle.std.specs.Prelude.{◌≡◌, ◌≢◌, ◌⊎◌, ◌↔◌, ℕ, ◌%◌, Bool, true, false, List, All, AllPairs, Contains, length, slice_index_or}
 use Rattle.walk_laws.specs.declared.graph.Edge.{Edge}
-use Rattle.hub_index.specs.Sunk.{Sunk, all_sunk, HoldsPart}
+use Rattle.entry_sinks.specs.Sunk.{Sunk, all_sunk, HoldsPart}
 
 -- the mark of a batch
 abbrev pub mark : List Bool → ℕ → Bool

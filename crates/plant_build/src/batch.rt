@@ -1,11 +1,11 @@
 ghost use Rattle.std.specs.Prelude.{◌≡◌, ℕ, ◌%◌, ◌^◌, ◌<◌, ◌≤◌, ◌++◌, length, OnOk};
-ghost use Rattle.hub_index.specs.Sunk.{sunk_at};
+ghost use Rattle.entry_sinks.specs.Sunk.{sunk_at};
 ghost use Rattle.plant_tree.specs.Planted.{AreOfNodes};
 ghost use Rattle.plant_build.specs.TreeEntries.{entries_of};
 ghost use Rattle.plant_build.specs.Gains.{GainsPart};
 
 use desk_io::Gate;
-use hub_index::EntrySink;
+use entry_sinks::EntrySink;
 use plant_tree::Planter;
 use rank_table::Ranking;
 use std::alloc::{AllocError, Global};

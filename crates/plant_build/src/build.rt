@@ -1,7 +1,7 @@
 ghost use Rattle.std.specs.Prelude.{◌≡◌, ◌*◌, ◌^◌, ◌≤◌, All, length, IfOk};
 ghost use Rattle.walk_laws.specs.Joined.{Joined};
 ghost use Rattle.walk_laws.specs.Labelling.{IsChl};
-ghost use Rattle.hub_index.specs.Sunk.{sunk_at, HoldsPart};
+ghost use Rattle.entry_sinks.specs.Sunk.{sunk_at, HoldsPart};
 ghost use Rattle.plant_build.specs.Marks.{IsMissing};
 ghost use Rattle.plant_build.specs.Rounds.{share_of};
 ghost use Rattle.plant_build.specs.Workers.{IsReady, HasWorked, shares_of};
@@ -11,7 +11,8 @@ use crate::collecting::collect;
 use crate::crew::crew_of;
 use crate::worker::PlantWorker;
 use desk_io::Gate;
-use hub_index::{EntrySink, Index, RowList, gather};
+use entry_sinks::{EntrySink, gather};
+use hub_index::{Index, RowList};
 use plant_tree::Planter;
 use rank_table::Ranking;
 use renumbering::WorkingCopy;

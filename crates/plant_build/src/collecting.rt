@@ -10,7 +10,7 @@ use crate::crew::Crew;
 use crate::hand::Hand;
 use crate::settling::settle;
 use crate::worker::PlantWorker;
-use hub_index::EntrySink;
+use entry_sinks::EntrySink;
 use std::alloc::{AllocError, Global};
 
 /// What one worker has planted: the numbers of its batches, and the entries of their trees.

@@ -3,8 +3,8 @@
 //!
 //! [`deal`] deals batches of roots to the deques of the workers, and a [`Hand`] takes them, or steals them from the others;
 //! [`settle`] accounts for them all; `batch` plants the roots of a batch; [`build_plant`] is the whole build. It stands on
-//! plant_tree (one tree), hub_index (entries, rows and the index), desk_io (the gate that watches a build), walk_laws and
-//! rank_table, and on crossbeam_deque, whose handles are of atomic_blocks.
+//! plant_tree (one tree), entry_sinks (what workers put), hub_index (rows and the index), desk_io (the gate that watches a
+//! build), walk_laws and rank_table, and on crossbeam_deque, whose handles are of atomic_blocks.
 //! Its callers' clauses use `IsChl` of walk_laws and `HubIndex` of hub_index.
 #![tactic(auto)]
 

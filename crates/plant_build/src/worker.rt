@@ -6,7 +6,7 @@ ghost use Rattle.plant_build.specs.Workers.{IsReady, HasWorked};
 use crate::batch::plant_batch;
 use crate::hand::Hand;
 use desk_io::Gate;
-use hub_index::EntrySink;
+use entry_sinks::EntrySink;
 use plant_tree::Planter;
 use rank_table::Ranking;
 use std::alloc::{AllocError, Global};

@@ -1,9 +1,9 @@
 -- What one worker puts in a superstep, in the pool and in rows of its own.
 use Rattle.std.specs.Prelude.{◌≡◌, ℕ, List, [], ◌∷◌, ◌++◌, All, None, length, map, replicate}
 use Rattle.walk_laws.specs.declared.entry.Entry.{Entry}
-use Rattle.hub_index.specs.declared.entry_sink.NodeEntry.{NodeEntry}
+use Rattle.hub_index.specs.declared.node_entry.NodeEntry.{NodeEntry}
 use Rattle.hub_index.specs.HubIndex.{with_entry}
-use Rattle.hub_index.specs.Sunk.{entry_of}
+use Rattle.hub_index.specs.NodeEntries.{entry_of}
 use Rattle.hub_index.specs.Views.{IsNode}
 use Rattle.entry_chains.specs.declared.chains.Chains.{Chains}
 use Rattle.entry_chains.specs.Chains.{AreChained}

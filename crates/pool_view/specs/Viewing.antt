@@ -5,8 +5,8 @@ use Rattle.walk_laws.specs.Joined.{Joined}
 use Rattle.walk_laws.specs.Labelling.{EntryFits, label_row}
 use Rattle.hub_index.specs.HubIndex.{with_entry}
 use Rattle.hub_index.specs.PlainRows.{IsGathered}
-use Rattle.hub_index.specs.Sunk.{entries_of_node}
-use Rattle.hub_index.specs.declared.entry_sink.NodeEntry.{NodeEntry}
+use Rattle.hub_index.specs.NodeEntries.{entries_of_node}
+use Rattle.hub_index.specs.declared.node_entry.NodeEntry.{NodeEntry}
 use Rattle.hub_index.specs.RootDistances.{IsCover}
 use Rattle.hub_index.specs.Views.{IsNode, IsFound, IsAnswerOf, with_put}
 use Rattle.hub_index.specs.declared.row_view.Offer.{Offer}

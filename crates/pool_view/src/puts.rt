@@ -2,7 +2,7 @@
 ghost use Rattle.std.specs.Prelude.{◌≡◌, ◌-◌, ◌<◌, ◌≤◌, [], ◌++◌, All, Contains, length, reverse, take, IfOk, IfSome, IfNone, OnOk, OnErr};
 ghost use Rattle.walk_laws.specs.declared.entry.Entry.{Entry as AnEntry};
 ghost use Rattle.hub_index.specs.RootDistances.{noted, IsCover};
-ghost use Rattle.hub_index.specs.Sunk.{entries_of_node};
+ghost use Rattle.hub_index.specs.NodeEntries.{entries_of_node};
 ghost use Rattle.hub_index.specs.Views.{IsNode};
 ghost use Rattle.pool_view.specs.Putting.{listed};
 

@@ -1,5 +1,5 @@
 use Rattle.std.proofs.Common.{[], ◌∷◌, ◌++◌, sym, ap, ◌∙◌}
-use Rattle.hub_index.specs.declared.entry_sink.NodeEntry.{NodeEntry}
+use Rattle.hub_index.specs.declared.node_entry.NodeEntry.{NodeEntry}
 use Rattle.gll_build.proofs.ListedHubs.{next_far, next_listed, next_own}
 use Rattle.gll_build.proofs.dealing.list_hubs.Goals as goal
 

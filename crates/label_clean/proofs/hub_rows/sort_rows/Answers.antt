@@ -2,7 +2,7 @@ use Rattle.std.proofs.Common.{rules, ◌≡◌, ◌<◌, inl, inr, [], get_or, l
 use Rattle.std.proofs.Math.ListN.{length-set}
 use Rattle.std.proofs.lemmas.Bool.{cases_eq}
 use Rattle.std.proofs.lemmas.List.Sorted.{answers_always, IsNonDecreasingBy-from_sort}
-use Rattle.hub_index.specs.Sunk.{IsGatheredRow}
+use Rattle.hub_index.specs.NodeEntries.{IsGatheredRow}
 use Rattle.label_clean.proofs.Covering.{pos_of}
 use Rattle.label_clean.proofs.GatheredHubs.{row_now, row_still, row_there}
 use Rattle.label_clean.proofs.RowItems.{items_of}

@@ -1,5 +1,5 @@
 use Rattle.std.proofs.Common.{◌≡◌, ℕ, ◌<◌, ◌≤◌, [], get_or, length}
-use Rattle.hub_index.specs.Sunk.{IsGatheredRow}
+use Rattle.hub_index.specs.NodeEntries.{IsGatheredRow}
 use Rattle.label_clean.proofs.RowItems.{items_of}
 use Rattle.label_clean.proofs.hub_rows.sort_rows.Given as goal
 

@@ -1,7 +1,7 @@
 use Rattle.std.proofs.Common.{◌∷◌, [], ◌∙◌, sym, ap, subst, flat_map, All, get_or, refl, ◌≡◌, ◌++◌, arith}
 use Rattle.std.proofs.lemmas.List.{take_all}
 use Rattle.std.proofs.lemmas.List.Elements.{All-push}
-use Rattle.hub_index.specs.declared.entry_sink.NodeEntry.{NodeEntry}
+use Rattle.hub_index.specs.declared.node_entry.NodeEntry.{NodeEntry}
 use Rattle.label_clean.specs.declared.runs.Run.{Run}
 use Rattle.label_clean.specs.RootRuns.{IsRunIn, entries_of_run}
 use Rattle.label_clean.proofs.ListedRuns.{IsRunIn-made, whole-more}

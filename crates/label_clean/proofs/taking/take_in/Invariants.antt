@@ -1,7 +1,7 @@
 use Rattle.std.proofs.Common.{◌≡◌, ℕ, List, flat_map, length, take}
 use Rattle.walk_laws.specs.declared.graph.Edge.{Edge}
 use Rattle.walk_laws.specs.Labelling.{label_row}
-use Rattle.hub_index.specs.Sunk.{entries_of_node}
+use Rattle.hub_index.specs.NodeEntries.{entries_of_node}
 use Rattle.hub_index.specs.Views.{GoesOnFrom, IsNode}
 use Rattle.label_clean.specs.Below.{IsRowBelow}
 use Rattle.label_clean.specs.Joining.{JoinsRow, JoinsUnder}

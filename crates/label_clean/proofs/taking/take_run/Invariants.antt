@@ -2,7 +2,7 @@ use Rattle.std.proofs.Common.{◌≡◌, ℕ, List, ◌++◌, length, take}
 use Rattle.walk_laws.specs.declared.graph.Edge.{Edge}
 use Rattle.walk_laws.specs.declared.entry.Entry.{Entry}
 use Rattle.walk_laws.specs.Labelling.{label_row}
-use Rattle.hub_index.specs.Sunk.{entries_of_node}
+use Rattle.hub_index.specs.NodeEntries.{entries_of_node}
 use Rattle.hub_index.specs.Views.{GoesOnFrom, IsNode}
 use Rattle.label_clean.specs.RootRuns.{HasHubs, JoinsNext}
 use Rattle.label_clean.proofs.taking.take_run.Given as goal

@@ -15,7 +15,7 @@ loop-entry-preserved c = λ v held k d lt. elim (cases_lt k c.loop-entry.entry-i
   | inr later ↦ λ needless.
       let is : k ≡ c.loop-entry.entry-index = omega (arith, later, lt) in
       let same : get_or c.args.row.now k d ≡ get_or c.args.row.now c.loop-entry.entry-index nothing = get_or_default c.args.row.now k d nothing (omega (arith, is, c.loop-entry-test.true)) ∙ ap (λ i. get_or c.args.row.now i nothing) is in
-      let found : IsTrue c.is_needless.result = (c.is_needless.ensures v held).1 (subst (IsNeedless c.args.ranking.now c.args.global.now c.args.near.now v) same needless) in
+      let found : IsTrue c.is_needless.result = (c.is_needless.ensures v held).1 (subst (IsNeedless c.args.ranking.now c.args.near.now v) same needless) in
       let none : c.is_needless.result ≡ false = c.if-is_needless.false in
       absurd cc
 ]

@@ -26,14 +26,14 @@ is_needless-requires-clause-position c =
 pub loop-entry-preserved-then-is_needless : goal.loop-entry-preserved-then-is_needless
 loop-entry-preserved-then-is_needless c =
     let up = (goal.at.loop-entry-preserved-then-is_needless c).After-deref-entry-items in
-    let P = IsNeedless c.args.ranking.now c.args.global.now c.args.near.now c.args.v in
+    let P = IsNeedless c.args.ranking.now c.args.near.now c.args.v in
     IsKept-without P c.deref-entry-items.result.now c.loop-entry.kept.items c.loop-entry.entry-index nothing c.loop-entry-test.true c.loop-entry.invariant
     ((c.is_needless.ensures c.args.v c.requires.held).0 c.if-is_needless.true)
 
 pub loop-entry-preserved : goal.loop-entry-preserved
 loop-entry-preserved c =
     let up = (goal.at.loop-entry-preserved c).After-deref-entry-items in
-    let P = IsNeedless c.args.ranking.now c.args.global.now c.args.near.now c.args.v in
+    let P = IsNeedless c.args.ranking.now c.args.near.now c.args.v in
     let row = c.deref-entry-items.result.now in
     let i = c.loop-entry.entry-index in
     let good : P (get_or row i nothing) → ⊥ =
@@ -43,7 +43,7 @@ loop-entry-preserved c =
 pub returns : goal.returns
 returns c =
     let up = (goal.at.returns c).After-deref-entry-items in
-    let P = IsNeedless c.args.ranking.now c.args.global.now c.args.near.now c.args.v in
+    let P = IsNeedless c.args.ranking.now c.args.near.now c.args.v in
     let row = c.deref-entry-items.result.now in
     let all = IsKept-whole P row c.loop-entry.kept.items c.loop-entry.entry-index c.loop-entry-test.false c.loop-entry.invariant in
     record {

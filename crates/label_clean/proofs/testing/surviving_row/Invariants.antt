@@ -5,4 +5,4 @@ use Rattle.label_clean.proofs.testing.surviving_row.Given as goal
 
 -- what is kept of the entries so far
 abbrev pub invariant-loop-entry : goal.invariant-loop-entry
-invariant-loop-entry l = IsKept (IsNeedless l.ranking l.global l.near l.v) (take l.entry-index l.entry-items) l.kept.items
+invariant-loop-entry l = IsKept (IsNeedless l.ranking l.near l.v) (take l.entry-index l.entry-items) l.kept.items

@@ -1,6 +1,7 @@
 use Rattle.std.proofs.Common.{ℕ, ◌++◌, take, get_or, sym, ap, ◌∙◌, append_assoc}
 use Rattle.walk_laws.specs.declared.entry.Entry.{Entry}
-use Rattle.hub_index.specs.Sunk.{sunk_at, entry_if}
+use Rattle.hub_index.specs.NodeEntries.{entry_if}
+use Rattle.entry_sinks.specs.Sunk.{sunk_at}
 use Rattle.plant_build.specs.TreeEntries.{entries_of}
 use Rattle.plant_build.proofs.PlantedRows.{entries_more, entries_of_one}
 use Rattle.plant_build.proofs.batch.put_tree.Goals as goal

@@ -1,5 +1,5 @@
 use Rattle.std.proofs.Common.{◌≡◌, ℕ, ◌++◌, take}
-use Rattle.hub_index.specs.Sunk.{sunk_at}
+use Rattle.entry_sinks.specs.Sunk.{sunk_at}
 use Rattle.plant_build.specs.TreeEntries.{entries_of}
 use Rattle.plant_build.proofs.batch.put_tree.Given as goal
 

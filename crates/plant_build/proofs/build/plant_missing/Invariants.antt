@@ -1,5 +1,5 @@
 use Rattle.std.proofs.Common.{◌≡◌}
-use Rattle.hub_index.specs.Sunk.{sunk_at, HoldsPart}
+use Rattle.entry_sinks.specs.Sunk.{sunk_at, HoldsPart}
 use Rattle.plant_build.proofs.HeldParts.{IsMissingBelow}
 use Rattle.plant_build.proofs.build.plant_missing.Given as goal
 

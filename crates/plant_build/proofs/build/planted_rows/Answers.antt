@@ -4,7 +4,8 @@ use Rattle.std.proofs.lemmas.List.{with_items_is}
 use Rattle.std.proofs.lemmas.List.Elements.{All-push, All-weaker}
 use Rattle.walk_laws.specs.Joined.{Joined}
 use Rattle.walk_laws.specs.Labelling.{IsChl, label_row}
-use Rattle.hub_index.specs.Sunk.{sunk_at, all_sunk, HoldsPart, IsGatheredRow}
+use Rattle.hub_index.specs.NodeEntries.{IsGatheredRow}
+use Rattle.entry_sinks.specs.Sunk.{sunk_at, all_sunk, HoldsPart}
 use Rattle.plant_build.specs.Marks.{HasCome, IsMissing}
 use Rattle.plant_build.proofs.HeldParts.{IsChl-whole, both_ok}
 use Rattle.plant_build.specs.Balance.{times}

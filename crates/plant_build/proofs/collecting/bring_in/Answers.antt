@@ -5,7 +5,7 @@ use Rattle.std.proofs.lemmas.List.Elements.{All-head, All-tail}
 use Rattle.std.proofs.lemmas.List.Sums.{sum_by-cons}
 use Rattle.plant_build.specs.declared.collecting.Harvest.{Harvest}
 use Rattle.plant_build.specs.Balance.{times}
-use Rattle.hub_index.specs.Sunk.{Sunk}
+use Rattle.entry_sinks.specs.Sunk.{Sunk}
 use Rattle.plant_build.specs.Gains.{HoldsBatches}
 use Rattle.plant_build.specs.Harvest.{IsHeld, IsBelow}
 use Rattle.plant_build.specs.Marks.{mark, Adds, HasCome}

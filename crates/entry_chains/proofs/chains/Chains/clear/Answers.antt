@@ -1,5 +1,5 @@
 use Rattle.std.proofs.Common.{refl}
-use Rattle.hub_index.specs.declared.entry_sink.NodeEntry.{NodeEntry}
+use Rattle.hub_index.specs.declared.node_entry.NodeEntry.{NodeEntry}
 use Rattle.entry_chains.proofs.Chained.{AreEmptied-more, AreEmpty-emptied}
 use Rattle.entry_chains.proofs.chains.Chains.clear.Goals as goal
 

@@ -1,6 +1,6 @@
 use Rattle.std.proofs.Common.{◌-◌, length, reverse, sym, subst, ap, arith}
 use Rattle.std.proofs.lemmas.List.{get_or_read}
-use Rattle.hub_index.specs.Sunk.{entries_of_node}
+use Rattle.hub_index.specs.NodeEntries.{entries_of_node}
 use Rattle.entry_chains.specs.Links.{IsChain}
 use Rattle.entry_chains.proofs.Chained.{whole_chain}
 use Rattle.entry_chains.proofs.Linked.{IsChain-from, chain_from_head}

@@ -1,6 +1,6 @@
 use Rattle.std.proofs.Common.{◌≡◌, ℕ, ◌≤◌, ◌<◌, length}
 use Rattle.walk_laws.specs.Labelling.{label_row}
-use Rattle.hub_index.specs.Sunk.{IsGatheredRow}
+use Rattle.hub_index.specs.NodeEntries.{IsGatheredRow}
 use Rattle.hub_index.proofs.RowItems.{items_of}
 use Rattle.hub_index.proofs.row_list.RowList.sort.Given as goal
 

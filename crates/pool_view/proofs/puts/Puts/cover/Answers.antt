@@ -1,9 +1,9 @@
 use Rattle.std.proofs.Common.{◌∙◌, false, List, Contains, refl, sym, subst}
 use Rattle.std.specs.Prelude.{IsTrue}
 use Rattle.std.proofs.lemmas.List.Elements.{All-contains, All-push}
-use Rattle.hub_index.specs.declared.entry_sink.NodeEntry.{NodeEntry}
+use Rattle.hub_index.specs.declared.node_entry.NodeEntry.{NodeEntry}
 use Rattle.hub_index.specs.RootDistances.{IsCover}
-use Rattle.hub_index.specs.Sunk.{entries_of_node}
+use Rattle.hub_index.specs.NodeEntries.{entries_of_node}
 use Rattle.hub_index.proofs.Backwards.{Contains-backwards, all_came, next_stands}
 use Rattle.pool_view.proofs.puts.Puts.cover.Goals as goal
 

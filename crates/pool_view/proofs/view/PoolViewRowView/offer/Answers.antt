@@ -4,7 +4,7 @@ use Rattle.std.proofs.lemmas.List.Elements.{All-weaker, All-contains_itself}
 use Rattle.walk_laws.specs.declared.entry.Entry.{Entry}
 use Rattle.walk_laws.specs.Labelling.{label_row}
 use Rattle.hub_index.specs.RootDistances.{IsCover}
-use Rattle.hub_index.specs.Sunk.{entries_of_node}
+use Rattle.hub_index.specs.NodeEntries.{entries_of_node}
 use Rattle.hub_index.specs.Views.{IsNode}
 use Rattle.hub_index.specs.declared.row_view.Offer.TheVariants.{Put as IsPut, NoMemory}
 use Rattle.label_pool.specs.declared.rule.Linked.{Linked}

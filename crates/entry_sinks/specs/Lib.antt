@@ -1,0 +1,2 @@
+pub mod Sunk
+pub mod Laws

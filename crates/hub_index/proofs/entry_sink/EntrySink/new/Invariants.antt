@@ -1,6 +1,0 @@
-use Rattle.std.proofs.Common.{◌≡◌, [], map, replicate}
-use Rattle.hub_index.proofs.entry_sink.EntrySink.new.Given as goal
-
--- an empty range for each round
-abbrev pub invariant-loop : goal.invariant-loop
-invariant-loop l = map (λ range. range.items) l.ranges.items ≡ replicate l.counter []
