@@ -5,7 +5,7 @@ use Rattle.std.proofs.lemmas.List.Elements.{All-map}
 use Rattle.walk_laws.specs.declared.graph.Edge.{Edge}
 use Rattle.hub_index.specs.Stripes.{stripe_count}
 use Rattle.label_clean.specs.declared.runs.RunList.{RunList}
-use Rattle.gll_build.specs.Growing.{IsSheaf, Sheaf}
+use Rattle.gll_superstep.specs.Growing.{IsSheaf, Sheaf}
 
 pub dealt_long : (edges : List Edge) (at : List ℕ) (shift : ℕ) (sheaves : List Sheaf) (dealt : List (Vec RunList Global)) → All (IsSheaf edges at shift) sheaves → map (λ d. d.items) dealt ≡ map (λ s. s.dealt) sheaves → All (λ d. length d.items ≡ stripe_count shift (length at)) dealt
 dealt_long edges at shift sheaves dealt are same k d within =

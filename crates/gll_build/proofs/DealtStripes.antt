@@ -10,7 +10,7 @@ use Rattle.std.proofs.Math.Seq.{take-append_seam}
 use Rattle.walk_laws.specs.declared.entry.Entry.{Entry}
 use Rattle.hub_index.specs.Stripes.{stripe_at}
 use Rattle.label_clean.specs.declared.runs.RunList.{RunList}
-use Rattle.gll_build.specs.Growing.{lists_at}
+use Rattle.gll_build.specs.Batches.{lists_at}
 
 -- the list at a place of one more comes after those of the others
 lists_at-push : (dealt : List (List RunList)) (lists : List RunList) (number : ℕ) → lists_at (dealt ++ lists ∷ []) number ≡ lists_at dealt number ++ option_to_list (slice_get lists number)

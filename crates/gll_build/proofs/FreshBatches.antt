@@ -23,9 +23,10 @@ use Rattle.label_clean.specs.Joining.{JoinsRow, JoinsUnder}
 use Rattle.label_clean.specs.RunLists.{HasItsRuns, all_entries}
 use Rattle.label_clean.proofs.JoinedLists.{entries_there}
 use Rattle.label_clean.proofs.TimesOf.{to_node}
-use Rattle.gll_build.specs.Dealing.{ListsHubs, stripe_entries}
-use Rattle.gll_build.specs.Growing.{HavePutOver, IsBatch, IsSheaf, Sheaf, all_put, all_roots, lists_at}
-use Rattle.gll_build.proofs.DealtEntries.{all_dealt, entries_dealt, nodes_dealt, stripe_entries-append}
+use Rattle.gll_superstep.specs.Dealing.{ListsHubs, stripe_entries}
+use Rattle.gll_superstep.specs.Growing.{HavePutOver, IsSheaf, Sheaf, all_put, all_roots}
+use Rattle.gll_build.specs.Batches.{IsBatch, lists_at}
+use Rattle.gll_superstep.proofs.DealtEntries.{all_dealt, entries_dealt, nodes_dealt, stripe_entries-append}
 use Rattle.gll_build.proofs.FreshRoots.{JoinsRow-fresh, root_within}
 use Rattle.gll_build.proofs.GatheredHubs.{JoinsUnder-gathered}
 use Rattle.gll_build.proofs.Sheaves.{HavePutOver-all, roots_differ}

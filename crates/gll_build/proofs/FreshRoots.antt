@@ -11,7 +11,7 @@ use Rattle.hub_index.specs.NodeEntries.{entries_of_node}
 use Rattle.hub_index.specs.Views.{IsNode}
 use Rattle.table_seats.specs.Numbers.{numbers}
 use Rattle.label_clean.specs.Joining.{IsCoveredBelow, JoinsRow}
-use Rattle.gll_build.specs.Growing.{HavePutOver}
+use Rattle.gll_superstep.specs.Growing.{HavePutOver}
 
 -- the numbers from the first one up to the next
 pub among : (first next p : ℕ) → first ≤ p → p < next → Contains (numbers first next) p

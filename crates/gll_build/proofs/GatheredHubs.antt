@@ -25,9 +25,9 @@ use Rattle.label_clean.proofs.Cleaned.{hub_node}
 use Rattle.label_clean.proofs.Covering.{pos_of}
 use Rattle.label_clean.proofs.RowFacts.{first_apart}
 use Rattle.label_clean.proofs.GatheredHubs.{of_hub, to_hub}
-use Rattle.gll_build.specs.Growing.{HavePutOver}
+use Rattle.gll_superstep.specs.Growing.{HavePutOver}
 use Rattle.gll_build.proofs.FreshRoots.{JoinsRow-fresh}
-use Rattle.gll_build.specs.Dealing.{entries_below}
+use Rattle.gll_superstep.specs.Dealing.{entries_below}
 
 -- a part of a row has each position once, too
 once_below : (q : ℕ) (es : List Entry) → HasEachOnce es → HasEachOnce (entries_below q es)

@@ -1,16 +1,7 @@
-pub mod DealtEntries
-pub mod ListedHubs
-pub mod DealtLists
-pub mod DoneShares
-pub mod PutBy
-pub mod UncoveredPuts
 pub mod Sheaves
 pub mod FreshRoots
 pub mod GatheredHubs
-pub mod StripedTables
-pub mod GrownLists
 pub mod FreshBatches
-pub mod ReapedSheaves
-pub mod PlacedStripes
+pub mod JoinedStripes
 pub mod DealtStripes
 pub mod DealtLong

@@ -16,9 +16,9 @@ use Rattle.pruned_tree.proofs.GrownPuts.{AreApart, AreApart-distinct, IsGrownBy-
 use Rattle.table_seats.specs.Numbers.{numbers}
 use Rattle.table_seats.proofs.Counting.{IsDistinct-times, times-numbers, times-permutation}
 use Rattle.label_clean.specs.Joining.{IsCoveredBelow}
-use Rattle.gll_build.specs.Growing.{HavePutOver, IsSheaf, Sheaf, all_put, all_roots}
-use Rattle.gll_build.specs.Shares.{IsPutBy}
-use Rattle.gll_build.proofs.PutBy.{IsPutBy-both, IsPutBy-from_grown}
+use Rattle.gll_superstep.specs.Growing.{HavePutOver, IsSheaf, Sheaf, all_put, all_roots}
+use Rattle.gll_superstep.specs.Shares.{IsPutBy}
+use Rattle.gll_superstep.proofs.PutBy.{IsPutBy-both, IsPutBy-from_grown}
 
 module _ (edges : List Edge) (at : List ℕ) (first : ℕ) where
   abbrev IsOf : NodeEntry → Type 0

@@ -1,4 +1,1 @@
-pub mod Shares
-pub mod Dealing
-pub mod Growing
-pub mod Tables
+pub mod Batches

@@ -3,17 +3,13 @@ ghost use Rattle.std.specs.Prelude.{◌≡◌, ℕ, ◌+◌, ◌<◌, ◌≤◌,
 ghost use Rattle.hub_index.specs.Stripes.{stripe_count};
 ghost use Rattle.label_clean.specs.declared.hub_rows.HubEntry.{HubEntry};
 ghost use Rattle.label_clean.specs.HubRows.{AreGathered};
-ghost use Rattle.gll_build.specs.Dealing.{ListsHubs};
-ghost use Rattle.gll_build.specs.Growing.{IsBatch, all_put, lists_at};
-ghost use Rattle.gll_build.specs.Tables.{IsStripeBelow};
+ghost use Rattle.gll_superstep.specs.Dealing.{ListsHubs};
+ghost use Rattle.gll_superstep.specs.Growing.{all_put};
+ghost use Rattle.gll_build.specs.Batches.{IsBatch, lists_at};
+ghost use Rattle.gll_superstep.specs.Tables.{AreStripesBelow, IsStripeBelow};
 
-use crate::bench::Bench;
-use crate::floor::Grown;
-use crate::joining::Batch;
-use crate::named::Build;
-use crate::reaping::{Reaped, hubs_below, next_root, reap};
-use crate::site::Site;
-use crate::table::{Stripe, Table};
+use crate::joining::{Batch, Stripe};
+use gll_superstep::{Bench, Build, Grown, Reaped, Site, Table, hubs_below, next_root, reap};
 use hub_index::SplitRows;
 use label_clean::{HubRows, RunList};
 use std::alloc::{AllocError, Global};
@@ -40,12 +36,13 @@ pub fn dealt_batches<B: Build>(
     let ranked = site.ranking.n();
     prove!(n == ranked);
     let alloc = site.alloc;
-    let first = table.first;
+    let first = table.first();
     let reaped = reap(alloc, first, grown)?;
-    let next = next_root(alloc, first, table.n, &reaped)?;
+    let next = next_root(alloc, first, n, &reaped)?;
     let hub_rows = rows_of_hubs(site, first, next, &reaped)?;
     let (benches, dealt) = taken_apart(alloc, reaped)?;
-    let batches = batches_of(alloc, table, next, dealt, &hub_rows)?;
+    let stripes = table.into_stripes();
+    let batches = batches_of(alloc, first, site.count, stripes, next, dealt, &hub_rows)?;
     Ok(Dealt {
         batches,
         next,
@@ -95,64 +92,31 @@ fn add_parts<B: Build>(
 ) -> Result<(), AllocError>
     ensures { OnOk result (map (λ d. d.items) dealt.new.items ≡ map (λ d. d.items) dealt.old.items ++ one.dealt ∷ []) }
 {
-    let (bench, lists) = parts_of(alloc, one);
+    let (bench, lists) = one.into_parts(alloc);
     dealt.push(lists)?;
     benches.push(bench)?;
     Ok(())
 }
 
-/// A worker's bench, and what was dealt to the stripes on it.
-fn parts_of<B: Build>(alloc: Global, one: Reaped<B>) -> (Bench<B>, Vec<RunList>)
-    ensures { result.1.items ≡ one.dealt }
-{
-    let Reaped {
-        bench,
-        first: _,
-        far: _,
-    } = one;
-    let Bench {
-        index,
-        own,
-        work,
-        list,
-        roots,
-        dealt,
-        hubs,
-        of,
-    } = bench;
-    let bench = Bench {
-        index,
-        own,
-        work,
-        list,
-        roots,
-        dealt: Vec::new(alloc),
-        hubs,
-        of,
-    };
-    (bench, dealt)
-}
-
-/// For each stripe of the table the lists that were dealt to it. The only error is that memory ran out.
+/// For each of so many stripes, which are a table up to the position `first`, from 0, the lists that were dealt to it. The only
+/// error is that memory ran out.
 fn batches_of<B: Build>(
     alloc: Global,
-    table: Table<B>,
+    first: u32,
+    count: u32,
+    stripes: Vec<SplitRows>,
     next: u32,
     dealt: Vec<Vec<RunList>>,
     hub_rows: &Arc<HubRows, Global>,
 ) -> Result<Vec<Option<Batch<B>>>, AllocError>
+    requires stripes { AreStripesBelow B.edges B.order B.shift first stripes.items }
+    requires count { length stripes.items ≡ count }
     requires long { All (λ d. length d.items ≡ stripe_count B.shift (length B.order)) dealt.items }
-    requires each { (number : ℕ) → number < stripe_count B.shift (length B.order) → IsBatch B.edges B.order B.shift number table.first next (lists_at (map (λ d. d.items) dealt.items) number) hub_rows.now.value }
+    requires each { (number : ℕ) → number < stripe_count B.shift (length B.order) → IsBatch B.edges B.order B.shift number first next (lists_at (map (λ d. d.items) dealt.items) number) hub_rows.now.value }
 {
-    let Table {
-        mut stripes,
-        plan: _,
-        n: _,
-        first,
-        of: _,
-    } = table;
+    let mut stripes = stripes;
     let mut dealt = dealt;
-    let mut batches = Vec::with_capacity(alloc, stripes.len())?;
+    let mut batches = Vec::with_capacity(alloc, count as usize)?;
     while let Some(rows) = stripes.pop() {
         let number = stripes.len() as u32;
         let lists = last_lists(alloc, &mut dealt)?;

@@ -1,14 +1,9 @@
 //! What is to be done in a build, and what is done.
 
 use crate::batches::{Dealt, dealt_batches};
-use crate::bench::Bench;
-use crate::floor::{Floor, Grown, Slot, slots_on};
-use crate::fresh_pool::FreshPool;
 use crate::joining::{Batch, Joined};
-use crate::named::Build;
 use crate::putting_together::joined_table;
-use crate::site::Site;
-use crate::table::Table;
+use gll_superstep::{Bench, Build, Floor, FreshPool, Grown, Site, Slot, Table, slots_on};
 use std::alloc::{AllocError, Global};
 use std::hint::spin_loop;
 use std::mem::replace;
@@ -281,7 +276,7 @@ fn growing<B: Build>(
     benches: Vec<Bench<B>>,
     fresh: FreshPool<B>,
 ) -> Result<Stage<B>, AllocError> {
-    if table.first >= table.n {
+    if table.first() >= site.graph.n() {
         return Ok(Stage::Over(Ok(table)));
     }
     growing_over(site, table, benches, fresh)

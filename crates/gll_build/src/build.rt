@@ -4,10 +4,8 @@ ghost use Rattle.walk_laws.specs.Labelling.{IsChl};
 ghost use Rattle.label_clean.specs.Below.{IsChlBelow};
 
 use crate::hall::worked_on;
-use crate::named::Build;
-use crate::site::Site;
-use crate::table::Table;
 use desk_io::Gate;
+use gll_superstep::{Build, Site, Table};
 use hub_index::{Index, RowList, SplitIndex, SplitRows, Stripes};
 use label_clean::laws::the_whole_is_the_labelling;
 use rank_table::Ranking;
@@ -113,7 +111,7 @@ fn steps<B: Build + Send + Sync, R: Threads + Wait + Sync, G: Gate + Sync>(
     let site = Site::<B>::new(rt, alloc, graph, ranking, plan, workers, cut, false);
     let table = Table::new(&site)?;
     let table = worked_on(rt, &site, table, gate)?;
-    if table.first != graph.n() {
+    if table.first() != graph.n() {
         return Err(AllocError);
     }
     table.into_rows(alloc)
@@ -199,7 +197,7 @@ fn one_step<B: Build + Send + Sync, R: Threads + Wait + Sync, G: Gate + Sync>(
     let site = Site::<B>::new(rt, alloc, graph, ranking, plan, workers, cut, true);
     let table = Table::of_rows(&site, global, first)?;
     let table = worked_on(rt, &site, table, gate)?;
-    let next = table.first;
+    let next = table.first();
     if next <= first || next > graph.n() {
         return Err(AllocError);
     }

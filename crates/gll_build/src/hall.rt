@@ -2,12 +2,9 @@
 ghost use Rattle.std.specs.Prelude.{◌<◌};
 ghost use Rattle.std.specs.Thread.{IsSend, IsSync};
 
-use crate::bench::Bench;
 use crate::board::{Board, Task};
-use crate::named::Build;
-use crate::site::Site;
-use crate::table::Table;
 use desk_io::Gate;
+use gll_superstep::{Bench, Build, Site, Table};
 use label_clean::Cleaner;
 use std::alloc::AllocError;
 use std::sync::Wait;

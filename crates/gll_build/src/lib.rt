@@ -2,25 +2,15 @@
 //! next roots over a global table that nobody writes; what they put is cleaned and joins the table, stripe by stripe.
 //!
 //! [`build_gll`] is the whole build, [`build_gll_split`] the same in the rows that it worked with, [`superstep`] one step.
-//! It stands on pruned_tree, pool_view over label_pool, root_claims, label_clean, hub_index, renumbering and desk_io (the
-//! gate). Its callers' clauses use `IsChl` of walk_laws and `IsChlBelow` of label_clean.
+//! It stands on gll_superstep (what a worker does), label_clean, hub_index, renumbering and desk_io (the gate). Its callers'
+//! clauses use `IsChl` of walk_laws and `IsChlBelow` of label_clean.
 #![tactic(auto)]
 
 mod batches;
-mod bench;
 mod board;
 mod build;
-mod dealing;
-mod floor;
-mod fresh_pool;
-mod ground;
 mod hall;
 mod joining;
-mod named;
 mod putting_together;
-mod reaping;
-mod share;
-mod site;
-mod table;
 
 pub use build::{build_gll, build_gll_split, superstep};

@@ -1,16 +1,12 @@
 //! Stripes that are done make a table again.
 ghost use Rattle.std.specs.Prelude.{◌≡◌, IfOk};
-ghost use Rattle.gll_build.specs.Tables.{IsStripeBelow};
+ghost use Rattle.gll_superstep.specs.Tables.{IsStripeBelow};
 
-use crate::bench::Bench;
-use crate::joining::Joined;
-use crate::named::Build;
-use crate::site::Site;
-use crate::table::{Stripe, Table};
+use crate::joining::{Joined, Stripe};
+use gll_superstep::{Bench, Build, Site, Table};
 use hub_index::SplitRows;
 use label_clean::RunList;
 use std::alloc::{AllocError, Global};
-use std::marker::PhantomData;
 
 /// The table of these stripes, which is the labelling up to the position `next`, from 0. The lists go back to the benches. The error
 /// is that memory ran out, for one of the stripes or here, or that they aren't those of a table, all up to that position.
@@ -65,7 +61,7 @@ fn hand_back<B: Build>(lists: Vec<RunList>, benches: &mut Vec<Bench<B>>) -> Resu
     let mut lists = lists;
     for k in 0..benches.len() {
         if let Some(list) = lists.pop() {
-            benches[k].dealt.push(list)?;
+            benches[k].take_back(list)?;
         }
     }
     Ok(())
@@ -89,13 +85,7 @@ fn table_of<B: Build>(
         let rows = rows_at(place, stripes.len(), next)?;
         stripes.push(rows)?;
     }
-    Ok(Table {
-        stripes,
-        plan: site.plan,
-        n,
-        first: next,
-        of: PhantomData,
-    })
+    Ok(Table::of_stripes(site, stripes, next))
 }
 
 /// The rows of the stripe at the place of this number, from 0. The error is that it lacks, or isn't of its place or up to the

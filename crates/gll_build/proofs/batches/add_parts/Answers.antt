@@ -9,5 +9,5 @@ lists_of d = d.items
 pub returns : goal.returns
 returns g c =
     ap (map lists_of) c.in_ok-push.ensures.items
-    ∙ map_push lists_of c.args.dealt.now.items c.parts_of-bench.result.1
-    ∙ ap (λ list. map lists_of c.args.dealt.now.items ++ list ∷ []) c.parts_of-bench.ensures
+    ∙ map_push lists_of c.args.dealt.now.items c.into_parts-bench.result.1
+    ∙ ap (λ list. map lists_of c.args.dealt.now.items ++ list ∷ []) c.into_parts-bench.ensures

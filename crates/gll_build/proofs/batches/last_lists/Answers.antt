@@ -4,7 +4,7 @@ use Rattle.std.specs.Option.{option_to_list}
 use Rattle.std.proofs.lemmas.Grind.{drop_more_same}
 use Rattle.std.proofs.lemmas.List.{append-nil, drop-set-lt, take_all}
 use Rattle.label_clean.specs.declared.runs.RunList.{RunList}
-use Rattle.gll_build.specs.Growing.{lists_at}
+use Rattle.gll_build.specs.Batches.{lists_at}
 use Rattle.gll_build.proofs.DealtStripes.{last_taken, one_cut, one_taken, same_there}
 use Rattle.gll_build.proofs.batches.last_lists.Goals as goal
 use Rattle.gll_build.proofs.batches.last_lists.Goals.{in-Some+in_ok-push, in_default}

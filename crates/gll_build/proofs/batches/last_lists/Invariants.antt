@@ -1,5 +1,5 @@
 use Rattle.std.proofs.Common.{◌≡◌, ℕ, ◌+◌, All, drop, length, map, take, vec_len}
-use Rattle.gll_build.specs.Growing.{lists_at}
+use Rattle.gll_build.specs.Batches.{lists_at}
 use Rattle.gll_build.proofs.batches.last_lists.Given as goal
 
 -- those before k have lost their last list, which was taken, and those from k on are as they were

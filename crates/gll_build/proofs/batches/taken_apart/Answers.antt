@@ -1,7 +1,7 @@
 use Rattle.std.proofs.Common.{List, [], ◌∷◌, ◌++◌, sym, ap, ◌∙◌}
 use Rattle.std.proofs.lemmas.List.{map_push}
 use Rattle.label_clean.specs.declared.runs.RunList.{RunList}
-use Rattle.gll_build.specs.Growing.{Sheaf}
+use Rattle.gll_superstep.specs.Growing.{Sheaf}
 use Rattle.gll_build.proofs.batches.taken_apart.Goals as goal
 
 abbrev dealt_of : Sheaf → List RunList

@@ -1,5 +1,5 @@
 use Rattle.std.proofs.Common.{◌≡◌, subst, arith}
-use Rattle.gll_build.specs.Tables.{IsStripeBelow}
+use Rattle.gll_superstep.specs.Tables.{IsStripeBelow}
 use Rattle.gll_build.proofs.putting_together.rows_at.Goals as goal
 
 pub returns : goal.returns

@@ -1,8 +1,8 @@
-use Rattle.std.proofs.Common.{◌≡◌, ℕ, ◌<◌, [], ◌∷◌, ◌++◌, length, sym, ap, subst, ◌∙◌, arith}
+use Rattle.std.proofs.Common.{◌≡◌, ℕ, ◌<◌, [], ◌∷◌, ◌++◌, length, sym, ap, subst, arith}
 use Rattle.std.proofs.lemmas.List.{length_push}
 use Rattle.hub_index.specs.Stripes.{stripe_at, stripe_count}
-use Rattle.gll_build.specs.Tables.{IsStripeBelow}
-use Rattle.gll_build.proofs.PlacedStripes.{placed_next}
+use Rattle.gll_superstep.specs.Tables.{IsStripeBelow}
+use Rattle.gll_superstep.proofs.PlacedStripes.{placed_next}
 use Rattle.gll_build.proofs.putting_together.table_of.Goals as goal
 
 pub loop-place-preserved : goal.loop-place-preserved
@@ -17,21 +17,17 @@ loop-place-preserved g c =
           (placed_next (IsStripeBelow g.B.Build.edges g.B.Build.order g.B.Build.shift c.args.next) stripes c.len-in-loop-place.result c.in_ok-rows.rows was.below number_is c.in_ok-rows.ensures);
     }
 
-pub invariant_of-result : goal.invariant_of-result
-invariant_of-result g c =
+pub of_stripes-requires : goal.of_stripes-requires
+of_stripes-requires g c =
     let site = c.args.site.now in
     let made = c.loop-place.invariant in
-    let n_is : c.n-n.result ≡ length g.B.Build.order = c.n-n.ensures.value ∙ sym site.nodes in
-    let all : length c.loop-place.stripes.items ≡ stripe_count g.B.Build.shift (length g.B.Build.order) = omega (arith, made.count, site.count_is, c.in-None.ensures.steps.0, c.loop-place.place-iterator.rest.ok.0) in (
-      n_is,
-      site.stripes,
-      record {
-        within = omega (arith, n_is);
-        are = record {
-          shift_is = omega (arith, site.stripes, site.shift_is);
-          count = all;
-          sizes = λ number there. (made.below number (omega (arith, there, all))).size;
-        };
-        below = λ number there. made.below number (omega (arith, there, all));
-      },
-    )
+    let all : length c.loop-place.stripes.items ≡ stripe_count g.B.Build.shift (length g.B.Build.order) = omega (arith, made.count, site.count_is, c.in-None.ensures.steps.0, c.loop-place.place-iterator.rest.ok.0) in
+    record {
+      within = omega (arith, c.n-n.ensures.value, site.nodes);
+      are = record {
+        shift_is = omega (arith, site.stripes, site.shift_is);
+        count = all;
+        sizes = λ number there. (made.below number (omega (arith, there, all))).size;
+      };
+      below = λ number there. made.below number (omega (arith, there, all));
+    }

@@ -1,6 +1,6 @@
 use Rattle.std.proofs.Common.{◌≡◌, ℕ, ◌+◌, ◌<◌, length}
 use Rattle.hub_index.specs.Stripes.{stripe_at}
-use Rattle.gll_build.specs.Tables.{IsStripeBelow}
+use Rattle.gll_superstep.specs.Tables.{IsStripeBelow}
 use Rattle.gll_build.proofs.putting_together.table_of.Given as goal
 
 -- the stripes so far are up to the position, and the others are to come

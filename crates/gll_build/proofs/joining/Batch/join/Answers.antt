@@ -1,7 +1,7 @@
 use Rattle.std.proofs.Common.{sym, ap, subst}
-use Rattle.gll_build.specs.Growing.{IsBatch}
-use Rattle.gll_build.specs.Tables.{OneStripe}
-use Rattle.gll_build.proofs.StripedTables.{joined_stripe}
+use Rattle.gll_build.specs.Batches.{IsBatch}
+use Rattle.gll_build.specs.Batches.{OneStripe}
+use Rattle.gll_build.proofs.JoinedStripes.{joined_stripe}
 use Rattle.gll_build.proofs.joining.Batch.join.Goals as goal
 
 pub invariant_of-result : goal.invariant_of-result

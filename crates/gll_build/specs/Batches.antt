@@ -1,0 +1,34 @@
+-- What joins a stripe of the table.
+use Rattle.std.specs.Prelude.{◌≡◌, ℕ, ◌+◌, ◌<◌, ◌≤◌, List, All, length, slice_get}
+use Rattle.std.specs.List.{filter_map}
+use Rattle.walk_laws.specs.declared.graph.Edge.{Edge}
+use Rattle.walk_laws.specs.declared.entry.Entry.{Entry}
+use Rattle.hub_index.specs.Stripes.{node_at, stripe_size}
+use Rattle.hub_index.specs.NodeEntries.{entries_of_node}
+use Rattle.hub_index.specs.Views.{IsNode}
+use Rattle.label_clean.specs.declared.runs.RunList.{RunList}
+use Rattle.label_clean.specs.HubRows.{RowsFrom}
+use Rattle.label_clean.specs.Joining.{JoinsRow, JoinsUnder}
+use Rattle.label_clean.specs.RunLists.{HasItsRuns, all_entries}
+
+-- a stripe by itself
+pub record OneStripe : Type 0 where
+  pub number : ℕ
+  pub first : ℕ
+  pub rows : List (List Entry)
+
+-- lists that join a stripe of the table, which is the labelling up to the first position, and is the labelling up to the next one then, by way of late rows of hubs
+pub record IsBatch (edges : List Edge) (at : List ℕ) (shift number first next : ℕ) (lists : List RunList) (hubs : RowsFrom) : Type 0 where
+  pub within : next ≤ length at
+  pub first_is : hubs.first ≡ first
+  pub size : hubs.first + length hubs.rows ≡ next
+  pub runs : All HasItsRuns lists
+  pub nodes : All (λ e. IsNode (stripe_size shift (length at) number) e.node) (all_entries lists)
+  pub from : All (λ e. hubs.first ≤ e.pos) (all_entries lists)
+  pub below : All (λ e. e.pos < next) (all_entries lists)
+  pub under : (v : ℕ) → IsNode (length at) v → JoinsUnder edges at hubs.first next hubs.rows v
+  pub joins : (place : ℕ) → IsNode (stripe_size shift (length at) number) place → JoinsRow edges at hubs.first next (node_at shift number place) (entries_of_node (all_entries lists) place)
+
+-- of many lists of lists, the list of each at a place
+abbrev pub lists_at : List (List RunList) → ℕ → List RunList
+lists_at dealt number = filter_map (λ lists. slice_get lists number) dealt

@@ -1,0 +1,10 @@
+pub mod DealtEntries
+pub mod ListedHubs
+pub mod DealtLists
+pub mod PutBy
+pub mod DoneShares
+pub mod UncoveredPuts
+pub mod StripedTables
+pub mod PlacedStripes
+pub mod GrownLists
+pub mod ReapedSheaves

@@ -1,0 +1,4 @@
+pub mod Shares
+pub mod Dealing
+pub mod Growing
+pub mod Tables
