@@ -202,7 +202,7 @@ module _ (graph : List ℕ) (files : Files) where
   rank_always : Answerable (rank_stage graph) files
   rank_always = λ g graph_is. let ranked = ranked_by_degree g in (ranked.0, (ranked.1.ranking, ranked.1.all), tt)
 
-Ranked : WeightedGraph → Result (List ℕ) Stop → Type 0
+abbrev Ranked : WeightedGraph → Result (List ℕ) Stop → Type 0
 Ranked g answer = (at : List ℕ) × IsRankingOf g.n at × (answer ≡ Ok (order_lines at))
 
 ranked_text : (g : WeightedGraph) (text : List ℕ) → Ranked g (Ok text) → IsRankingText g.n text
