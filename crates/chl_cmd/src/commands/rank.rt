@@ -35,7 +35,5 @@ fn ranked_text<R: Threads + Sync>(
     ensures { IfOk result (λ text. (at : List ℕ) × IsRankingOf graph.now.n at × (text.items ≡ lines_of_nodes at)) }
 {
     let ranking = contraction_order(rt, alloc, graph)?;
-    // (this tells that it is one)
-    let _ = ranking.n();
     order_lines(alloc, &ranking)
 }
