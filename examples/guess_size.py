@@ -9,7 +9,20 @@ import random
 import statistics
 import sys
 
-from rank_by_paths import read_graph
+
+def read_graph(name):
+    """The arcs from each node, from 1, of a graph text: pairs of the other end and the weight."""
+    arcs = []
+    with open(name) as lines:
+        for line in lines:
+            words = line.split()
+            if words[:2] == ["p", "sp"]:
+                arcs = [[] for _ in range(int(words[2]) + 1)]
+            elif words[:1] == ["a"]:
+                u, v, w = map(int, words[1:])
+                arcs[u].append((v, w))
+                arcs[v].append((u, w))
+    return arcs
 
 
 def read_order(name):

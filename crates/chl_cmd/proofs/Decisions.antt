@@ -1,5 +1,5 @@
 -- What the files decide: always something, and one thing.
-use Rattle.std.proofs.Common.{◌≡◌, ◌≤◌, ℕ, Bool, true, false, cond, List, length, take, nat_lt, ap, subst, ◌∙◌, arith}
+use Rattle.std.proofs.Common.{◌≡◌, ◌≤◌, ℕ, Bool, true, false, cond, List, length, take, nat_lt, ap, refl, subst, sym, ◌∙◌, arith}
 use Rattle.std.specs.Prelude.{◌==◌, Option, Some, None, Result, Ok, Err}
 use Rattle.std.specs.FinMap as finite_map
 use Rattle.std.proofs.lemmas.Bool.{le-ltb}
@@ -43,11 +43,14 @@ use Rattle.chl_inputs.specs.declared.stop.NotOf.TheVariants.{Sizes}
 use Rattle.chl_inputs.proofs.StageLaws.{Answerable, Determined, decided_always, decided_once, after_ok, after_told, after_value}
 use Rattle.chl_inputs.proofs.StagesInTurn.{same_value}
 use Rattle.chl_lines.specs.PrintedAnswers.{answer_lines}
+use Rattle.chl_lines.specs.PrintedOrders.{order_lines}
 use Rattle.chl_lines.specs.PrintedRows.{lines_from}
-use Rattle.chl_cmd.specs.Commands.{Decides, stage_of, labelling_stage, solve_stage, query_stage, path_stage, audit_stage, degree_stage, grid_stage, answers_stage, AreAnswers, stage_if}
+use Rattle.chl_cmd.specs.Commands.{Decides, stage_of, labelling_stage, solve_stage, query_stage, path_stage, audit_stage, degree_stage, rank_stage, grid_stage, answers_stage, AreAnswers, IsRankingOf, stage_if}
+use Rattle.chl_cmd.specs.Laws.{AreAlike, IsRankingText}
+use Rattle.chl_cmd.specs.Statuses.{status_after}
 use Rattle.chl_words.specs.declared.asked.By.{By}
 use Rattle.chl_words.specs.declared.asked.Asked.{Asked}
-use Rattle.chl_words.specs.declared.asked.Asked.TheVariants.{List as ListRows, Build, Solve, Query, Path, Audit, Degree, Grid}
+use Rattle.chl_words.specs.declared.asked.Asked.TheVariants.{List as ListRows, Build, Solve, Query, Path, Audit, Degree, Rank, Grid}
 use Rattle.rank_table.proofs.DegreeRankings.{ranked_by_degree, IsByDegree-unique}
 use Rattle.chl_cmd.proofs.PairAnswers.{answers_exist, answers_unique, answers_told}
 
@@ -194,6 +197,28 @@ module _ (graph : List ℕ) (files : Files) where
   degree_once : Determined (degree_stage graph) files
   degree_once = λ g graph_is. (IsByDegree-unique g, λ at ranked. tt)
 
+-- `rank` has a ranking, and any two answers are alike
+module _ (graph : List ℕ) (files : Files) where
+  rank_always : Answerable (rank_stage graph) files
+  rank_always = λ g graph_is. let ranked = ranked_by_degree g in (ranked.0, (ranked.1.ranking, ranked.1.all), tt)
+
+abbrev Ranked : WeightedGraph → Result (List ℕ) Stop → Type 0
+Ranked g answer = (at : List ℕ) × IsRankingOf g.n at × (answer ≡ Ok (order_lines at))
+
+ranked_text : (g : WeightedGraph) (text : List ℕ) → Ranked g (Ok text) → IsRankingText g.n text
+ranked_text g text ranked = (ranked.0, ranked.1, same_value text (order_lines ranked.0) ranked.2)
+
+ranked_stop : (g : WeightedGraph) (stop : Stop) → Ranked g (Err stop) → ⊥
+ranked_stop g stop ranked = absurd (let e = ranked.2 in cc)
+
+module _ (graph : List ℕ) (files : Files) where
+  ranks_alike : (x y : Result (List ℕ) Stop) → (r : Result WeightedGraph Stop) → value_at (graph_input graph) files ≡ r → After r x (λ g. Ranked g x) → After r y (λ g. Ranked g y) → AreAlike (Rank graph) files x y
+  ranks_alike (Ok text) (Ok other) (Ok g) is first second = (g, is, ranked_text g text first, ranked_text g other second)
+  ranks_alike (Ok text) (Err stop) (Ok g) is first second = absurd (ranked_stop g stop second)
+  ranks_alike (Err stop) y (Ok g) is first second = absurd (ranked_stop g stop first)
+  ranks_alike (Ok text) y (Err stop) is first second = absurd cc
+  ranks_alike (Err one) y (Err stop) is first second = first ∙ sym second
+
 module _ (side seed : ℕ) (files : Files) where
   grid_always : Answerable (grid_stage side seed) files
   grid_always =
@@ -213,23 +238,39 @@ has_answer (Query index pairs) files = query_always index pairs files
 has_answer (Path graph index pairs) files = path_always graph index pairs files
 has_answer (Audit graph order index) files = audit_always graph order index files
 has_answer (Degree graph) files = degree_always graph files
+has_answer (Rank graph) files = rank_always graph files
 has_answer (Grid side seed workers) files = grid_always side seed files
-
-has_one_answer : (asked : Asked) (files : Files) → Determined (stage_of asked) files
-has_one_answer (ListRows graph order) files = labelling_once (λ at rows. lines_from at 1 rows) graph order files
-has_one_answer (Build graph order out by workers cut) files = labelling_once index_bytes graph order files
-has_one_answer (Solve graph order pairs by workers cut) files = solve_once graph order pairs files
-has_one_answer (Query index pairs) files = query_once index pairs files
-has_one_answer (Path graph index pairs) files = path_once graph index pairs files
-has_one_answer (Audit graph order index) files = audit_once graph order index files
-has_one_answer (Degree graph) files = degree_once graph files
-has_one_answer (Grid side seed workers) files = grid_once side seed files
 
 pub decides_always : (asked : Asked) (files : Files) → (answer : Result (List ℕ) Stop) × Decides asked files answer
 decides_always asked files = decided_always (stage_of asked) files (has_answer asked files)
 
-pub decides_once : (asked : Asked) (files : Files) (x y : Result (List ℕ) Stop) → Decides asked files x → Decides asked files y → x ≡ y
-decides_once asked files = decided_once (stage_of asked) files (has_one_answer asked files)
+pub decides_once : (asked : Asked) (files : Files) (x y : Result (List ℕ) Stop) → Decides asked files x → Decides asked files y → AreAlike asked files x y
+decides_once (ListRows graph order) files = decided_once (stage_of (ListRows graph order)) files (labelling_once (λ at rows. lines_from at 1 rows) graph order files)
+decides_once (Build graph order out by workers cut) files = decided_once (stage_of (Build graph order out by workers cut)) files (labelling_once index_bytes graph order files)
+decides_once (Solve graph order pairs by workers cut) files = decided_once (stage_of (Solve graph order pairs by workers cut)) files (solve_once graph order pairs files)
+decides_once (Query index pairs) files = decided_once (stage_of (Query index pairs)) files (query_once index pairs files)
+decides_once (Path graph index pairs) files = decided_once (stage_of (Path graph index pairs)) files (path_once graph index pairs files)
+decides_once (Audit graph order index) files = decided_once (stage_of (Audit graph order index)) files (audit_once graph order index files)
+decides_once (Degree graph) files = decided_once (stage_of (Degree graph)) files (degree_once graph files)
+decides_once (Rank graph) files = λ x y. ranks_alike graph files x y (value_at (graph_input graph) files) refl
+decides_once (Grid side seed workers) files = decided_once (stage_of (Grid side seed workers)) files (grid_once side seed files)
+
+-- alike answers have one status
+alike_status : (asked : Asked) (files : Files) (x y : Result (List ℕ) Stop) → AreAlike asked files x y → status_after x ≡ status_after y
+alike_status (Rank graph) files (Ok text) (Ok other) alike = refl
+alike_status (Rank graph) files (Ok text) (Err stop) alike = ap status_after alike
+alike_status (Rank graph) files (Err stop) y alike = ap status_after alike
+alike_status (ListRows graph order) files x y alike = ap status_after alike
+alike_status (Build graph order out by workers cut) files x y alike = ap status_after alike
+alike_status (Solve graph order pairs by workers cut) files x y alike = ap status_after alike
+alike_status (Query index pairs) files x y alike = ap status_after alike
+alike_status (Path graph index pairs) files x y alike = ap status_after alike
+alike_status (Audit graph order index) files x y alike = ap status_after alike
+alike_status (Degree graph) files x y alike = ap status_after alike
+alike_status (Grid side seed workers) files x y alike = ap status_after alike
+
+pub decides_one_status : (asked : Asked) (files : Files) (x y : Result (List ℕ) Stop) → Decides asked files x → Decides asked files y → status_after x ≡ status_after y
+decides_one_status asked files x y first second = alike_status asked files x y (decides_once asked files x y first second)
 
 -- a file that has the layout of a well formed index is read as that
 pub index_of_layout : (index : List ℕ) (files : Files) (bytes at : List ℕ) (rows : List (List Entry)) → finite_map.get files index ≡ Some bytes → length bytes ≤ input_limit → IsWellFormed at rows → bytes ≡ index_bytes at rows → value_at (index_input index) files ≡ Ok (record { order = at; rows = rows })

@@ -20,7 +20,7 @@ use Rattle.chl_cmd.specs.declared.status.Status.{Status}
 use Rattle.chl_cmd.specs.declared.status.Status.TheVariants.{Done, Differs, Usage, GraphText, OrderText, PairsText, IndexBytes, Overflow, ReadFault, WriteFault, NoMemory, NotOfGraph, TooLong}
 use Rattle.chl_words.specs.declared.asked.Asked.{Asked}
 use Rattle.chl_cmd.specs.Words.{IsCommand}
-use Rattle.chl_cmd.proofs.Decisions.{decides_once}
+use Rattle.chl_cmd.proofs.Decisions.{decides_one_status}
 use Rattle.chl_cmd.proofs.OneCommand.{one_command}
 
 -- the stop of which a status tells, if it tells of one
@@ -119,11 +119,11 @@ module _ (asked : Asked) (status : Status) (a b : Contents) where
       subst (λ s. Stops asked s a b) (same_stop stopped.0 stop (sym stopped.1 ∙ is)) stopped.2
 
   ends_decided : Ends asked status a b → (answer : Result (List ℕ) Stop) → Decides asked a.files answer → (status ≡ status_after answer) ⊎ (status ≡ NoMemory) ⊎ (((status ≡ ReadFault) ⊎ (status ≡ WriteFault)) × ¬ (IsTrue a.steady))
-  ends_decided (inl done) answer decides = inl (done.0 ∙ ap status_after (decides_once asked a.files (Ok done.1.bytes) answer done.1.decided decides))
+  ends_decided (inl done) answer decides = inl (done.0 ∙ decides_one_status asked a.files (Ok done.1.bytes) answer done.1.decided decides)
   ends_decided (inr (inl failed)) answer decides = inr (inr (inr failed.0, failed.2))
   ends_decided (inr (inr (inl lost))) answer decides = inr (inl lost.0)
   ends_decided (inr (inr (inr stopped))) answer decides = elim stopped.2.cause [
-    | inl decided ↦ inl (stopped.1 ∙ ap status_after (decides_once asked a.files (Err stopped.0) answer decided decides))
+    | inl decided ↦ inl (stopped.1 ∙ decides_one_status asked a.files (Err stopped.0) answer decided decides)
     | inr (inl memory) ↦ inr (inl (stopped.1 ∙ ap status_of memory))
     | inr (inr failed) ↦ inr (inr (inl (stopped.1 ∙ ap status_of failed.0), failed.1))
   ]

@@ -20,6 +20,7 @@ use Rattle.walk_laws.specs.Graph.{WeightedGraph}
 use Rattle.walk_laws.specs.Joined.{Joined}
 use Rattle.walk_laws.specs.Labelling.{IsChl}
 use Rattle.walk_laws.specs.Meet.{IsMeet}
+use Rattle.walk_laws.specs.Ranking.{IsRanking}
 use Rattle.chl_inputs.specs.Inputs.{graph_input, order_input, pairs_input, index_input}
 use Rattle.chl_inputs.specs.Stages.{Stage, Comes, Works, Reads, Decided}
 use Rattle.chl_inputs.specs.declared.stop.Stop.{Stop}
@@ -33,7 +34,7 @@ use Rattle.chl_lines.specs.PrintedWalks.{walk_lines}
 use Rattle.chl_lines.specs.declared.grid.GridReport.{GridReport}
 use Rattle.rank_table.specs.ByDegree.{IsByDegree}
 use Rattle.chl_words.specs.declared.asked.Asked.{Asked}
-use Rattle.chl_words.specs.declared.asked.Asked.TheVariants.{List as ListRows, Build, Solve, Query, Path, Audit, Degree, Grid}
+use Rattle.chl_words.specs.declared.asked.Asked.TheVariants.{List as ListRows, Build, Solve, Query, Path, Audit, Degree, Rank, Grid}
 
 -- a graph, a ranking of its nodes, and the bytes of the rows of its canonical hub labelling
 abbrev pub labelling_stage : (List ℕ → List (List Entry) → List ℕ) → List ℕ → List ℕ → Stage (List ℕ)
@@ -138,6 +139,14 @@ audit_stage graph order index =
 abbrev pub degree_stage : List ℕ → Stage (List ℕ)
 degree_stage graph = Reads (graph_input graph) (λ g. Works (λ at. IsByDegree g at) (λ at. Comes (Ok (order_lines at))))
 
+-- a ranking of the nodes 1..n
+abbrev pub IsRankingOf : ℕ → List ℕ → Type 0
+IsRankingOf n at = IsRanking at × (length at ≡ n)
+
+-- `rank`: a graph, and the order text of a ranking of its nodes, whichever
+abbrev pub rank_stage : List ℕ → Stage (List ℕ)
+rank_stage graph = Reads (graph_input graph) (λ g. Works (λ at. IsRankingOf g.n at) (λ at. Comes (Ok (order_lines at))))
+
 -- what there is to say of the grid of a side and a seed whose index has these rows, by whichever construction
 abbrev pub grid_report : ℕ → ℕ → List (List Entry) → GridReport
 grid_report side seed rows = record {
@@ -176,6 +185,7 @@ command_of (Query index pairs) = record { stage = query_stage index pairs; place
 command_of (Path graph index pairs) = record { stage = path_stage graph index pairs; place = None }
 command_of (Audit graph order index) = record { stage = audit_stage graph order index; place = None }
 command_of (Degree graph) = record { stage = degree_stage graph; place = None }
+command_of (Rank graph) = record { stage = rank_stage graph; place = None }
 command_of (Grid side seed workers) = record { stage = grid_stage side seed; place = None }
 
 abbrev pub stage_of : Asked → Stage (List ℕ)

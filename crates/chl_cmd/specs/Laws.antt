@@ -3,19 +3,36 @@ use Rattle.std.specs.Prelude.{◌≡◌, ◌≤◌, ℕ, List, [], ◌∷◌, �
 use Rattle.std.specs.FinMap as finite_map
 use Rattle.desk_io.specs.Reading.{input_limit}
 use Rattle.desk_io.specs.Contents.{Files}
-use Rattle.chl_cmd.specs.Commands.{Decides}
+use Rattle.chl_inputs.specs.Inputs.{graph_input, value_at}
+use Rattle.chl_lines.specs.PrintedOrders.{order_lines}
+use Rattle.walk_laws.specs.Graph.{WeightedGraph}
+use Rattle.chl_cmd.specs.Commands.{Decides, IsRankingOf}
+use Rattle.chl_cmd.specs.Statuses.{status_after}
 use Rattle.chl_inputs.specs.declared.stop.Stop.{Stop}
 use Rattle.chl_words.specs.declared.asked.By.{By}
 use Rattle.chl_words.specs.declared.asked.Asked.{Asked}
-use Rattle.chl_words.specs.declared.asked.Asked.TheVariants.{Build, Solve, Query, Audit}
+use Rattle.chl_words.specs.declared.asked.Asked.TheVariants.{Build, Solve, Query, Audit, Rank}
 
 -- every command over every table of files has an answer
 abbrev pub TheFilesDecide : Type 0
 TheFilesDecide = (asked : Asked) (files : Files) → (answer : Result (List ℕ) Stop) × Decides asked files answer
 
--- and one at most
+-- the text is that of a ranking of the nodes 1..n
+abbrev pub IsRankingText : ℕ → List ℕ → Type 0
+IsRankingText n text = (at : List ℕ) × IsRankingOf n at × (text ≡ order_lines at)
+
+-- two answers are the same; but two texts of `rank` are those of two rankings of the graph's nodes
+abbrev pub AreAlike : Asked → Files → Result (List ℕ) Stop → Result (List ℕ) Stop → Type 0
+AreAlike (Rank graph) files (Ok text) (Ok other) = (g : WeightedGraph) × (value_at (graph_input graph) files ≡ Ok g) × IsRankingText g.n text × IsRankingText g.n other
+AreAlike asked files answer other = answer ≡ other
+
+-- and one at most, but for the ranking that `rank` is free to choose
 abbrev pub TheFilesDecideOnce : Type 0
-TheFilesDecideOnce = (asked : Asked) (files : Files) (answer other : Result (List ℕ) Stop) → Decides asked files answer → Decides asked files other → answer ≡ other
+TheFilesDecideOnce = (asked : Asked) (files : Files) (answer other : Result (List ℕ) Stop) → Decides asked files answer → Decides asked files other → AreAlike asked files answer other
+
+-- and so one status, which is Done or the refusal with its fields
+abbrev pub TheFilesDecideOneStatus : Type 0
+TheFilesDecideOneStatus = (asked : Asked) (files : Files) (answer other : Result (List ℕ) Stop) → Decides asked files answer → Decides asked files other → status_after answer ≡ status_after other
 
 -- a query of an index file that was built, and that is no longer than an input may be, says what solving says of the same pairs
 abbrev pub AQueryOfABuiltFileSolves : Type 0

@@ -12,6 +12,7 @@ mod grid;
 mod list;
 mod path;
 mod query;
+mod rank;
 mod solve;
 mod text;
 
@@ -27,6 +28,7 @@ use index_file::Pieces;
 use list::list_output;
 use path::path_output;
 use query::query_output;
+use rank::rank_output;
 use solve::solve_output;
 use std::alloc::Global;
 use std::sync::Wait;
@@ -105,6 +107,7 @@ pub fn output<R: Threads + Wait + Sync, D: Desk, G: Gate + Sync>(
             index,
         } => audit_output(alloc, graph.text(), order.text(), index.text(), desk),
         Asked::Degree { graph } => degree_output(alloc, graph.text(), desk),
+        Asked::Rank { graph } => rank_output(rt, alloc, graph.text(), desk),
         Asked::Grid {
             side,
             seed,
@@ -124,6 +127,7 @@ pub fn out_file(asked: &Asked) -> Option<&Name>
         | Asked::Path { .. }
         | Asked::Audit { .. }
         | Asked::Degree { .. }
+        | Asked::Rank { .. }
         | Asked::Grid { .. } => None,
         Asked::Build { out, .. } => Some(out),
     }

@@ -123,6 +123,10 @@ degree_is : IsJudged literal.degree
 unfolding clap_on_literals
 degree_is = record { enters = record { walks = refl; turns = refl; found = refl }; distinct = (refl, tt); pass = (refl, tt) }
 
+rank_is : IsJudged literal.rank
+unfolding clap_on_literals
+rank_is = record { enters = record { walks = refl; turns = refl; found = refl }; distinct = (refl, tt); pass = (refl, tt) }
+
 grid_is : IsJudged literal.grid
 unfolding clap_on_literals
 grid_is = record { enters = record { walks = refl; turns = refl; found = refl }; distinct = (refl, (refl, (refl, tt))); pass = (refl, (refl, (refl, tt))) }
@@ -135,5 +139,6 @@ is_judged s (suc (suc (suc zero)), lt, is) = subst IsJudged is query_is
 is_judged s (suc (suc (suc (suc zero))), lt, is) = subst IsJudged is path_is
 is_judged s (suc (suc (suc (suc (suc zero)))), lt, is) = subst IsJudged is audit_is
 is_judged s (suc (suc (suc (suc (suc (suc zero))))), lt, is) = subst IsJudged is degree_is
-is_judged s (suc (suc (suc (suc (suc (suc (suc zero)))))), lt, is) = subst IsJudged is grid_is
-is_judged s (suc (suc (suc (suc (suc (suc (suc (suc k))))))), lt, is) = absurd (omega arith)
+is_judged s (suc (suc (suc (suc (suc (suc (suc zero)))))), lt, is) = subst IsJudged is rank_is
+is_judged s (suc (suc (suc (suc (suc (suc (suc (suc zero))))))), lt, is) = subst IsJudged is grid_is
+is_judged s (suc (suc (suc (suc (suc (suc (suc (suc (suc k)))))))), lt, is) = absurd (omega arith)

@@ -9,7 +9,7 @@ use Rattle.chl_words.specs.declared.reading.Building.{Building}
 use Rattle.chl_words.specs.declared.asked.By.{By}
 use Rattle.chl_words.specs.declared.asked.By.TheVariants.{Plant, Lcc, Gll}
 use Rattle.chl_words.specs.declared.asked.Asked.{Asked}
-use Rattle.chl_words.specs.declared.asked.Asked.TheVariants.{List as ListRows, Build, Solve, Query, Path, Audit, Degree, Grid}
+use Rattle.chl_words.specs.declared.asked.Asked.TheVariants.{List as ListRows, Build, Solve, Query, Path, Audit, Degree, Rank, Grid}
 
 -- what each option has as its value, if any
 abbrev pub Values : Type 0
@@ -85,6 +85,9 @@ audit_of value = value (codes "graph") >>= λ graph. value (codes "order") >>= �
 abbrev pub degree_of : Values → Option Asked
 degree_of value = value (codes "graph") >>= λ graph. Some (Degree graph)
 
+abbrev pub rank_of : Values → Option Asked
+rank_of value = value (codes "graph") >>= λ graph. Some (Rank graph)
+
 abbrev pub grid_of : Values → Option Asked
 grid_of value =
     value (codes "side") >>= number_of 1 longest_side
@@ -102,8 +105,9 @@ asked_of name value =
     else (if bytes_eq name (codes "path") then path_of value
     else (if bytes_eq name (codes "audit") then audit_of value
     else (if bytes_eq name (codes "degree") then degree_of value
+    else (if bytes_eq name (codes "rank") then rank_of value
     else (if bytes_eq name (codes "grid") then grid_of value
-    else None)))))))
+    else None))))))))
 
 -- the values of the options in what was found
 abbrev pub values_in : List Row → Values

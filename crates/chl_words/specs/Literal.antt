@@ -67,11 +67,14 @@ audit = command (codes "audit") (file (codes "graph") ∷ file (codes "order") �
 abbrev pub degree : Shape
 degree = command (codes "degree") (file (codes "graph") ∷ [])
 
+abbrev pub rank : Shape
+rank = command (codes "rank") (file (codes "graph") ∷ [])
+
 abbrev pub grid : Shape
 grid = command (codes "grid") (number_needed (codes "side") 1 256 ∷ number_needed (codes "seed") 0 2147483647 ∷ workers ∷ [])
 
 abbrev pub commands : List Shape
-commands = list ∷ build ∷ solve ∷ query ∷ path ∷ audit ∷ degree ∷ grid ∷ []
+commands = list ∷ build ∷ solve ∷ query ∷ path ∷ audit ∷ degree ∷ rank ∷ grid ∷ []
 
 -- the program: it takes one of its commands, and has no help
 abbrev pub program : App

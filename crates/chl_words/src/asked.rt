@@ -98,6 +98,10 @@ pub enum Asked {
     Degree {
         graph: Name,
     },
+    /// Print an order of a graph's nodes under which its index is small.
+    Rank {
+        graph: Name,
+    },
     /// Print what the index of a square grid comes to by each construction, under the order by falling degree.
     Grid {
         /// How many rows and columns the grid has: 1..256.

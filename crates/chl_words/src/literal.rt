@@ -39,6 +39,7 @@ pub fn program<'a>(alloc: Global) -> Result<Command<'a>, AllocError>
     let program = with_command(program, path(alloc));
     let program = with_command(program, audit(alloc));
     let program = with_command(program, degree(alloc));
+    let program = with_command(program, rank(alloc));
     with_command(program, grid(alloc))
 }
 
@@ -94,6 +95,12 @@ fn degree<'a>(alloc: Global) -> Result<Command<'a>, AllocError>
     ensures { IfOk result (IsProgram (command_alone literal.degree)) }
 {
     Command::new(alloc, "degree").arg(file(alloc, "graph"))
+}
+
+fn rank<'a>(alloc: Global) -> Result<Command<'a>, AllocError>
+    ensures { IfOk result (IsProgram (command_alone literal.rank)) }
+{
+    Command::new(alloc, "rank").arg(file(alloc, "graph"))
 }
 
 fn grid<'a>(alloc: Global) -> Result<Command<'a>, AllocError>

@@ -1,7 +1,7 @@
 ghost use Rattle.std.specs.Prelude.{◌≡◌, ◌≢◌, ◌≤◌, ℕ, List, Option, Some, None, codes, map, string_bytes, option_and_then, IfOk, IfErr, IfSome, IfNone};
 ghost use Rattle.clap.specs.Words.{found_of, kind_of, rows_of, subcommand_rows_of};
 ghost use Rattle.clap.specs.declared.error.kind.ErrorKind.TheVariants.{OutOfMemory};
-ghost use Rattle.chl_words.specs.Asking.{AreWithinLimits, IsWithinLimits, any_number_of, asked_in, asked_of, audit_of, build_of, building_of, asked_by, construction_of, degree_of, grid_of, list_of, number_of, path_of, query_of, solve_of, values_in, within};
+ghost use Rattle.chl_words.specs.Asking.{AreWithinLimits, IsWithinLimits, any_number_of, asked_in, asked_of, audit_of, build_of, building_of, asked_by, construction_of, degree_of, grid_of, list_of, number_of, path_of, query_of, rank_of, solve_of, values_in, within};
 ghost use Rattle.chl_words.specs.Reading.{IsRead};
 ghost use Rattle.chl_words.specs.declared.asked.AskFault.TheVariants.{Usage};
 
@@ -67,6 +67,7 @@ fn read_command(alloc: Global, name: &str, found: &ArgMatches<'_>) -> Result<Ask
         "path" => read_path(alloc, found),
         "audit" => read_audit(alloc, found),
         "degree" => read_degree(alloc, found),
+        "rank" => read_rank(alloc, found),
         "grid" => read_grid(found),
         _ => Err(AskFault::Usage),
     }
@@ -160,6 +161,14 @@ fn read_degree(alloc: Global, found: &ArgMatches<'_>) -> Result<Asked, AskFault>
 {
     let graph = file(alloc, found, "graph")?;
     Ok(Asked::Degree { graph })
+}
+
+fn read_rank(alloc: Global, found: &ArgMatches<'_>) -> Result<Asked, AskFault>
+    ensures read { IsRead (rank_of (values_in (rows_of (found_of found.now)))) result }
+    ensures limits { IfOk result IsWithinLimits }
+{
+    let graph = file(alloc, found, "graph")?;
+    Ok(Asked::Rank { graph })
 }
 
 fn read_grid(found: &ArgMatches<'_>) -> Result<Asked, AskFault>

@@ -9,6 +9,7 @@ use crate::table::{number_at, set_number};
 use rank_table::{Ranking, by_degree};
 use std::alloc::{AllocError, Global};
 use std::cmp::Reverse;
+use std::thread::Threads;
 use walk_laws::Graph;
 
 /// A core of more nodes is kept small, whatever the graph.
@@ -18,7 +19,11 @@ const GREATEST_CORE: u32 = 16_000;
 /// whose contraction costs least next; the core that is left, some 8 sqrt(n) of n nodes, is ranked by a greedy cover of its
 /// shortest paths. Where much more than that is left, since many nodes have many neighbours, the core is ranked by degree. It
 /// is the same each time. The only error is that memory ran out.
-pub fn contraction_order(alloc: Global, graph: &Graph) -> Result<Ranking, AllocError>
+pub fn contraction_order<R: Threads + Sync>(
+    _rt: &R,
+    alloc: Global,
+    graph: &Graph,
+) -> Result<Ranking, AllocError>
     ensures { IfOk result (λ ranking. length ranking ≡ graph.now.n) }
 {
     let n = graph.n();

@@ -24,16 +24,17 @@ const SQUARE_FILE: &[u8] = b"CHLABEL\x01\0\0\0\x04\0\0\0\x01\0\0\0\x02\0\0\0\x03
 \0\0\0\x03\0\0\0\0\0\0\0\0\0\0\0\x02\0\0\0\x01\0\0\0\0\0\0\0\x01\0\0\0\x02\0\0\0\0\0\0\0\0\
 \0\0\0\x03\0\0\0\0\0\0\0\0\0\0\0\x01\0\0\0\x02\0\0\0\0\0\0\0\x01\0\0\0\x03\0\0\0\0\0\0\0\0";
 
-/// The files of a desk: four nodes in a round, each edge of weight 1, with their order, two pairs, and the index.
-const FILES: [(&str, &[u8]); 4] = [
+/// The files of a desk: four nodes in a round, each edge of weight 1, with their order, two pairs, and the index; and one node.
+const FILES: [(&str, &[u8]); 5] = [
     ("g", b"p sp 4 4\na 1 2 1\na 2 3 1\na 3 4 1\na 4 1 1\n"),
     ("o", b"1\n2\n3\n4\n"),
     ("p", b"p aux sp p2p 2\nq 2 4\nq 1 3\n"),
     ("x", SQUARE_FILE),
+    ("one", b"p sp 1 0\n"),
 ];
 
 /// A command, and the bytes that it says; none for a build, which writes the index file.
-const COMMANDS: [(&str, &str); 10] = [
+const COMMANDS: [(&str, &str); 11] = [
     (
         "chl list --graph g --order o",
         "l 1 1 0\nl 2 1 1 2 0\nl 3 1 2 2 1 3 0\nl 4 1 1 3 1 4 0\n",
@@ -58,6 +59,7 @@ const COMMANDS: [(&str, &str); 10] = [
     ),
     ("chl audit --graph g --order o --index x", "same\n"),
     ("chl degree --graph g", ROUND_ORDER),
+    ("chl rank --graph one", "1\n"),
     (
         "chl grid --side 2 --seed 1",
         "grid 2 1\nnodes 4 edges 4\nplant 10 35\nlcc 10 35\ngll 10 35\n",

@@ -32,6 +32,10 @@ pub returns-in-Degree : goal.returns-in-Degree
 returns-in-Degree g c =
     rw c.in-Degree.is (rw c.text-in-Degree.ensures at c.degree_output.ensures)
 
+pub returns-in-Rank : goal.returns-in-Rank
+returns-in-Rank g c =
+    rw c.in-Rank.is (rw c.text-in-Rank.ensures at c.rank_output.ensures)
+
 pub returns-in-Grid : goal.returns-in-Grid
 returns-in-Grid g c =
     rw c.in-Grid.is (goes_told _ _ c.grid_text.result _ c.grid_text.ensures c.text_output.ensures

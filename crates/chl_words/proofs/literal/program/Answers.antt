@@ -28,4 +28,5 @@ returns c =
     let five = c.with_command-program-5.ensures _ _ four c.path.ensures in
     let six = c.with_command-program-6.ensures _ _ five c.audit.ensures in
     let seven = c.with_command-program-7.ensures _ _ six c.degree.ensures in
-    c.with_command.ensures _ _ seven c.grid.ensures
+    let eight = c.with_command-program-8.ensures _ _ seven c.rank.ensures in
+    c.with_command.ensures _ _ eight c.grid.ensures
