@@ -25,12 +25,3 @@ both_may (suc (suc zero)) low high = raw_row (both_rows first later 2) (search r
 both_may (suc (suc (suc zero))) low high = raw_row (both_rows first later 3) (search rules) (search rules)
 both_may (suc (suc (suc (suc zero)))) low high = raw_row (both_rows first later 4) (search rules) (search rules)
 both_may (suc (suc (suc (suc (suc v))))) low high = absurd (omega (arith, high))
-
-pub later_may : (v : ℕ) → 1 ≤ v → v ≤ 4 → IsRawRow 4 (label_row later v)
-unfolding IsDistinct
-later_may zero low high = absurd (omega (arith, low))
-later_may (suc zero) low high = raw_row [] (search rules) (search rules)
-later_may (suc (suc zero)) low high = raw_row (label_row later 2) (search rules) (search rules)
-later_may (suc (suc (suc zero))) low high = raw_row (label_row later 3) (search rules) (search rules)
-later_may (suc (suc (suc (suc zero)))) low high = raw_row (label_row later 4) (search rules) (search rules)
-later_may (suc (suc (suc (suc (suc v))))) low high = absurd (omega (arith, high))

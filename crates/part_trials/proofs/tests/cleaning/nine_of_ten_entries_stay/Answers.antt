@@ -1,8 +1,5 @@
-use Rattle.part_trials.proofs.CleanedRows.{both_may, later_may}
+use Rattle.part_trials.proofs.CleanedRows.{both_may}
 use Rattle.part_trials.proofs.tests.cleaning.nine_of_ten_entries_stay.Goals as goal
 
 pub clean-requires-clause-both : goal.clean-requires-clause-both
 clean-requires-clause-both g c κs = rw (c.in_ok-ranking.ensures, c.in_ok-global.ensures, c.in_ok-raw.ensures) both_may
-
-pub survivors-requires-clause-raw_rows : goal.survivors-requires-clause-raw_rows
-survivors-requires-clause-raw_rows g c κs = rw (c.in_ok-ranking.ensures, c.in_ok-raw.ensures) later_may
