@@ -6,6 +6,7 @@ use super::one_to_four;
 use hub_index::RowList;
 use label_clean::clean;
 use std::alloc::Global;
+use std::process::Abort;
 use std::test::Fail;
 use walk_laws::Entry;
 
@@ -56,6 +57,15 @@ const SQUARE_ROWS: [&[Entry]; 4] = [
     ],
 ];
 
+/// Compares rows with those of the square.
+fn expect_square<R: Abort>(rt: &R, rows: &RowList) {
+    assert_eq!(rt; rows.n(), 4);
+    for (place, row) in SQUARE_ROWS.iter().enumerate() {
+        let v = place as u32 + 1;
+        assert_eq!(rt; rows.row(v), *row, "{v}");
+    }
+}
+
 /// Of the ten entries (1, 2) at node 4 alone is deleted, since the way of 1 + 1 over node 1 is no longer.
 #[test]
 fn nine_of_ten_entries_stay(rt: HostRuntime) -> Result<(), Fail> {
@@ -63,10 +73,6 @@ fn nine_of_ten_entries_stay(rt: HostRuntime) -> Result<(), Fail> {
     let global = first_hub(rt.alloc())?;
     let raw = later_entries(rt.alloc())?;
     let rows = clean(&rt, rt.alloc(), &ranking, &global, &raw)?;
-    assert_eq!(rt; rows.n(), 4);
-    for (place, row) in SQUARE_ROWS.iter().enumerate() {
-        let v = place as u32 + 1;
-        assert_eq!(rt; rows.row(v), *row, "{v}");
-    }
+    expect_square(&rt, &rows);
     Ok(())
 }

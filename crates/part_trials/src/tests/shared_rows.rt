@@ -22,9 +22,5 @@ fn what_one_seat_put_another_finds(rt: HostRuntime) -> Result<(), Fail> {
     );
     second.load_root(4, &mut table);
     assert_eq!(rt; table.get(0), Some(1));
-    let mut one = first.into_seat();
-    rows.join(&mut one, second.into_seat());
-    let raw = rows.close(one)?;
-    assert_eq!(rt; raw.row(4), [Entry { pos: 0, dist: 1 }].as_slice());
     Ok(())
 }

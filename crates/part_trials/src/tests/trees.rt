@@ -16,6 +16,22 @@ const TREES: [&[(u32, u64)]; 4] = [
     &[(4, 0)],
 ];
 
+/// Compares the tree of the position `p`, from 0.
+fn expect_tree<R: Abort + AllocGlobal>(
+    rt: &R,
+    graph: &Graph,
+    ranking: &Ranking,
+    p: u32,
+    tree: &[(u32, u64)],
+) -> Result<(), Fail>
+    requires nodes { length ranking.now ≡ graph.now.n }
+    requires position { p < length ranking.now }
+{
+    let planted = plant(rt.alloc(), graph, ranking, p)?;
+    assert_eq!(rt; planted.as_slice(), tree, "position {p}");
+    Ok(())
+}
+
 /// Checks how many nodes are settled for the tree of the position `p`, from 0.
 fn expect_settled<R: Abort + AllocGlobal>(
     rt: &R,
@@ -38,8 +54,7 @@ fn trees_of_the_square(rt: HostRuntime) -> Result<(), Fail> {
     let graph = square_graph(rt.alloc())?;
     let ranking = one_to_four(rt.alloc())?;
     for (p, tree) in TREES.iter().enumerate() {
-        let planted = plant(rt.alloc(), &graph, &ranking, p as u32)?;
-        assert_eq!(rt; planted.as_slice(), *tree, "position {p}");
+        expect_tree(&rt, &graph, &ranking, p as u32, tree)?;
     }
     expect_settled(&rt, &graph, &ranking, 0, 4)?;
     expect_settled(&rt, &graph, &ranking, 3, 1)

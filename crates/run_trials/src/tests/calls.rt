@@ -85,7 +85,7 @@ fn fails_once<R: Abort + AllocGlobal + Threads + Wait + Sync>(
 }
 
 /// Lets each call of a kind fail, until a run makes no more: how many have failed.
-fn failing<R: Abort + AllocGlobal + Threads + Wait + Sync>(
+fn failed_calls<R: Abort + AllocGlobal + Threads + Wait + Sync>(
     rt: &R,
     line: &str,
     said: &str,
@@ -104,7 +104,7 @@ fn each_call_fails_in_turn(rt: HostRuntime) -> Result<(), Fail> {
     let mut failed = 0u32;
     for (line, said) in &COMMANDS {
         for wanted in &CALLS {
-            failed = failed.saturating_add(failing(&rt, line, said, *wanted)?);
+            failed = failed.saturating_add(failed_calls(&rt, line, said, *wanted)?);
         }
     }
     assert!(rt; failed > 200);
