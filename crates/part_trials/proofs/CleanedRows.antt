@@ -3,7 +3,6 @@ use Rattle.std.proofs.Common.{ℕ, zero, suc, ◌<◌, ◌≤◌, List, [], ◌�
 use Rattle.std.specs.List.{IsDistinct, AllByRecursion}
 use Rattle.std.proofs.lemmas.List.Elements.{All-from_recursion}
 use Rattle.walk_laws.specs.declared.entry.Entry.{Entry}
-use Rattle.walk_laws.specs.Labelling.{label_row}
 use Rattle.walk_laws.specs.Worked.{entry}
 use Rattle.label_clean.specs.RawRows.{HasEachOnce, IsRawRow, both_rows}
 
