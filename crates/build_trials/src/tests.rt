@@ -12,7 +12,7 @@ use chl_cmd::By;
 use desk_io::{FreeGate, Gate};
 use gll_build::build_gll;
 use grid_work::grid_graph;
-use hub_index::{Entry, Index, RowList};
+use hub_index::Index;
 use index_file::encode;
 use lcc_build::build_lcc;
 use plant_build::build_plant;
@@ -65,7 +65,19 @@ fn build<R: Abort + AllocGlobal + Threads + Wait + Sync, G: Gate + Sync>(
     Ok(made?)
 }
 
-/// Checks that an index has the file of the one that LCC makes by one worker, which is none of the watched builds.
+/// The file of the index that LCC makes by one worker, which is none of the watched builds.
+fn wanted_file<R: AllocGlobal + Threads + Wait + Sync>(
+    rt: &R,
+    graph: &Graph,
+    ranking: &Ranking,
+) -> Result<Vec<u8>, Fail>
+    requires { length ranking.now ≡ graph.now.n }
+{
+    let index = build_lcc(rt, rt.alloc(), graph, ranking, 1, &FreeGate)?;
+    Ok(encode(rt.alloc(), &index)?)
+}
+
+/// Checks that an index has the wanted file.
 fn expect_file<R: Abort + AllocGlobal + Threads + Wait + Sync>(
     rt: &R,
     graph: &Graph,
@@ -74,39 +86,7 @@ fn expect_file<R: Abort + AllocGlobal + Threads + Wait + Sync>(
 ) -> Result<(), Fail>
     requires { length ranking.now ≡ graph.now.n }
 {
-    let alone = Built {
-        by: By::Lcc,
-        workers: 1,
-        cut: 1,
-    };
-    let wanted = build(rt, graph, ranking, alone, &FreeGate)?;
-    let wanted = encode(rt.alloc(), &wanted)?;
+    let wanted = wanted_file(rt, graph, ranking)?;
     assert!(rt; encode(rt.alloc(), index)?.as_slice() == wanted.as_slice());
     Ok(())
-}
-
-/// The rows of the grid of side 2, as they are worked in the docs. A smaller number ranks higher.
-const SMALL: [&[Entry]; 4] = [
-    &[Entry { pos: 0, dist: 0 }],
-    &[Entry { pos: 0, dist: 7 }, Entry { pos: 1, dist: 0 }],
-    &[
-        Entry { pos: 0, dist: 7 },
-        Entry { pos: 1, dist: 6 },
-        Entry { pos: 2, dist: 0 },
-    ],
-    &[
-        Entry { pos: 0, dist: 9 },
-        Entry { pos: 1, dist: 2 },
-        Entry { pos: 2, dist: 4 },
-        Entry { pos: 3, dist: 0 },
-    ],
-];
-
-/// Compares rows with those of the grid of side 2.
-fn expect_small<R: Abort>(rt: &R, rows: &RowList) {
-    assert_eq!(rt; rows.n(), 4);
-    for (place, row) in SMALL.iter().enumerate() {
-        let v = place as u32 + 1;
-        assert_eq!(rt; rows.row(v), *row, "{v}");
-    }
 }

@@ -1,4 +1,4 @@
-//! Runs over a desk in memory, whose calls move few bytes or fail, and the real desk over real files: tests alone.
+//! Runs over a desk in memory, whose calls move few bytes or fail: tests alone.
 #![tactic(auto)]
 
 #[cfg(test)]

@@ -2,12 +2,10 @@
 ghost use Rattle.std.specs.Prelude.{◌<◌};
 
 mod calls;
-mod desks;
-mod few_bytes;
 mod pieces;
 
 use chl_cmd::{Status, run};
-use desk_io::{Feed, FreeGate};
+use desk_io::FreeGate;
 use mem_desk::{Call, MemDesk};
 use std::alloc::{AllocError, Global};
 use std::process::Abort;
@@ -99,20 +97,4 @@ fn status_of<R: AllocGlobal + Threads + Wait + Sync>(
 /// What the created file holds; None where there is none.
 fn written(desk: &MemDesk) -> Option<&[u8]> {
     desk.file("y")
-}
-
-/// A feed that keeps what it is handed.
-#[derive(Drop)]
-struct Kept {
-    bytes: Vec<u8>,
-}
-
-impl Feed for Kept {
-    type Fault = AllocError;
-
-    ghost feed_gives = { λ _ _ _ _. Unit {0} };
-
-    fn feed(&mut self, piece: &[u8]) -> Result<(), AllocError> {
-        self.bytes.extend_from_slice(piece)
-    }
 }

@@ -10,8 +10,8 @@ fn a_hand_takes_all_batches(rt: HostRuntime) -> Result<(), Fail> {
     let (mut hands, left) = deal(rt.alloc(), 4, 2)?;
     assert!(rt; left.is_empty());
     let first = &mut hands[0];
-    for batch in [Some(0), Some(2), Some(1), Some(3), None] {
-        assert_eq!(rt; first.take(&rt), batch);
+    for batch in &[Some(0), Some(2), Some(1), Some(3), None] {
+        assert_eq!(rt; first.take(&rt), *batch);
     }
     Ok(())
 }
@@ -32,17 +32,17 @@ fn what_no_hand_took_is_left(rt: HostRuntime) -> Result<(), Fail> {
 /// with it, while the caller would plant only after that what no worker took.
 #[test]
 fn workers_plant_more_than_a_thousand_batches(rt: HostRuntime) -> Result<(), Fail> {
-    let (graph, ranking) = grid(&rt, rt.alloc(), 33)?;
+    let made = grid(&rt, rt.alloc(), 33)?;
     let watch = Watch::new(rt.alloc(), 1089, Order::FirstAfterAll)?;
     let built = Built {
         by: By::Plant,
         workers: 3,
         cut: 1,
     };
-    let index = build(&rt, &graph, &ranking, built, &watch)?;
+    let index = build(&rt, &made.0, &made.1, built, &watch)?;
     assert!(rt; watch.all_came());
     for p in 0..1089 {
         assert_eq!(rt; watch.begun.at(p), 1, "{p}");
     }
-    expect_file(&rt, &graph, &ranking, &index)
+    expect_file(&rt, &made.0, &made.1, &index)
 }

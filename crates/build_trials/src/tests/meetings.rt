@@ -18,25 +18,56 @@ fn put(desk: &mut MemDesk, name: &str, bytes: &[u8]) -> Result<(), AllocError> {
     desk.put_file(name, bytes)
 }
 
+/// A desk with the files.
+fn square_desk(alloc: Global) -> Result<MemDesk, AllocError> {
+    let mut desk = MemDesk::new(alloc, 4096, Vec::new(alloc))?;
+    for (name, bytes) in &FILES {
+        put(&mut desk, name, bytes)?;
+    }
+    Ok(desk)
+}
+
+/// The words of a line.
+fn words_of(alloc: Global, line: &str) -> Result<Vec<String>, AllocError> {
+    let mut words = Vec::new(alloc);
+    for word in line.split_whitespace() {
+        words.push(String::from_str(alloc, word)?)?;
+    }
+    Ok(words)
+}
+
+/// Runs a line over a desk with the square, watched by a gate: how it ended.
+fn status_of<R: AllocGlobal + Threads + Wait + Sync>(
+    rt: &R,
+    line: &str,
+    watch: &Watch,
+) -> Result<Status, AllocError> {
+    let words = words_of(rt.alloc(), line)?;
+    let mut desk = square_desk(rt.alloc())?;
+    Ok(run(rt, rt.alloc(), &words, &mut desk, watch))
+}
+
 /// Runs a line over a desk with the square, to the end, under a watch.
 fn run_square<R: Abort + AllocGlobal + Threads + Wait + Sync>(
     rt: &R,
     line: &str,
     order: Order,
 ) -> Result<Watch, Fail> {
-    let alloc = rt.alloc();
-    let mut words = Vec::new(alloc);
-    for word in line.split_whitespace() {
-        words.push(String::from_str(alloc, word)?)?;
-    }
-    let mut desk = MemDesk::new(alloc, 4096, Vec::new(alloc))?;
-    for (name, bytes) in &FILES {
-        put(&mut desk, name, bytes)?;
-    }
-    let watch = Watch::new(alloc, 4, order)?;
-    assert_eq!(rt; run(rt, alloc, &words, &mut desk, &watch), Status::Done);
+    let watch = Watch::new(rt.alloc(), 4, order)?;
+    assert_eq!(rt; status_of(rt, line, &watch)?, Status::Done);
     assert!(rt; watch.all_came(), "{line}");
     Ok(watch)
+}
+
+/// How many entries the tree of a root puts, given by its position, from 0.
+fn puts_at<R: Abort + AllocGlobal + Threads + Wait + Sync>(
+    rt: &R,
+    line: &str,
+    order: Order,
+    p: u32,
+) -> Result<u32, Fail> {
+    let watch = run_square(rt, line, order)?;
+    Ok(watch.puts.at(p))
 }
 
 /// Checks how many entries the tree of root 1 puts where it grows before that of root 0, and where it grows after it.
@@ -45,10 +76,26 @@ fn expect_meeting<R: Abort + AllocGlobal + Threads + Wait + Sync>(
     line: &str,
     puts: (u32, u32),
 ) -> Result<(), Fail> {
-    let watch = run_square(rt, line, Order::SecondBeforeFirst)?;
-    assert_eq!(rt; watch.puts.at(1), puts.0, "{line}");
-    let watch = run_square(rt, line, Order::FirstBeforeSecond)?;
-    assert_eq!(rt; watch.puts.at(1), puts.1, "{line}");
+    let before = puts_at(rt, line, Order::SecondBeforeFirst, 1)?;
+    let after = puts_at(rt, line, Order::FirstBeforeSecond, 1)?;
+    assert_eq!(rt; (before, after), puts, "{line}");
+    Ok(())
+}
+
+/// With how many workers two of them have to meet.
+const WORKERS: [u32; 3] = [2, 3, 64];
+
+/// The same of a command by a construction, with each of these numbers of workers.
+fn expect_meetings<R: Abort + AllocGlobal + Threads + Wait + Sync>(
+    rt: &R,
+    command: &str,
+    by: &str,
+    puts: (u32, u32),
+) -> Result<(), Fail> {
+    for workers in &WORKERS {
+        let line = format!(in rt.alloc(); "{command} --by {by} --workers {workers}")?;
+        expect_meeting(rt, line.as_str(), puts)?;
+    }
     Ok(())
 }
 
@@ -58,17 +105,17 @@ const COMMANDS: [&str; 2] = [
     "chl solve --graph g --order o --pairs q",
 ];
 
+/// The constructions, each with what the tree of root 1 puts before and after that of root 0.
+const PUTS: [(&str, (u32, u32)); 3] = [("plant", (2, 2)), ("lcc", (3, 2)), ("gll", (3, 2))];
+
 /// Two workers have roots 0 and 1 at the same time, whatever the construction and the number of workers. A pruned tree of root 1
 /// puts three entries where it grows before that of root 0, and two after it: it finds then that node 1 covers the way to
 /// node 4. A planted one puts two.
 #[test]
 fn two_roots_at_once(rt: HostRuntime) -> Result<(), Fail> {
-    for command in COMMANDS {
-        for (by, puts) in [("plant", (2, 2)), ("lcc", (3, 2)), ("gll", (3, 2))] {
-            for workers in [2u32, 3, 64] {
-                let line = format!(in rt.alloc(); "{command} --by {by} --workers {workers}")?;
-                expect_meeting(&rt, line.as_str(), puts)?;
-            }
+    for command in &COMMANDS {
+        for (by, puts) in &PUTS {
+            expect_meetings(&rt, command, by, *puts)?;
         }
     }
     Ok(())
@@ -79,8 +126,21 @@ fn two_roots_at_once(rt: HostRuntime) -> Result<(), Fail> {
 #[test]
 fn a_worker_goes_on_while_another_is_late(rt: HostRuntime) -> Result<(), Fail> {
     let line = "chl build --graph g --order o --out x --by gll --workers 2 --cut 3";
-    let watch = run_square(&rt, line, Order::ThirdBeforeSecond)?;
-    assert_eq!(rt; watch.puts.at(2), 2);
+    assert_eq!(rt; puts_at(&rt, line, Order::ThirdBeforeSecond, 2)?, 2);
+    Ok(())
+}
+
+/// Checks how often a run tells its gate that the tree of a root begins, and that it ends.
+fn expect_told<R: Abort + AllocGlobal + Threads + Wait + Sync>(
+    rt: &R,
+    line: &str,
+    times: u32,
+) -> Result<(), Fail> {
+    let watch = run_square(rt, line, Order::Free)?;
+    for p in 0..4 {
+        let told = (watch.begun.at(p), watch.ended.at(p));
+        assert_eq!(rt; told, (times, times), "{line}");
+    }
     Ok(())
 }
 
@@ -88,16 +148,7 @@ fn a_worker_goes_on_while_another_is_late(rt: HostRuntime) -> Result<(), Fail> {
 /// constructions.
 #[test]
 fn a_run_tells_of_each_root(rt: HostRuntime) -> Result<(), Fail> {
-    for (line, times) in [
-        ("chl build --graph g --order o --out x --workers 2", 1u32),
-        ("chl solve --graph g --order o --pairs q --by gll", 1),
-        ("chl grid --side 2 --seed 1 --workers 2", 3),
-    ] {
-        let watch = run_square(&rt, line, Order::Free)?;
-        for p in 0..4 {
-            assert_eq!(rt; watch.begun.at(p), times, "{line}");
-            assert_eq!(rt; watch.ended.at(p), times, "{line}");
-        }
-    }
-    Ok(())
+    expect_told(&rt, "chl build --graph g --order o --out x --workers 2", 1)?;
+    expect_told(&rt, "chl solve --graph g --order o --pairs q --by gll", 1)?;
+    expect_told(&rt, "chl grid --side 2 --seed 1 --workers 2", 3)
 }

@@ -5,6 +5,29 @@ use super::gates::{Order, Watch};
 use super::*;
 use grid_work::totals_of;
 
+/// How many entries the trees of all roots have put.
+fn all_puts(watch: &Watch, n: u32) -> u64 {
+    let mut puts = 0u64;
+    for p in 0..n {
+        puts = puts.saturating_add(u64::from(watch.puts.at(p)));
+    }
+    puts
+}
+
+/// How many entries the index of a graph has that a construction gives under a watch.
+fn entries_of<R: Abort + AllocGlobal + Threads + Wait + Sync>(
+    rt: &R,
+    graph: &Graph,
+    ranking: &Ranking,
+    built: Built,
+    watch: &Watch,
+) -> Result<u64, Fail>
+    requires { length ranking.now ≡ graph.now.n }
+{
+    let index = build(rt, graph, ranking, built, watch)?;
+    Ok(totals_of(&index).entries)
+}
+
 /// Builds the index of a graph by several workers whose trees grow one after another, by rising position, whoever grows them. It
 /// answers how many entries the index has, and how many more the trees have put: those of which a tree found no cover, since
 /// another worker had put it where this one doesn't see it.
@@ -17,13 +40,9 @@ fn in_turn<R: Abort + AllocGlobal + Threads + Wait + Sync>(
     requires { length ranking.now ≡ graph.now.n }
 {
     let watch = Watch::new(rt.alloc(), graph.n(), Order::InTurn)?;
-    let index = build(rt, graph, ranking, built, &watch)?;
+    let entries = entries_of(rt, graph, ranking, built, &watch)?;
     assert!(rt; watch.all_came());
-    let entries = totals_of(&index).entries;
-    let mut puts = 0u64;
-    for p in 0..graph.n() {
-        puts = puts.saturating_add(u64::from(watch.puts.at(p)));
-    }
+    let puts = all_puts(&watch, graph.n());
     assert!(rt; puts >= entries);
     Ok((entries, puts - entries))
 }
@@ -32,15 +51,15 @@ fn in_turn<R: Abort + AllocGlobal + Threads + Wait + Sync>(
 /// index has: over the rows that LCC shares, and by way of the pool.
 #[test]
 fn what_is_put_is_found(rt: HostRuntime) -> Result<(), Fail> {
-    let (graph, ranking) = grid(&rt, rt.alloc(), 20)?;
-    for (by, cut) in [(By::Lcc, 1), (By::Gll, 1 << 16)] {
+    let made = grid(&rt, rt.alloc(), 20)?;
+    for (by, cut) in &[(By::Lcc, 1), (By::Gll, 1 << 16)] {
         let built = Built {
-            by,
+            by: *by,
             workers: 4,
-            cut,
+            cut: *cut,
         };
-        let (_entries, more) = in_turn(&rt, &graph, &ranking, built)?;
-        assert_eq!(rt; more, 0, "{by:?}");
+        let (_entries, more) = in_turn(&rt, &made.0, &made.1, built)?;
+        assert_eq!(rt; more, 0, "{built:?}");
     }
     Ok(())
 }
@@ -49,13 +68,13 @@ fn what_is_put_is_found(rt: HostRuntime) -> Result<(), Fail> {
 /// than a tenth more than the index has.
 #[test]
 fn most_puts_find_a_cell(rt: HostRuntime) -> Result<(), Fail> {
-    let (graph, ranking) = grid(&rt, rt.alloc(), 40)?;
+    let made = grid(&rt, rt.alloc(), 40)?;
     let built = Built {
         by: By::Gll,
         workers: 4,
         cut: 16384,
     };
-    let (entries, more) = in_turn(&rt, &graph, &ranking, built)?;
+    let (entries, more) = in_turn(&rt, &made.0, &made.1, built)?;
     assert!(rt; more < entries / 10, "{more} of {entries}");
     Ok(())
 }

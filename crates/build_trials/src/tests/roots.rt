@@ -17,6 +17,12 @@ fn entries_at(index: &Index, p: u32) -> u32 {
     entries
 }
 
+/// Checks that the tree of a root has put as many entries as the index has of it; or no fewer, where it may put more than that.
+fn expect_puts<R: Abort>(rt: &R, index: &Index, p: u32, puts: u32, exact: bool) {
+    let more = puts.checked_sub(entries_at(index, p));
+    assert!(rt; more == Some(0) || more.is_some() && !exact, "{p}");
+}
+
 /// Checks that each root of a build began once, ended once and put what the index has of it; or no less, where trees may put
 /// more than that.
 fn expect_roots<R: Abort + AllocGlobal + Threads + Wait + Sync>(
@@ -33,11 +39,7 @@ fn expect_roots<R: Abort + AllocGlobal + Threads + Wait + Sync>(
     for p in 0..graph.n() {
         let told = (watch.begun.at(p), watch.ended.at(p));
         assert_eq!(rt; told, (1, 1), "{p} {built:?}");
-        let more = watch.puts.at(p).checked_sub(entries_at(&index, p));
-        assert!(rt;
-            more == Some(0) || more.is_some() && !exact,
-            "{p} {built:?}"
-        );
+        expect_puts(rt, &index, p, watch.puts.at(p), exact);
     }
     expect_file(rt, graph, ranking, &index)
 }
@@ -46,16 +48,16 @@ fn expect_roots<R: Abort + AllocGlobal + Threads + Wait + Sync>(
 /// put the entries of the index, and so do pruned ones of one worker; those of many put maybe more, which cleaning deletes.
 #[test]
 fn each_root_grows_once(rt: HostRuntime) -> Result<(), Fail> {
-    let (graph, ranking) = grid(&rt, rt.alloc(), 6)?;
-    for by in [By::Plant, By::Lcc, By::Gll] {
-        for workers in [1, 2, 4] {
+    let made = grid(&rt, rt.alloc(), 6)?;
+    for by in &[By::Plant, By::Lcc, By::Gll] {
+        for workers in &[1, 2, 4] {
             let built = Built {
-                by,
-                workers,
+                by: *by,
+                workers: *workers,
                 cut: 16,
             };
-            let exact = by == By::Plant || workers == 1;
-            expect_roots(&rt, &graph, &ranking, built, exact)?;
+            let exact = *by == By::Plant || *workers == 1;
+            expect_roots(&rt, &made.0, &made.1, built, exact)?;
         }
     }
     Ok(())

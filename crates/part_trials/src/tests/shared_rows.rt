@@ -6,28 +6,21 @@ use label_rows::{RowHand, Rows};
 use std::test::Fail;
 use walk_laws::Entry;
 
-/// What one seat put at a node is found there by both.
+/// The second seat finds what the first one put before it has put anything itself.
 #[test]
-fn what_one_seat_put_both_find(rt: HostRuntime) -> Result<(), Fail> {
+fn what_one_seat_put_another_finds(rt: HostRuntime) -> Result<(), Fail> {
     let graph = square_graph(rt.alloc())?;
     let ranking = one_to_four(rt.alloc())?;
     let (rows, mut one) = Rows::new(rt.alloc(), &graph, &ranking, 2)?;
     let two = rows.split(&mut one, 0);
-    let mut first_table = RootTable::new(rt.alloc(), 4)?;
-    let mut second_table = RootTable::new(rt.alloc(), 4)?;
+    let mut table = RootTable::new(rt.alloc(), 4)?;
     let mut first = RowHand::new(&rt, &rows, one);
     let mut second = RowHand::new(&rt, &rows, two);
     assert_eq!(rt;
-        first.offer(4, Entry { pos: 0, dist: 1 }, &first_table),
+        first.offer(4, Entry { pos: 0, dist: 1 }, &table),
         Offer::Put
     );
-    first.load_root(4, &mut first_table);
-    second.load_root(4, &mut second_table);
-    assert_eq!(rt; first_table.get(0), Some(1));
-    assert_eq!(rt; second_table.get(0), Some(1));
-    let mut one = first.into_seat();
-    rows.join(&mut one, second.into_seat());
-    let raw = rows.close(one)?;
-    assert_eq!(rt; raw.row(4), [Entry { pos: 0, dist: 1 }].as_slice());
+    second.load_root(4, &mut table);
+    assert_eq!(rt; table.get(0), Some(1));
     Ok(())
 }

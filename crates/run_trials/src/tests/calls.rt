@@ -1,13 +1,41 @@
 //! Each call of a desk fails in turn.
+
 use super::*;
 
-/// Each kind of call, the status where one fails, and how many calls of the input and of the output have failed then.
-const CALLS: [(Call, Status, (u64, u64)); 5] = [
-    (Call::OpenIn, Status::ReadFault, (1, 0)),
-    (Call::Read, Status::ReadFault, (1, 0)),
-    (Call::Create, Status::WriteFault, (0, 1)),
-    (Call::Write, Status::WriteFault, (0, 1)),
-    (Call::Say, Status::WriteFault, (0, 1)),
+/// A kind of call, the status where one fails, and how many calls of the input and of the output have failed then.
+#[derive(Clone, Copy)]
+struct Failing {
+    call: Call,
+    status: Status,
+    faults: (u64, u64),
+}
+
+const CALLS: [Failing; 5] = [
+    Failing {
+        call: Call::OpenIn,
+        status: Status::ReadFault,
+        faults: (1, 0),
+    },
+    Failing {
+        call: Call::Read,
+        status: Status::ReadFault,
+        faults: (1, 0),
+    },
+    Failing {
+        call: Call::Create,
+        status: Status::WriteFault,
+        faults: (0, 1),
+    },
+    Failing {
+        call: Call::Write,
+        status: Status::WriteFault,
+        faults: (0, 1),
+    },
+    Failing {
+        call: Call::Say,
+        status: Status::WriteFault,
+        faults: (0, 1),
+    },
 ];
 
 /// More calls of a kind than any of these runs makes.
@@ -18,47 +46,65 @@ fn is_prefix(prefix: &[u8], whole: &[u8]) -> bool {
     whole.get(..prefix.len()) == Some(prefix)
 }
 
-/// Lets the k-th call of a kind fail, and runs the command twice on that desk: whether the first run was done. Where it was
-/// not, it ends with the fault of that kind, which is counted once, after a prefix of the bytes; and there is no file where
-/// none was created. The second run gives all bytes, after what the first has said.
+/// Checks a run that failed: it ended with the fault of its kind, which is counted once, after a prefix of the bytes; and there
+/// is no file where none was created.
+fn expect_stop<R: Abort>(rt: &R, desk: &MemDesk, status: Status, said: &str, wanted: Failing) {
+    assert_eq!(rt; status, wanted.status);
+    assert_eq!(rt; desk.faults(), wanted.faults);
+    assert!(rt; is_prefix(desk.said(), said.as_bytes()));
+    assert!(rt; is_prefix(written(desk).unwrap_or(b""), SQUARE_FILE));
+    assert_eq!(rt; written(desk).is_some(), wanted.call == Call::Write);
+}
+
+/// Checks what a run that is done has given: all that it says, after so many bytes that were said before, or else the file.
+fn expect_all<R: Abort>(rt: &R, desk: &MemDesk, before: usize, said: &str) {
+    assert!(rt; desk.said().get(before..) == Some(said.as_bytes()));
+    assert!(rt; !said.is_empty() || written(desk) == Some(SQUARE_FILE));
+}
+
+/// Lets the k-th call of a kind fail, and runs the command: whether it was done. Where it was not, a second run on that desk
+/// gives all bytes, after what the first has said.
 fn fails_once<R: Abort + AllocGlobal + Threads + Wait + Sync>(
     rt: &R,
     line: &str,
     said: &str,
-    fails: (Call, u32),
-    wanted: (Status, (u64, u64)),
+    wanted: Failing,
+    k: u32,
 ) -> Result<bool, Fail> {
-    let mut desk = desk_of(rt.alloc(), 8, &[fails])?;
+    let mut desk = desk_of(rt.alloc(), 8, &[(wanted.call, k)])?;
     let status = status_of(rt, line, &mut desk)?;
-    let is_done = status == Status::Done;
-    let mut all = Vec::new(rt.alloc());
-    if !is_done {
-        assert_eq!(rt; status, wanted.0);
-        assert_eq!(rt; desk.faults(), wanted.1);
-        assert!(rt; is_prefix(desk.said(), said.as_bytes()));
-        assert!(rt; is_prefix(written(&desk).unwrap_or(b""), SQUARE_FILE));
-        assert_eq!(rt; written(&desk).is_some(), fails.0 == Call::Write);
-        all.extend_from_slice(desk.said())?;
-        assert_eq!(rt; status_of(rt, line, &mut desk)?, Status::Done);
+    if status == Status::Done {
+        expect_all(rt, &desk, 0, said);
+        return Ok(true);
     }
-    all.extend_from_slice(said.as_bytes())?;
-    assert_eq!(rt; desk.said(), all.as_slice());
-    assert!(rt; !said.is_empty() || written(&desk) == Some(SQUARE_FILE));
-    Ok(is_done)
+    expect_stop(rt, &desk, status, said, wanted);
+    let before = desk.said().len();
+    assert_eq!(rt; status_of(rt, line, &mut desk)?, Status::Done);
+    expect_all(rt, &desk, before, said);
+    Ok(false)
 }
 
-/// Lets each call of each kind fail, until a run makes no more.
+/// Lets each call of a kind fail, until a run makes no more: how many have failed.
+fn failed_calls<R: Abort + AllocGlobal + Threads + Wait + Sync>(
+    rt: &R,
+    line: &str,
+    said: &str,
+    wanted: Failing,
+) -> Result<u32, Fail> {
+    for k in 1..MOST {
+        if fails_once(rt, line, said, wanted, k)? {
+            return Ok(k - 1);
+        }
+    }
+    Ok(MOST)
+}
+
 #[test]
 fn each_call_fails_in_turn(rt: HostRuntime) -> Result<(), Fail> {
     let mut failed = 0u32;
-    for (line, said) in COMMANDS {
-        for (call, status, faults) in CALLS {
-            for k in 1..MOST {
-                if fails_once(&rt, line, said, (call, k), (status, faults))? {
-                    break;
-                }
-                failed = failed.saturating_add(1);
-            }
+    for (line, said) in &COMMANDS {
+        for wanted in &CALLS {
+            failed = failed.saturating_add(failed_calls(&rt, line, said, *wanted)?);
         }
     }
     assert!(rt; failed > 200);

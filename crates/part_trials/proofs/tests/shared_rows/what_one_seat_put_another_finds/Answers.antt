@@ -1,6 +1,6 @@
 use Rattle.std.proofs.Common.{◌∙◌, ap}
 use Rattle.hub_index.proofs.SquareEntries.{fits_four}
-use Rattle.part_trials.proofs.tests.shared_rows.what_one_seat_put_both_find.Goals as goal
+use Rattle.part_trials.proofs.tests.shared_rows.what_one_seat_put_another_finds.Goals as goal
 
 pub offer-requires-clause-fits : goal.offer-requires-clause-fits
 offer-requires-clause-fits g c =
