@@ -1,3 +1,4 @@
+use crate::costs::{cost_of, first_keys};
 use crate::road::{Road, key_of, node_of};
 use crate::roads::Roads;
 use crate::table::{number_at, set_number};
@@ -6,13 +7,11 @@ use crate::witness::{Shortcut, Witnesses};
 use std::alloc::{AllocError, Global};
 use std::cmp::Reverse;
 use std::collections::BinaryHeap;
+use std::thread::Threads;
 use walk_laws::Graph;
 
-/// A node of more neighbours is not contracted.
-pub const MOST_NEIGHBOURS: usize = 24;
-
 /// A graph whose nodes are contracted, lowest rank first: a node is taken out, and shortcuts are put in so that all distances
-/// between the others stay. (Contraction hierarchies, WEA 2008.)
+/// between the others stay.
 #[derive(Drop)]
 pub struct Contraction {
     /// What is left of the graph.
@@ -45,11 +44,16 @@ impl Contraction {
     }
 
     /// Contracts so many of the nodes 1..n, or as many as have few neighbours.
-    pub fn contract(&mut self, n: u32, many: u32) -> Result<(), AllocError> {
-        for k in 0..n {
-            if let Some(cost) = self.cost(k + 1)? {
-                self.queue.push(Reverse(key_of(cost, k + 1)))?;
-            }
+    pub fn contract<R: Threads + Sync>(
+        &mut self,
+        rt: &R,
+        alloc: Global,
+        n: u32,
+        many: u32,
+    ) -> Result<(), AllocError> {
+        let keys = first_keys(rt, alloc, &self.roads, n)?;
+        for key in keys.as_slice() {
+            self.queue.push(Reverse(*key))?;
         }
         for _ in 0..many {
             let Some(node) = self.cheapest()? else {
@@ -80,16 +84,16 @@ impl Contraction {
         Ok(None)
     }
 
-    /// What it costs to contract a node: how high it stands above those that were, and how many shortcuts it needs for each
-    /// road that it takes away. None where it has too many neighbours. Its shortcuts are then in hand.
+    /// What it costs now to contract a node, whose shortcuts are then in hand. None where it has too many neighbours.
     fn cost(&mut self, node: u32) -> Result<Option<u32>, AllocError> {
-        let many = self.roads.row(node).len();
-        if many > MOST_NEIGHBOURS {
-            return Ok(None);
-        }
-        self.witnesses.shortcuts(&self.roads, node, &mut self.cuts)?;
-        let height = number_at(&self.levels, node, 0).saturating_mul(1000);
-        Ok(Some(height.saturating_add(thousandths(self.cuts.len(), many))))
+        let level = number_at(&self.levels, node, 0);
+        cost_of(
+            &self.roads,
+            node,
+            level,
+            &mut self.witnesses,
+            &mut self.cuts,
+        )
     }
 
     /// Contracts the node whose shortcuts are in hand.
@@ -108,12 +112,4 @@ impl Contraction {
         self.contracted.push(node)?;
         Ok(())
     }
-}
-
-/// Four times the number of shortcuts for each road, in thousandths.
-fn thousandths(cuts: usize, roads: usize) -> u32 {
-    if roads == 0 {
-        return 0;
-    }
-    u32::try_from(cuts.saturating_mul(4000) / roads).unwrap_or(u32::MAX)
 }

@@ -7,8 +7,10 @@
 
 mod contraction;
 mod core_roads;
+mod costs;
 mod cover;
 mod forest;
+mod grove;
 mod growing;
 mod order;
 mod road;
@@ -17,5 +19,6 @@ mod table;
 mod thinning;
 mod weights;
 mod witness;
+mod worths;
 
 pub use order::contraction_order;

@@ -1,8 +1,9 @@
 ghost use Rattle.std.specs.Prelude.{◌≡◌, ◌≤◌, ◌^◌, length, IfOk};
 ghost use Rattle.walk_laws.specs.Ranking.{IsRanking};
 
-use crate::contraction::{Contraction, MOST_NEIGHBOURS};
+use crate::contraction::Contraction;
 use crate::core_roads::CoreRoads;
+use crate::costs::MOST_NEIGHBOURS;
 use crate::cover::cover_order;
 use crate::roads::neighbours_of;
 use crate::table::{number_at, set_number};
@@ -18,9 +19,9 @@ const GREATEST_CORE: u32 = 16_000;
 /// A ranking of all nodes of a graph under which its hub labelling is small: nodes are contracted, lowest rank first, the one
 /// whose contraction costs least next; the core that is left, some 8 sqrt(n) of n nodes, is ranked by a greedy cover of its
 /// shortest paths. Where much more than that is left, since many nodes have many neighbours, the core is ranked by degree. It
-/// is the same each time. The only error is that memory ran out.
+/// is the same each time, by however many threads it is made. The only error is that memory ran out.
 pub fn contraction_order<R: Threads + Sync>(
-    _rt: &R,
+    rt: &R,
     alloc: Global,
     graph: &Graph,
 ) -> Result<Ranking, AllocError>
@@ -32,9 +33,9 @@ pub fn contraction_order<R: Threads + Sync>(
         return by_degree(alloc, graph);
     }
     let mut contraction = Contraction::new(alloc, graph)?;
-    contraction.contract(n, n.saturating_sub(keep))?;
+    contraction.contract(rt, alloc, n, n.saturating_sub(keep))?;
     let core = core_of(alloc, graph, &mut contraction)?;
-    let core = ranked_core(alloc, n, &contraction, core, keep)?;
+    let core = ranked_core(rt, alloc, n, &contraction, core, keep)?;
     let places = places_of(alloc, n, &core, &contraction.contracted)?;
     let nodes = nodes_by_place(alloc, n, &places)?;
     Ranking::new(alloc, nodes)
@@ -83,7 +84,8 @@ fn core_of(
 }
 
 /// The nodes of the core, highest rank first. It is given by falling degree, and stays so where it is much too large.
-fn ranked_core(
+fn ranked_core<R: Threads + Sync>(
+    rt: &R,
     alloc: Global,
     n: u32,
     contraction: &Contraction,
@@ -95,7 +97,7 @@ fn ranked_core(
     }
     let roads = CoreRoads::of(alloc, &contraction.roads, n, &core)?;
     let weights = weights_of(alloc, n, contraction, &core)?;
-    let order = cover_order(alloc, &roads, &weights)?;
+    let order = cover_order(rt, alloc, &roads, &weights)?;
     let mut ranked = Vec::with_capacity(alloc, core.len())?;
     for place in order.as_slice() {
         ranked.push(number_at(&core, *place, 0))?;
