@@ -32,14 +32,15 @@ pub fn thinned(alloc: Global, core: &CoreRoads) -> Result<CoreRoads, AllocError>
 fn strike_detours(core: &CoreRoads, row: &[Road], best: &mut [u32]) {
     for first in row {
         for second in core.row(first.to) {
-            let whole = number_at(best, second.to, FAR);
-            if whole < FAR
-                && first.length < whole
-                && second.length < whole
-                && first.length.saturating_add(second.length) <= whole
-            {
+            if is_detour(number_at(best, second.to, FAR), first.length, second.length) {
                 set_number(best, second.to, 0);
             }
         }
     }
+}
+
+/// Whether two shorter roads stand for a road of this length. There is none of length FAR.
+#[inline(always)]
+fn is_detour(whole: u32, first: u32, second: u32) -> bool {
+    whole < FAR && first < whole && second < whole && first.saturating_add(second) <= whole
 }
