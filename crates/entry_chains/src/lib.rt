@@ -9,8 +9,6 @@
 
 mod chains;
 mod node_chain;
-#[cfg(test)]
-mod tests;
 
 pub use chains::Chains;
 pub use node_chain::NodeChain;

@@ -1,9 +1,8 @@
 use crate::costs::{cost_of, first_keys};
-use crate::road::{Road, key_of, node_of};
 use crate::roads::Roads;
-use crate::table::{number_at, set_number};
 use crate::weights::Weights;
 use crate::witness::{Shortcut, Witnesses};
+use path_cover::{Road, key_of, node_of, number_at, set_number};
 use std::alloc::{AllocError, Global};
 use std::cmp::Reverse;
 use std::collections::BinaryHeap;

@@ -1,6 +1,6 @@
-use crate::road::key_of;
 use crate::roads::Roads;
 use crate::witness::{Shortcut, Witnesses};
+use path_cover::key_of;
 use std::alloc::{AllocError, Global};
 use std::thread::{self, Threads};
 

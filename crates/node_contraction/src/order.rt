@@ -2,24 +2,23 @@ ghost use Rattle.std.specs.Prelude.{◌≡◌, ◌≤◌, ◌^◌, length, IfOk}
 ghost use Rattle.walk_laws.specs.Ranking.{IsRanking};
 
 use crate::contraction::Contraction;
-use crate::core_roads::CoreRoads;
 use crate::costs::MOST_NEIGHBOURS;
-use crate::cover::cover_order;
 use crate::roads::neighbours_of;
-use crate::table::{number_at, set_number};
+use path_cover::{cover_order, number_at, set_number};
 use rank_table::{Ranking, by_degree};
 use std::alloc::{AllocError, Global};
 use std::cmp::Reverse;
 use std::thread::Threads;
 use walk_laws::Graph;
 
-/// A core of more nodes is kept small, whatever the graph.
+/// The core is to have no more nodes, whatever the graph.
 const GREATEST_CORE: u32 = 16_000;
 
 /// A ranking of all nodes of a graph under which its hub labelling is small: nodes are contracted, lowest rank first, the one
 /// whose contraction costs least next; the core that is left, some 8 sqrt(n) of n nodes, is ranked by a greedy cover of its
-/// shortest paths. Where much more than that is left, since many nodes have many neighbours, the core is ranked by degree. It
-/// is the same each time, by however many threads it is made. The only error is that memory ran out.
+/// shortest paths. A node of many neighbours is not contracted: where more than four times that core is left for it, the core
+/// is ranked by degree, and where so many nodes have many neighbours in the graph itself, all nodes are. The ranking is the same
+/// each time, by however many threads it is made. The only error is that memory ran out.
 pub fn contraction_order<R: Threads + Sync>(
     rt: &R,
     alloc: Global,
@@ -95,7 +94,7 @@ fn ranked_core<R: Threads + Sync>(
     if core.len() > keep.saturating_mul(4) as usize {
         return Ok(core);
     }
-    let roads = CoreRoads::of(alloc, &contraction.roads, n, &core)?;
+    let roads = contraction.roads.among(&core)?;
     let weights = weights_of(alloc, n, contraction, &core)?;
     let order = cover_order(rt, alloc, &roads, &weights)?;
     let mut ranked = Vec::with_capacity(alloc, core.len())?;

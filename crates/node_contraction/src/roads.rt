@@ -1,4 +1,5 @@
-use crate::road::{FAR, Road, length_in, unit_of};
+use crate::lengths::{length_in, unit_of};
+use path_cover::{CoreRoads, FAR, Road, number_at, set_number};
 use std::alloc::{AllocError, Global};
 use std::mem;
 use walk_laws::{Arc, Graph};
@@ -134,6 +135,27 @@ impl Roads {
         let gone = self.gone.as_slice();
         row.retain(|road| stands(gone, road.to));
         self.rows[place] = row;
+    }
+
+    /// The roads among the nodes of a core, to which all others were contracted: each node is there its place in this list.
+    pub fn among(&self, core: &[u32]) -> Result<CoreRoads, AllocError> {
+        let mut places = vec![in self.alloc; 0u32; self.rows.len()]?;
+        for (place, node) in core.iter().enumerate() {
+            set_number(&mut places, *node, u32::try_from(place).unwrap_or(0));
+        }
+        let mut small = CoreRoads::new(self.alloc)?;
+        let mut row = Vec::new(self.alloc);
+        for node in core {
+            for road in self.row(*node) {
+                let to = number_at(&places, road.to, 0);
+                row.push(Road {
+                    to,
+                    length: road.length,
+                })?;
+            }
+            small.push_row(&mut row)?;
+        }
+        Ok(small)
     }
 }
 

@@ -1,4 +1,4 @@
-use crate::road::Road;
+use path_cover::Road;
 use std::alloc::{AllocError, Global};
 
 /// What a node weighs that stands for itself alone.

@@ -1,5 +1,5 @@
-use crate::road::{FAR, Road, key_of, length_of, node_of};
 use crate::roads::Roads;
+use path_cover::{FAR, Road, key_of, length_of, node_of};
 use std::alloc::{AllocError, Global};
 use std::cmp::Reverse;
 use std::collections::BinaryHeap;
