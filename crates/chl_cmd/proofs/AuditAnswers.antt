@@ -7,7 +7,7 @@ use Rattle.index_audit.specs.Audited.{IsAuditOf}
 use Rattle.index_audit.specs.declared.answer.Audit.{Audit}
 use Rattle.index_audit.specs.declared.answer.Audit.TheVariants.{Same, Sizes, OrderDiffers, NoWalk, NotCovered, Redundant}
 use Rattle.walk_laws.specs.Graph.{WeightedGraph}
-use Rattle.chl_inputs.specs.Stages.{Comes, CountsStop, Goes, Works}
+use Rattle.chl_inputs.specs.Stages.{Comes, CountsStop, Conforms, Works}
 use Rattle.chl_inputs.specs.Stops.{HasMemoryOnce}
 use Rattle.chl_inputs.specs.declared.stop.Stop.{Stop}
 use Rattle.chl_inputs.specs.declared.stop.Stop.TheVariants.{NoMemory}
@@ -33,9 +33,9 @@ count_stays (Redundant v hub by) count = refl
 module _ {D : Type 0} {desk : Ghosts D} (g : WeightedGraph) (at : List ℕ) (i : HubIndex) {place : D} where
   -- what was found, or want of memory
   pub goes_audited : {answer : Result (List ℕ) Stop} (found : Audit) → IsAuditOf g at i found → (answer ≡ audit_text found) ⊎ (answer ≡ Err NoMemory)
-      → Goes desk (Works (λ found. IsAuditOf g at i found) (λ found. Comes (audit_text found))) answer place place
+      → Conforms desk (Works (λ found. IsAuditOf g at i found) (λ found. Comes (audit_text found))) answer place place
   goes_audited found is (inl same) =
-      subst (λ a. Goes desk (Works (λ found. IsAuditOf g at i found) (λ found. Comes (audit_text found))) a place place) (sym same)
+      subst (λ a. Conforms desk (Works (λ found. IsAuditOf g at i found) (λ found. Comes (audit_text found))) a place place) (sym same)
       (goes_works found is (goes_comes refl (memory_once found) (count_stays found (desk.input_faults place))))
   goes_audited found is (inr lost) =
-      subst (λ a. Goes desk (Works (λ found. IsAuditOf g at i found) (λ found. Comes (audit_text found))) a place place) (sym lost) (goes_lost _)
+      subst (λ a. Conforms desk (Works (λ found. IsAuditOf g at i found) (λ found. Comes (audit_text found))) a place place) (sym lost) (goes_lost _)

@@ -21,14 +21,14 @@ use Rattle.chl_inputs.specs.Stages.{After}
 use Rattle.chl_inputs.specs.declared.stop.Stop.{Stop}
 use Rattle.chl_inputs.proofs.StageLaws.{after_ok}
 use Rattle.chl_inputs.proofs.StagesInTurn.{same_value}
-use Rattle.chl_words.specs.declared.asked.By.{By}
+use Rattle.chl_words.specs.declared.asked.Construction.{Construction}
 use Rattle.chl_words.specs.declared.asked.Asked.TheVariants.{Build, Audit}
 use Rattle.chl_cmd.specs.Commands.{Decides, audit_text}
 use Rattle.chl_cmd.proofs.Decisions.{graph_of_stage, ranking_of_stage, index_of_layout}
 
 -- it finds that the index is the same
-pub audits_same : (graph order out index : List ℕ) (by : By) (workers cut : ℕ) (files others : Files) (bytes : List ℕ) (answer : Result (List ℕ) Stop) → Decides (Build graph order out by workers cut) files (Ok bytes) → finite_map.get others index ≡ Some bytes → length bytes ≤ input_limit → finite_map.get others graph ≡ finite_map.get files graph → finite_map.get others order ≡ finite_map.get files order → Decides (Audit graph order index) others answer → answer ≡ audit_text Same
-audits_same graph order out index by workers cut files others bytes answer built held short same_graph same_order asks =
+pub audits_same : (graph order out index : List ℕ) (construction : Construction) (files others : Files) (bytes : List ℕ) (answer : Result (List ℕ) Stop) → Decides (Build graph order out construction) files (Ok bytes) → finite_map.get others index ≡ Some bytes → length bytes ≤ input_limit → finite_map.get others graph ≡ finite_map.get files graph → finite_map.get others order ≡ finite_map.get files order → Decides (Audit graph order index) others answer → answer ≡ audit_text Same
+audits_same graph order out index construction files others bytes answer built held short same_graph same_order asks =
     let after_graph = after_ok (value_at (graph_input graph) files) bytes (λ g. After (value_at (order_input g.n order) files) (Ok bytes) (λ at. Labelled g at)) built in
     let g = after_graph.0 in
     let after_order = after_ok (value_at (order_input g.n order) files) bytes (λ at. Labelled g at) after_graph.2 in

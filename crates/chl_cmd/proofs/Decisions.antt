@@ -48,7 +48,7 @@ use Rattle.chl_lines.specs.PrintedRows.{lines_from}
 use Rattle.chl_cmd.specs.Commands.{Decides, stage_of, labelling_stage, solve_stage, query_stage, path_stage, audit_stage, degree_stage, rank_stage, grid_stage, answers_stage, AreAnswers, IsRankingOf, stage_if}
 use Rattle.chl_cmd.specs.Laws.{AreAlike, IsRankingText}
 use Rattle.chl_cmd.specs.Statuses.{status_after}
-use Rattle.chl_words.specs.declared.asked.By.{By}
+use Rattle.chl_words.specs.declared.asked.Construction.{Construction}
 use Rattle.chl_words.specs.declared.asked.Asked.{Asked}
 use Rattle.chl_words.specs.declared.asked.Asked.TheVariants.{List as ListRows, Build, Solve, Query, Path, Audit, Degree, Rank, Grid}
 use Rattle.rank_table.proofs.DegreeRankings.{ranked_by_degree, IsByDegree-unique}
@@ -232,42 +232,33 @@ module _ (side seed : ℕ) (files : Files) where
 -- a case for each command
 has_answer : (asked : Asked) (files : Files) → Answerable (stage_of asked) files
 has_answer (ListRows graph order) files = labelling_always (λ at rows. lines_from at 1 rows) graph order files
-has_answer (Build graph order out by workers cut) files = labelling_always index_bytes graph order files
-has_answer (Solve graph order pairs by workers cut) files = solve_always graph order pairs files
+has_answer (Build graph order out construction) files = labelling_always index_bytes graph order files
+has_answer (Solve graph order pairs construction) files = solve_always graph order pairs files
 has_answer (Query index pairs) files = query_always index pairs files
 has_answer (Path graph index pairs) files = path_always graph index pairs files
 has_answer (Audit graph order index) files = audit_always graph order index files
 has_answer (Degree graph) files = degree_always graph files
 has_answer (Rank graph) files = rank_always graph files
-has_answer (Grid side seed workers) files = grid_always side seed files
+has_answer (Grid grid) files = grid_always grid.side grid.seed files
 
 pub decides_always : (asked : Asked) (files : Files) → (answer : Result (List ℕ) Stop) × Decides asked files answer
 decides_always asked files = decided_always (stage_of asked) files (has_answer asked files)
 
 pub decides_once : (asked : Asked) (files : Files) (x y : Result (List ℕ) Stop) → Decides asked files x → Decides asked files y → AreAlike asked files x y
 decides_once (ListRows graph order) files = decided_once (stage_of (ListRows graph order)) files (labelling_once (λ at rows. lines_from at 1 rows) graph order files)
-decides_once (Build graph order out by workers cut) files = decided_once (stage_of (Build graph order out by workers cut)) files (labelling_once index_bytes graph order files)
-decides_once (Solve graph order pairs by workers cut) files = decided_once (stage_of (Solve graph order pairs by workers cut)) files (solve_once graph order pairs files)
+decides_once (Build graph order out construction) files = decided_once (stage_of (Build graph order out construction)) files (labelling_once index_bytes graph order files)
+decides_once (Solve graph order pairs construction) files = decided_once (stage_of (Solve graph order pairs construction)) files (solve_once graph order pairs files)
 decides_once (Query index pairs) files = decided_once (stage_of (Query index pairs)) files (query_once index pairs files)
 decides_once (Path graph index pairs) files = decided_once (stage_of (Path graph index pairs)) files (path_once graph index pairs files)
 decides_once (Audit graph order index) files = decided_once (stage_of (Audit graph order index)) files (audit_once graph order index files)
 decides_once (Degree graph) files = decided_once (stage_of (Degree graph)) files (degree_once graph files)
 decides_once (Rank graph) files = λ x y. ranks_alike graph files x y (value_at (graph_input graph) files) refl
-decides_once (Grid side seed workers) files = decided_once (stage_of (Grid side seed workers)) files (grid_once side seed files)
+decides_once (Grid grid) files = decided_once (stage_of (Grid grid)) files (grid_once grid.side grid.seed files)
 
 -- alike answers have one status
 alike_status : (asked : Asked) (files : Files) (x y : Result (List ℕ) Stop) → AreAlike asked files x y → status_after x ≡ status_after y
 alike_status (Rank graph) files (Ok text) (Ok other) alike = refl
-alike_status (Rank graph) files (Ok text) (Err stop) alike = ap status_after alike
-alike_status (Rank graph) files (Err stop) y alike = ap status_after alike
-alike_status (ListRows graph order) files x y alike = ap status_after alike
-alike_status (Build graph order out by workers cut) files x y alike = ap status_after alike
-alike_status (Solve graph order pairs by workers cut) files x y alike = ap status_after alike
-alike_status (Query index pairs) files x y alike = ap status_after alike
-alike_status (Path graph index pairs) files x y alike = ap status_after alike
-alike_status (Audit graph order index) files x y alike = ap status_after alike
-alike_status (Degree graph) files x y alike = ap status_after alike
-alike_status (Grid side seed workers) files x y alike = ap status_after alike
+alike_status asked files x y alike = ap status_after alike
 
 pub decides_one_status : (asked : Asked) (files : Files) (x y : Result (List ℕ) Stop) → Decides asked files x → Decides asked files y → status_after x ≡ status_after y
 decides_one_status asked files x y first second = alike_status asked files x y (decides_once asked files x y first second)
@@ -280,8 +271,8 @@ index_of_layout index files bytes at rows held short well same =
     ∙ ap (judged index_stop) (ap index_of same ∙ index_of-layout at rows well)
 
 -- what a query says of an index file that was built is what is said of the graph
-pub queries_answer : (graph order out index pairs : List ℕ) (by : By) (workers cut : ℕ) (files others : Files) (bytes : List ℕ) (answer : Result (List ℕ) Stop) → Decides (Build graph order out by workers cut) files (Ok bytes) → finite_map.get others index ≡ Some bytes → length bytes ≤ input_limit → finite_map.get others pairs ≡ finite_map.get files pairs → Decides (Query index pairs) others answer → Decides (Solve graph order pairs by workers cut) files answer
-queries_answer graph order out index pairs by workers cut files others bytes answer built held short same_pairs asks =
+pub queries_answer : (graph order out index pairs : List ℕ) (construction : Construction) (files others : Files) (bytes : List ℕ) (answer : Result (List ℕ) Stop) → Decides (Build graph order out construction) files (Ok bytes) → finite_map.get others index ≡ Some bytes → length bytes ≤ input_limit → finite_map.get others pairs ≡ finite_map.get files pairs → Decides (Query index pairs) others answer → Decides (Solve graph order pairs construction) files answer
+queries_answer graph order out index pairs construction files others bytes answer built held short same_pairs asks =
     let after_graph = after_ok (value_at (graph_input graph) files) bytes (λ g. After (value_at (order_input g.n order) files) (Ok bytes) (λ at. Labelled g at)) built in
     let g = after_graph.0 in
     let after_order = after_ok (value_at (order_input g.n order) files) bytes (λ at. Labelled g at) after_graph.2 in

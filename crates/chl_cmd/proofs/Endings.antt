@@ -8,7 +8,7 @@ use Rattle.std.specs.Ordering.{nat_cmp, eq_by_cmp, is_eq}
 use Rattle.std.specs.declared.cmp.Ordering.{Ordering}
 use Rattle.std.specs.declared.cmp.Ordering.TheVariants.{Less, Equal, Greater}
 use Rattle.desk_io.specs.Contents.{Contents, Tells, IsSteady}
-use Rattle.chl_inputs.specs.Stages.{OpensInOrder, Went}
+use Rattle.chl_inputs.specs.Stages.{OpensInOrder, Conformed}
 use Rattle.chl_inputs.specs.declared.stop.Stop.{Stop}
 use Rattle.chl_inputs.specs.declared.stop.Stop.TheVariants as stops
 use Rattle.chl_inputs.proofs.StageLaws.{all_in_order, in_order_files, in_order_steady, went_decided, went_read, went_stopped, went_opens, none_yet}
@@ -156,17 +156,17 @@ module _ (asked : Asked) (status : Status) (a b : Contents) where
       (λ x bytes opens. given_steady (place_of asked) bytes x ∙ in_order_steady (stage_of asked) a x opens)
 
 -- the bytes of a stage that had all its values were given
-pub done_from : (asked : Asked) (bytes : List ℕ) (old mid new : Option Contents) → Tells old mid (Went (stage_of asked) (Ok bytes)) → Tells mid new (λ a b. b ≡ given (place_of asked) bytes a) → Tells old new (Ends asked Done)
+pub done_from : (asked : Asked) (bytes : List ℕ) (old mid new : Option Contents) → Tells old mid (Conformed (stage_of asked) (Ok bytes)) → Tells mid new (λ a b. b ≡ given (place_of asked) bytes a) → Tells old new (Ends asked Done)
 done_from asked bytes old mid new made gave = chained old mid new made gave (λ a b c went is. inl (
   refl,
   record { bytes = bytes; decided = went_decided (stage_of asked) bytes a b went; read = b; reads = went_read (stage_of asked) bytes a b went; gives = is },
 ))
 
-part_from : (asked : Asked) (bytes : List ℕ) (a b c : Contents) → Went (stage_of asked) (Ok bytes) a b → GivesPrefix (place_of asked) bytes b c → GivesPart asked a c
+part_from : (asked : Asked) (bytes : List ℕ) (a b c : Contents) → Conformed (stage_of asked) (Ok bytes) a b → GivesPrefix (place_of asked) bytes b c → GivesPart asked a c
 part_from asked bytes a b c went prefix = record { bytes = bytes; decided = went_decided (stage_of asked) bytes a b went; read = b; reads = went_read (stage_of asked) bytes a b went; gives = prefix }
 
 -- a writing that failed ends the command so, on a desk that is not steady
-pub failed_from : (asked : Asked) (bytes : List ℕ) (old mid new : Option Contents) → Tells old mid (Went (stage_of asked) (Ok bytes)) → Tells mid new (GivesPrefix (place_of asked) bytes) → (IsSteady mid → ⊥) → Tells old new (Ends asked WriteFault)
+pub failed_from : (asked : Asked) (bytes : List ℕ) (old mid new : Option Contents) → Tells old mid (Conformed (stage_of asked) (Ok bytes)) → Tells mid new (GivesPrefix (place_of asked) bytes) → (IsSteady mid → ⊥) → Tells old new (Ends asked WriteFault)
 failed_from asked bytes None None None made prefix steady = tt
 failed_from asked bytes None None (Some c) made prefix steady = prefix
 failed_from asked bytes None (Some b) new made prefix steady = absurd made
@@ -177,11 +177,11 @@ failed_from asked bytes (Some a) (Some b) (Some c) made prefix steady =
     inr (inl (refl, part_from asked bytes a b c made prefix, λ held. steady (subst IsTrue (sym kept) held)))
 
 -- and one for which memory ran out so
-pub lost_from : (asked : Asked) (bytes : List ℕ) (old mid new : Option Contents) → Tells old mid (Went (stage_of asked) (Ok bytes)) → Tells mid new (GivesPrefix (place_of asked) bytes) → Tells old new (Ends asked NoMemory)
+pub lost_from : (asked : Asked) (bytes : List ℕ) (old mid new : Option Contents) → Tells old mid (Conformed (stage_of asked) (Ok bytes)) → Tells mid new (GivesPrefix (place_of asked) bytes) → Tells old new (Ends asked NoMemory)
 lost_from asked bytes old mid new made prefix = chained old mid new made prefix (λ a b c went part. inr (inr (inl (refl, part_from asked bytes a b c went part))))
 
 -- a command without output ends so
-pub stopped_from : (asked : Asked) (stop : Stop) (status : Status) (old new : Option Contents) → status ≡ status_of stop → Tells old new (Went (stage_of asked) (Err stop)) → Tells old new (Ends asked status)
+pub stopped_from : (asked : Asked) (stop : Stop) (status : Status) (old new : Option Contents) → status ≡ status_of stop → Tells old new (Conformed (stage_of asked) (Err stop)) → Tells old new (Ends asked status)
 stopped_from asked stop status old new is told = retold old new told (λ a b went. inr (inr (inr (
   stop,
   is,

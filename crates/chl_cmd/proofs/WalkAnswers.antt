@@ -14,7 +14,7 @@ use Rattle.hub_query.specs.declared.path_answer.Path.TheVariants.{Sizes as Other
 use Rattle.hub_query.proofs.PathsDecided.{path_exists}
 use Rattle.walk_laws.specs.Graph.{WeightedGraph, IsGraph}
 use Rattle.chl_inputs.specs.Inputs.{ArePairsWithin}
-use Rattle.chl_inputs.specs.Stages.{Stage, Comes, CountsStop, Goes, Works}
+use Rattle.chl_inputs.specs.Stages.{Stage, Comes, CountsStop, Conforms, Works}
 use Rattle.chl_inputs.specs.Stops.{HasMemoryOnce}
 use Rattle.chl_inputs.specs.declared.stop.NotOf.{NotOf}
 use Rattle.chl_inputs.specs.declared.stop.NotOf.TheVariants.{Sizes, Stuck}
@@ -91,12 +91,12 @@ abbrev walks_stage : WeightedGraph → HubIndex → List (ℕ × ℕ) → Stage 
 walks_stage g i pairs = Works (λ walks. AreAnswers (IsPathOf g i) pairs walks) (λ walks. Comes (walks_text pairs walks))
 
 module _ {D : Type 0} {desk : Ghosts D} (g : WeightedGraph) (i : HubIndex) (pairs : List (ℕ × ℕ)) where
-  pub goes_walked : {place : D} (walks : List Path) (text : List ℕ) → AreAnswers (IsPathOf g i) pairs walks → first_stop walks ≡ None → text ≡ walk_lines pairs walks → Goes desk (walks_stage g i pairs) (Ok text) place place
+  pub goes_walked : {place : D} (walks : List Path) (text : List ℕ) → AreAnswers (IsPathOf g i) pairs walks → first_stop walks ≡ None → text ≡ walk_lines pairs walks → Conforms desk (walks_stage g i pairs) (Ok text) place place
   goes_walked walks text own none is =
       goes_works walks own (goes_comes (ap Ok is ∙ sym (ap (λ o. unless_stopped o (walk_lines pairs walks)) none)) tt refl)
 
-  pub goes_stuck : {place : D} (stop : Stop) → (stop ≡ NoMemory) ⊎ ((walks : List Path) × AreAnswers (IsPathOf g i) pairs walks × (first_stop walks ≡ Some stop)) → Goes desk (walks_stage g i pairs) (Err stop) place place
-  goes_stuck {place} stop (inl lost) = subst (λ s. Goes desk (walks_stage g i pairs) (Err s) place place) (sym lost) (goes_lost (walks_stage g i pairs))
+  pub goes_stuck : {place : D} (stop : Stop) → (stop ≡ NoMemory) ⊎ ((walks : List Path) × AreAnswers (IsPathOf g i) pairs walks × (first_stop walks ≡ Some stop)) → Conforms desk (walks_stage g i pairs) (Err stop) place place
+  goes_stuck {place} stop (inl lost) = subst (λ s. Conforms desk (walks_stage g i pairs) (Err s) place place) (sym lost) (goes_lost (walks_stage g i pairs))
   goes_stuck {place} stop (inr stuck) =
       let fault = stop_is stuck.0 stop stuck.2 in
       goes_works stuck.0 stuck.1 (goes_comes (sym (ap (λ o. unless_stopped o (walk_lines pairs stuck.0)) stuck.2))
@@ -110,10 +110,10 @@ apart a b true is other = absurd (other (eqb-true a b is))
 apart a b false is other = is
 
 module _ {D V : Type 0} {desk : Ghosts D} (graph index : ℕ) (stage : Stage V) where
-  pub goes_sized : {answer : Result V Stop} {old new : D} → graph ≡ index → Goes desk stage answer old new → Goes desk (for_sizes graph index stage) answer old new
+  pub goes_sized : {answer : Result V Stop} {old new : D} → graph ≡ index → Conforms desk stage answer old new → Conforms desk (for_sizes graph index stage) answer old new
   goes_sized {answer} {old} {new} same goes =
-      subst (λ b. Goes desk (stage_if b (NotOfGraph (Sizes graph index)) stage) answer old new) (sym (eq-eqb graph index same)) goes
+      subst (λ b. Conforms desk (stage_if b (NotOfGraph (Sizes graph index)) stage) answer old new) (sym (eq-eqb graph index same)) goes
 
-  pub goes_unsized : {place : D} → graph ≢ index → Goes desk (for_sizes graph index stage) (Err (NotOfGraph (Sizes graph index))) place place
+  pub goes_unsized : {place : D} → graph ≢ index → Conforms desk (for_sizes graph index stage) (Err (NotOfGraph (Sizes graph index))) place place
   goes_unsized {place} other =
-      subst (λ b. Goes desk (stage_if b (NotOfGraph (Sizes graph index)) stage) (Err (NotOfGraph (Sizes graph index))) place place) (sym (apart graph index (graph == index) refl other)) (goes_comes refl tt refl)
+      subst (λ b. Conforms desk (stage_if b (NotOfGraph (Sizes graph index)) stage) (Err (NotOfGraph (Sizes graph index))) place place) (sym (apart graph index (graph == index) refl other)) (goes_comes refl tt refl)

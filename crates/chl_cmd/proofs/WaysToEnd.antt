@@ -4,7 +4,7 @@ use Rattle.std.specs.Prelude.{None, Ok, Err}
 use Rattle.desk_io.specs.Contents.{Tells, IsSteady}
 use Rattle.desk_io.specs.Counts.{Rises}
 use Rattle.desk_io.specs.declared.desk.Desk.{Ghosts}
-use Rattle.chl_inputs.specs.Stages.{CountsStop, Goes}
+use Rattle.chl_inputs.specs.Stages.{CountsStop, Conforms}
 use Rattle.chl_inputs.specs.Stops.{HasMemoryOnce}
 use Rattle.chl_inputs.specs.declared.stop.Stop.{Stop}
 use Rattle.chl_inputs.specs.declared.stop.Stop.TheVariants as stops
@@ -17,44 +17,21 @@ use Rattle.chl_cmd.proofs.Endings.{done_from, failed_from, lost_from, stopped_fr
 
 -- what a stop does to the counts, and what it carries, as a status
 input_counts : (stop : Stop) (old new : ℕ) → CountsStop {V = List ℕ} (Err stop) old new → CountsInput (status_of stop) old new
-input_counts (stops.Graph fault) old new counts = counts
-input_counts (stops.Overflow n weight) old new counts = counts
-input_counts (stops.Order fault) old new counts = counts
-input_counts (stops.Pairs fault) old new counts = counts
-input_counts (stops.Index fault) old new counts = counts
-input_counts (stops.Differs audit) old new counts = counts
-input_counts (stops.NotOfGraph fault) old new counts = counts
-input_counts stops.TooLong old new counts = counts
 input_counts stops.ReadFailed old new counts = counts
-input_counts stops.NoMemory old new counts = counts
+input_counts stop old new counts = counts
 
 output_counts : (stop : Stop) (old new : ℕ) → new ≡ old → CountsOutput (status_of stop) old new
-output_counts (stops.Graph fault) old new same = same
-output_counts (stops.Overflow n weight) old new same = same
-output_counts (stops.Order fault) old new same = same
-output_counts (stops.Pairs fault) old new same = same
-output_counts (stops.Index fault) old new same = same
-output_counts (stops.Differs audit) old new same = same
-output_counts (stops.NotOfGraph fault) old new same = same
-output_counts stops.TooLong old new same = same
 output_counts stops.ReadFailed old new same = same
-output_counts stops.NoMemory old new same = same
+output_counts stop old new same = same
 
 carries : (stop : Stop) → HasMemoryOnce stop → CarriesFaultsAlone (status_of stop)
-carries (stops.Graph fault) once = tt
-carries (stops.Overflow n weight) once = tt
 carries (stops.Order fault) once = once
-carries (stops.Pairs fault) once = tt
 carries (stops.Index fault) once = once
-carries (stops.Differs audit) once = tt
-carries (stops.NotOfGraph fault) once = tt
-carries stops.TooLong once = tt
-carries stops.ReadFailed once = tt
-carries stops.NoMemory once = tt
+carries stop once = tt
 
 module _ {D : Type 0} {desk : Ghosts D} (asked : Asked) where
   -- without output
-  pub runs_stopped : {stop : Stop} {old new : D} → Goes desk (stage_of asked) (Err stop) old new → Runs desk asked (status_of stop) old new
+  pub runs_stopped : {stop : Stop} {old new : D} → Conforms desk (stage_of asked) (Err stop) old new → Runs desk asked (status_of stop) old new
   runs_stopped {stop} {old} {new} goes = record {
     told = stopped_from asked stop (status_of stop) (desk.told old) (desk.told new) refl goes.told;
     no_output = λ none. goes.no_file;
@@ -64,7 +41,7 @@ module _ {D : Type 0} {desk : Ghosts D} (asked : Asked) where
     faults_alone = carries stop goes.memory_once;
   }
 
-  module _ {bytes : List ℕ} {old mid new : D} (goes : Goes desk (stage_of asked) (Ok bytes) old mid) (place : place_of asked ≡ None → desk.is_created new ≡ desk.is_created mid) (inputs : desk.input_faults new ≡ desk.input_faults mid) where
+  module _ {bytes : List ℕ} {old mid new : D} (goes : Conforms desk (stage_of asked) (Ok bytes) old mid) (place : place_of asked ≡ None → desk.is_created new ≡ desk.is_created mid) (inputs : desk.input_faults new ≡ desk.input_faults mid) where
     -- with all of it
     pub runs_done : Tells (desk.told mid) (desk.told new) (λ a b. b ≡ given (place_of asked) bytes a) → desk.output_faults new ≡ desk.output_faults mid → Runs desk asked Done old new
     runs_done gave outputs = record {

@@ -179,14 +179,14 @@ pub record Command : Type 1 where
 
 abbrev pub command_of : Asked → Command
 command_of (ListRows graph order) = record { stage = list_stage graph order; place = None }
-command_of (Build graph order out by workers cut) = record { stage = build_stage graph order; place = Some out }
-command_of (Solve graph order pairs by workers cut) = record { stage = solve_stage graph order pairs; place = None }
+command_of (Build graph order out construction) = record { stage = build_stage graph order; place = Some out }
+command_of (Solve graph order pairs construction) = record { stage = solve_stage graph order pairs; place = None }
 command_of (Query index pairs) = record { stage = query_stage index pairs; place = None }
 command_of (Path graph index pairs) = record { stage = path_stage graph index pairs; place = None }
 command_of (Audit graph order index) = record { stage = audit_stage graph order index; place = None }
 command_of (Degree graph) = record { stage = degree_stage graph; place = None }
 command_of (Rank graph) = record { stage = rank_stage graph; place = None }
-command_of (Grid side seed workers) = record { stage = grid_stage side seed; place = None }
+command_of (Grid grid) = record { stage = grid_stage grid.side grid.seed; place = None }
 
 abbrev pub stage_of : Asked → Stage (List ℕ)
 stage_of asked = (command_of asked).stage

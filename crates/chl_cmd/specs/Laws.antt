@@ -9,7 +9,7 @@ use Rattle.walk_laws.specs.Graph.{WeightedGraph}
 use Rattle.chl_cmd.specs.Commands.{Decides, IsRankingOf}
 use Rattle.chl_cmd.specs.Statuses.{status_after}
 use Rattle.chl_inputs.specs.declared.stop.Stop.{Stop}
-use Rattle.chl_words.specs.declared.asked.By.{By}
+use Rattle.chl_words.specs.declared.asked.Construction.{Construction}
 use Rattle.chl_words.specs.declared.asked.Asked.{Asked}
 use Rattle.chl_words.specs.declared.asked.Asked.TheVariants.{Build, Solve, Query, Audit, Rank}
 
@@ -36,8 +36,8 @@ TheFilesDecideOneStatus = (asked : Asked) (files : Files) (answer other : Result
 
 -- a query of an index file that was built, and that is no longer than an input may be, says what solving says of the same pairs
 abbrev pub AQueryOfABuiltFileSolves : Type 0
-AQueryOfABuiltFileSolves = (graph order out index pairs : List ℕ) (by : By) (workers cut : ℕ) (files others : Files) (bytes : List ℕ) (answer : Result (List ℕ) Stop) → Decides (Build graph order out by workers cut) files (Ok bytes) → finite_map.get others index ≡ Some bytes → length bytes ≤ input_limit → finite_map.get others pairs ≡ finite_map.get files pairs → Decides (Query index pairs) others answer → Decides (Solve graph order pairs by workers cut) files answer
+AQueryOfABuiltFileSolves = (graph order out index pairs : List ℕ) (construction : Construction) (files others : Files) (bytes : List ℕ) (answer : Result (List ℕ) Stop) → Decides (Build graph order out construction) files (Ok bytes) → finite_map.get others index ≡ Some bytes → length bytes ≤ input_limit → finite_map.get others pairs ≡ finite_map.get files pairs → Decides (Query index pairs) others answer → Decides (Solve graph order pairs construction) files answer
 
 -- an audit of an index file that was built of the same texts, and that is no longer than an input may be, says `same`
 abbrev pub AnAuditOfABuiltFileIsTheSame : Type 0
-AnAuditOfABuiltFileIsTheSame = (graph order out index : List ℕ) (by : By) (workers cut : ℕ) (files others : Files) (bytes : List ℕ) (answer : Result (List ℕ) Stop) → Decides (Build graph order out by workers cut) files (Ok bytes) → finite_map.get others index ≡ Some bytes → length bytes ≤ input_limit → finite_map.get others graph ≡ finite_map.get files graph → finite_map.get others order ≡ finite_map.get files order → Decides (Audit graph order index) others answer → answer ≡ Ok (codes "same" ++ 10 ∷ [])
+AnAuditOfABuiltFileIsTheSame = (graph order out index : List ℕ) (construction : Construction) (files others : Files) (bytes : List ℕ) (answer : Result (List ℕ) Stop) → Decides (Build graph order out construction) files (Ok bytes) → finite_map.get others index ≡ Some bytes → length bytes ≤ input_limit → finite_map.get others graph ≡ finite_map.get files graph → finite_map.get others order ≡ finite_map.get files order → Decides (Audit graph order index) others answer → answer ≡ Ok (codes "same" ++ 10 ∷ [])

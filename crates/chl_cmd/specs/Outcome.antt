@@ -3,7 +3,7 @@ use Rattle.std.specs.Prelude.{◌≡◌, ◌≢◌, ◌⊎◌, ◌++◌, ℕ, Is
 use Rattle.std.specs.FinMap as finite_map
 use Rattle.desk_io.specs.Contents.{Contents, Tells}
 use Rattle.desk_io.specs.declared.desk.Desk.{Ghosts}
-use Rattle.chl_inputs.specs.Stages.{OpensInOrder, ReadsAll, Went}
+use Rattle.chl_inputs.specs.Stages.{OpensInOrder, ReadsAll, Conformed}
 use Rattle.chl_inputs.specs.Stops.{MayStop}
 use Rattle.chl_inputs.specs.declared.stop.Stop.{Stop}
 use Rattle.chl_cmd.specs.Commands.{Decides, stage_of, place_of}
@@ -43,7 +43,7 @@ pub record GivesPart (asked : Asked) (a b : Contents) : Type 0 where
 -- or field within what was read was at fault, but for what came in one piece with it.
 pub record Stops (asked : Asked) (stop : Stop) (a b : Contents) : Type 0 where
   pub cause : MayStop a.steady stop (Decides asked a.files (Err stop))
-  pub unread : Went (stage_of asked) (Err stop) a b
+  pub unread : Conformed (stage_of asked) (Err stop) a b
 
 -- the inputs that were opened, and what was left of each, are the same
 pub record HasInputsOf (a b : Contents) : Type 0 where

@@ -1,7 +1,7 @@
 //! The output of any command, and a file for each, which reads its inputs one after another and then works; `grid` reads none.
 ghost use Rattle.std.specs.Prelude.{◌≡◌};
 ghost use Rattle.std.specs.Option.{option_copied};
-ghost use Rattle.chl_inputs.specs.Stages.{Goes};
+ghost use Rattle.chl_inputs.specs.Stages.{Conforms};
 ghost use Rattle.chl_cmd.specs.Commands.{place_of, stage_of};
 ghost use Rattle.chl_words.specs.Asking.{IsWithinLimits};
 
@@ -16,7 +16,6 @@ mod rank;
 mod solve;
 mod text;
 
-use crate::construction::Construction;
 use audit::audit_output;
 use build::build_output;
 use chl_inputs::Stop;
@@ -44,75 +43,36 @@ pub fn output<R: Threads + Wait + Sync, D: Desk, G: Gate + Sync>(
     gate: &G,
 ) -> Result<Pieces, Stop>
     requires { IsWithinLimits asked.now }
-    ensures { Goes D.Desk (stage_of asked.now) result desk.old desk.new }
+    ensures { Conforms D.Desk (stage_of asked.now) result desk.old desk.new }
 {
     match asked {
-        Asked::List { graph, order } => list_output(rt, alloc, graph.text(), order.text(), desk),
+        Asked::List { graph, order } => list_output(rt, alloc, graph, order, desk),
         Asked::Build {
             graph,
             order,
-            out: _,
-            by,
-            workers,
-            cut,
-        } => {
-            let construction = Construction {
-                by: *by,
-                workers: *workers,
-                cut: *cut,
-            };
-            build_output(
-                rt,
-                alloc,
-                graph.text(),
-                order.text(),
-                construction,
-                desk,
-                gate,
-            )
-        }
+            construction,
+            ..
+        } => build_output(rt, alloc, graph, order, *construction, desk, gate),
         Asked::Solve {
             graph,
             order,
             pairs,
-            by,
-            workers,
-            cut,
-        } => {
-            let construction = Construction {
-                by: *by,
-                workers: *workers,
-                cut: *cut,
-            };
-            solve_output(
-                rt,
-                alloc,
-                graph.text(),
-                order.text(),
-                pairs.text(),
-                construction,
-                desk,
-                gate,
-            )
-        }
-        Asked::Query { index, pairs } => query_output(rt, alloc, index.text(), pairs.text(), desk),
+            construction,
+        } => solve_output(rt, alloc, graph, order, pairs, *construction, desk, gate),
+        Asked::Query { index, pairs } => query_output(rt, alloc, index, pairs, desk),
         Asked::Path {
             graph,
             index,
             pairs,
-        } => path_output(alloc, graph.text(), index.text(), pairs.text(), desk),
+        } => path_output(alloc, graph, index, pairs, desk),
         Asked::Audit {
             graph,
             order,
             index,
-        } => audit_output(alloc, graph.text(), order.text(), index.text(), desk),
-        Asked::Degree { graph } => degree_output(alloc, graph.text(), desk),
-        Asked::Rank { graph } => rank_output(rt, alloc, graph.text(), desk),
-        Asked::Grid {
-            side,
-            seed,
-            workers,
-        } => text_output(alloc, grid_text(rt, alloc, *side, *seed, *workers, gate)),
+        } => audit_output(alloc, graph, order, index, desk),
+        Asked::Degree { graph } => degree_output(alloc, graph, desk),
+        Asked::Rank { graph } => rank_output(rt, alloc, graph, desk),
+        Asked::Grid(grid) => text_output(alloc, grid_text(rt, alloc, *grid, gate)),
     }
 }
 
@@ -128,7 +88,7 @@ pub fn out_file(asked: &Asked) -> Option<&Name>
         | Asked::Audit { .. }
         | Asked::Degree { .. }
         | Asked::Rank { .. }
-        | Asked::Grid { .. } => None,
+        | Asked::Grid(_) => None,
         Asked::Build { out, .. } => Some(out),
     }
 }

@@ -3,8 +3,7 @@ ghost use Rattle.walk_laws.specs.Joined.{Joined};
 ghost use Rattle.walk_laws.specs.Labelling.{IsChl};
 ghost use Rattle.chl_words.specs.Asking.{AreWithinLimits};
 
-use crate::construction::Construction;
-use chl_words::By;
+use chl_words::{By, Construction};
 use desk_io::Gate;
 use gll_build::build_gll;
 use hub_index::Index;

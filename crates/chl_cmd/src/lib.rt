@@ -7,7 +7,6 @@
 #![tactic(auto)]
 
 mod commands;
-mod construction;
 mod giving;
 mod labelling;
 pub mod laws;
@@ -15,6 +14,6 @@ mod running;
 mod status;
 
 pub use chl_inputs::{NotOf, Stop};
-pub use chl_words::{AskFault, Asked, By, Name, read_words};
+pub use chl_words::{AskFault, Asked, By, Construction, Grid, Name, read_words};
 pub use running::run;
 pub use status::Status;

@@ -16,7 +16,7 @@ use Rattle.desk_io.specs.declared.desk.DeskFault.TheVariants as calls
 use Rattle.desk_io.specs.declared.read_all.ReadEnd.{ReadEnd}
 use Rattle.desk_io.specs.declared.read_all.ReadEnd.TheVariants.{Failed, TooLong, NoMemory, Refused}
 use Rattle.chl_inputs.specs.Inputs.{Input, input_from, judged, past_limit, value_at, value_of}
-use Rattle.chl_inputs.specs.Stages.{CountsStop, Goes, ReadsPart, reading, Went}
+use Rattle.chl_inputs.specs.Stages.{CountsStop, Conforms, ReadsPart, reading, Conformed}
 use Rattle.desk_io.specs.declared.desk.Desk.{Ghosts}
 use mathlib.Core.Path.{fun_ext}
 use Rattle.chl_inputs.specs.Stops.{end_stop, opening_stop, HasMemoryOnce, MayStop}
@@ -55,7 +55,7 @@ module _ {V : Type 0} (input : Input V) where
   read_prefix prefix a b c opens read none = read_part prefix [] a b c opens read.0 read.1 none (omega arith)
 
   -- an input that can't be opened
-  not_opened : (fault : DeskFault) (told : Option Contents) → (IsSteady told → fault ≡ calls.Failed → Lacks told input.name) → Tells told told (Went (reading input) (Err (opening_stop fault)))
+  not_opened : (fault : DeskFault) (told : Option Contents) → (IsSteady told → fault ≡ calls.Failed → Lacks told input.name) → Tells told told (Conformed (reading input) (Err (opening_stop fault)))
   not_opened fault None lacks = tt
   not_opened calls.NoMemory (Some a) lacks = inl (stops.NoMemory, refl, (inr (inl refl), inl (inr refl, refl)))
   not_opened calls.Failed (Some a) lacks = inl (stops.ReadFailed, refl, (missing a.steady (λ steady. lacks steady refl), inl (inl refl, refl)))
@@ -141,7 +141,7 @@ module _ {R V F : Type 0} (refused : R → List ℕ → Option F) (comes_to : R 
 
     module _ (old mid new : Option Contents) (opens : Tells old mid (Opens name)) where
       -- all bytes of the input went to the reader, which then came to a value
-      pub read_value : (value : V) → HandsOnAll gives input_limit first last mid new → comes_to last [] ≡ Ok value → Tells old new (Went (reading the_input) (Ok value))
+      pub read_value : (value : V) → HandsOnAll gives input_limit first last mid new → comes_to last [] ≡ Ok value → Tells old new (Conformed (reading the_input) (Ok value))
       read_value value all comes = chained old mid new opens all.read (λ a b c o r. inr (
         value,
         ap (value_of the_input) (o.0 ∙ ap Some r.0) ∙ within_limit the_input (concat all.pieces) all.within ∙ ap (judged stop) (sym (comes_of_all all.pieces all.taken) ∙ comes),
@@ -149,7 +149,7 @@ module _ {R V F : Type 0} (refused : R → List ℕ → Option F) (comes_to : R 
       ))
 
       -- or to a fault
-      pub read_fault : (fault : F) → HandsOnAll gives input_limit first last mid new → (fault ≡ no_memory) ⊎ (comes_to last [] ≡ Err fault) → Tells old new (Went (reading the_input) (Err (stop fault)))
+      pub read_fault : (fault : F) → HandsOnAll gives input_limit first last mid new → (fault ≡ no_memory) ⊎ (comes_to last [] ≡ Err fault) → Tells old new (Conformed (reading the_input) (Err (stop fault)))
       read_fault fault all why = chained old mid new opens all.read (λ a b c o r. inl (
         stop fault,
         refl,
@@ -167,11 +167,11 @@ module _ {R V F : Type 0} (refused : R → List ℕ → Option F) (comes_to : R 
       -- what a reading that ends before the input's end says of it
       pub read_end : (end : ReadEnd F) → OnTooLong {T = Unit {0}} (Err end) (PassesLimit gives input_limit first last mid new) → IfRefused {T = Unit {0}} (Err end) (λ fault. HandsOnUntil gives input_limit fault first last mid new) →
           OnFailed {T = Unit {0}} (Err end) (HandsOn gives input_limit first last mid new) → OnNoMemory {T = Unit {0}} (Err end) (HandsOn gives input_limit first last mid new) → (IsSteady mid → OnFailed {T = Unit {0}} (Err end) ⊥) →
-          Tells old new (Went (reading the_input) (Err (end_stop stop end)))
+          Tells old new (Conformed (reading the_input) (Err (end_stop stop end)))
       read_end Failed long refusal failed memory steady = failed_end old mid new opens failed.read steady
         where
           -- a failed call is none of a steady desk
-          failed_end : (old mid new : Option Contents) → Tells old mid (Opens name) → Tells mid new (ReadsBytes (concat failed.pieces)) → (IsSteady mid → ⊥) → Tells old new (Went (reading the_input) (Err stops.ReadFailed))
+          failed_end : (old mid new : Option Contents) → Tells old mid (Opens name) → Tells mid new (ReadsBytes (concat failed.pieces)) → (IsSteady mid → ⊥) → Tells old new (Conformed (reading the_input) (Err stops.ReadFailed))
           failed_end None None None opens read steady = tt
           failed_end None None (Some c) opens read steady = read
           failed_end None (Some b) new opens read steady = absurd opens
@@ -214,7 +214,7 @@ module _ {R V F : Type 0} (refused : R → List ℕ → Option F) (comes_to : R 
       ))
 
 -- a reader that finds such faults and comes to such values reads such an input
-pub reads_as : {D V F : Type 0} {desk : Ghosts D} {answer : Result V Stop} {old new : D} (stop : F → Stop) (name : List ℕ) (f g : List ℕ → Option F) (h k : List ℕ → Result V F) → ((bytes : List ℕ) → f bytes ≡ g bytes) → ((bytes : List ℕ) → h bytes ≡ k bytes) → Goes desk (reading (input_from f h stop name)) answer old new → Goes desk (reading (input_from g k stop name)) answer old new
+pub reads_as : {D V F : Type 0} {desk : Ghosts D} {answer : Result V Stop} {old new : D} (stop : F → Stop) (name : List ℕ) (f g : List ℕ → Option F) (h k : List ℕ → Result V F) → ((bytes : List ℕ) → f bytes ≡ g bytes) → ((bytes : List ℕ) → h bytes ≡ k bytes) → Conforms desk (reading (input_from f h stop name)) answer old new → Conforms desk (reading (input_from g k stop name)) answer old new
 reads_as {desk} {answer} {old} {new} stop name f g h k same equal goes =
-    subst (λ x. Goes desk (reading (input_from g x stop name)) answer old new) (fun_ext equal)
-    (subst (λ x. Goes desk (reading (input_from x h stop name)) answer old new) (fun_ext same) goes)
+    subst (λ x. Conforms desk (reading (input_from g x stop name)) answer old new) (fun_ext equal)
+    (subst (λ x. Conforms desk (reading (input_from x h stop name)) answer old new) (fun_ext same) goes)

@@ -3,7 +3,7 @@ use Rattle.std.proofs.Common.{◌≡◌, ◌⊎◌, inl, inr, ℕ, Bool, List, [
 use Rattle.std.specs.Prelude.{Option, Some, None, Result, Ok, Err}
 use Rattle.desk_io.specs.Contents.{Contents, Files, opened}
 use Rattle.chl_inputs.specs.Inputs.{Input, value_at}
-use Rattle.chl_inputs.specs.Stages.{Stage, Comes, Works, Reads, After, Decided, Went, ReadsAll, OpensInOrder, ReadsPart}
+use Rattle.chl_inputs.specs.Stages.{Stage, Comes, Works, Reads, After, Decided, Conformed, ReadsAll, OpensInOrder, ReadsPart}
 use Rattle.chl_inputs.specs.Stops.{MayStop}
 use Rattle.chl_inputs.specs.declared.stop.Stop.{Stop}
 use Rattle.chl_inputs.specs.declared.stop.Stop.TheVariants.{NoMemory}
@@ -42,7 +42,7 @@ module _ {U V : Type 0} where
 
 module _ {V : Type 0} where
   -- a stage with a value: the files decide that, and all inputs were read
-  pub went_decided : (stage : Stage V) (v : V) (a b : Contents) → Went stage (Ok v) a b → Decided stage a.files (Ok v)
+  pub went_decided : (stage : Stage V) (v : V) (a b : Contents) → Conformed stage (Ok v) a b → Decided stage a.files (Ok v)
   went_decided (Comes is) v a b (inl same, _) = same
   went_decided (Comes is) v a b (inr lost, _) = absurd (no_stop_in v NoMemory lost)
   went_decided (Works P next) v a b (inl lost) = absurd (no_stop_in v NoMemory lost.0)
@@ -51,7 +51,7 @@ module _ {V : Type 0} where
   went_decided (Reads input next) v a b (inr one) =
       after_value (value_at input a.files) one.0 (Ok v) (λ u. Decided (next u) a.files (Ok v)) one.1 (went_decided (next one.0) v (opened input.name [] a) b one.2)
 
-  pub went_read : (stage : Stage V) (v : V) (a b : Contents) → Went stage (Ok v) a b → ReadsAll stage a b
+  pub went_read : (stage : Stage V) (v : V) (a b : Contents) → Conformed stage (Ok v) a b → ReadsAll stage a b
   went_read (Comes is) v a b went = went.1
   went_read (Works P next) v a b (inl lost) = absurd (no_stop_in v NoMemory lost.0)
   went_read (Works P next) v a b (inr one) = (one.0, one.1, went_read (next one.0) v a b one.2)
@@ -59,7 +59,7 @@ module _ {V : Type 0} where
   went_read (Reads input next) v a b (inr one) = (one.0, one.1, went_read (next one.0) v (opened input.name [] a) b one.2)
 
   -- one without: the files decide it, but for want of memory and a failed call
-  pub went_stopped : (stage : Stage V) (stop : Stop) (a b : Contents) → Went stage (Err stop) a b → MayStop a.steady stop (Decided stage a.files (Err stop))
+  pub went_stopped : (stage : Stage V) (stop : Stop) (a b : Contents) → Conformed stage (Err stop) a b → MayStop a.steady stop (Decided stage a.files (Err stop))
   went_stopped (Comes is) stop a b (inl same, _) = inl same
   went_stopped (Comes is) stop a b (inr lost, _) = inr (inl (same_stop_in {V = V} stop NoMemory lost))
   went_stopped (Works P next) stop a b (inl lost) = inr (inl (same_stop_in {V = V} stop NoMemory lost.0))
@@ -72,7 +72,7 @@ module _ {V : Type 0} where
       may_stop a.steady stop (λ d. after_value (value_at input a.files) one.0 (Err stop) (λ u. Decided (next u) a.files (Err stop)) one.1 d) (went_stopped (next one.0) stop (opened input.name [] a) b one.2)
 
   -- either way the inputs were opened in order
-  pub went_opens : (stage : Stage V) (answer : Result V Stop) (a b : Contents) → Went stage answer a b → OpensInOrder stage a b
+  pub went_opens : (stage : Stage V) (answer : Result V Stop) (a b : Contents) → Conformed stage answer a b → OpensInOrder stage a b
   went_opens (Comes is) answer a b went = went.1
   went_opens (Works P next) answer a b (inl lost) = inl lost.1
   went_opens (Works P next) answer a b (inr one) = inr (one.0, one.1, went_opens (next one.0) answer a b one.2)

@@ -69,14 +69,14 @@ StopsThere input stop a b =
 
 -- How the desk may stand after a stage with this answer: each input that it had a value of was opened and read to its end, in
 -- turn, and where it stopped at one that is the last one opened; memory may run out anywhere. Nothing else has changed.
-abbrev pub Went : {V : Type 0} → Stage V → Result V Stop → Contents → Contents → Type 0
-Went (Comes is) answer a b = ((answer ≡ is) ⊎ (answer ≡ Err NoMemory)) × (b ≡ a)
-Went (Works {U} P next) answer a b =
+abbrev pub Conformed : {V : Type 0} → Stage V → Result V Stop → Contents → Contents → Type 0
+Conformed (Comes is) answer a b = ((answer ≡ is) ⊎ (answer ≡ Err NoMemory)) × (b ≡ a)
+Conformed (Works {U} P next) answer a b =
     ((answer ≡ Err NoMemory) × (b ≡ a))
-    ⊎ ((u : U) × P u × Went (next u) answer a b)
-Went (Reads {U} input next) answer a b =
+    ⊎ ((u : U) × P u × Conformed (next u) answer a b)
+Conformed (Reads {U} input next) answer a b =
     ((stop : Stop) × (answer ≡ Err stop) × StopsThere input stop a b)
-    ⊎ ((u : U) × (value_at input a.files ≡ Ok u) × Went (next u) answer (opened input.name [] a) b)
+    ⊎ ((u : U) × (value_at input a.files ≡ Ok u) × Conformed (next u) answer (opened input.name [] a) b)
 
 -- the same of a stage that had all its values
 abbrev pub ReadsAll : {V : Type 0} → Stage V → Contents → Contents → Type 0
@@ -100,8 +100,8 @@ CountsStop answer old new = new ≡ old
 
 -- How a call may go that carries out a stage: what it does to what the desk tells; it creates no file; what it does to the
 -- two counts; and it carries no reader's want of memory.
-pub record Goes {D V : Type 0} (desk : Ghosts D) (stage : Stage V) (answer : Result V Stop) (old new : D) : Type 0 where
-  pub told : Tells (desk.told old) (desk.told new) (Went stage answer)
+pub record Conforms {D V : Type 0} (desk : Ghosts D) (stage : Stage V) (answer : Result V Stop) (old new : D) : Type 0 where
+  pub told : Tells (desk.told old) (desk.told new) (Conformed stage answer)
   pub no_file : desk.is_created new ≡ desk.is_created old
   pub input_count : CountsStop answer (desk.input_faults old) (desk.input_faults new)
   pub output_count : desk.output_faults new ≡ desk.output_faults old

@@ -1,7 +1,7 @@
 ghost use Rattle.std.specs.Prelude.{◌≡◌, length, IfOk};
 ghost use Rattle.walk_laws.specs.Ranking.{IsRanking};
 ghost use Rattle.chl_inputs.specs.Inputs.{ArePairsWithin, graph_input, index_input, order_input, pairs_input};
-ghost use Rattle.chl_inputs.specs.Stages.{Goes, reading};
+ghost use Rattle.chl_inputs.specs.Stages.{Conforms, reading};
 
 use crate::reading::read_input;
 use crate::stop::Stop;
@@ -16,7 +16,7 @@ use walk_laws::Graph;
 
 /// The graph of the named text.
 pub fn read_graph<D: Desk>(alloc: Global, name: &str, desk: &mut D) -> Result<Graph, Stop>
-    ensures { Goes D.Desk (reading (graph_input name.now)) result desk.old desk.new }
+    ensures { Conforms D.Desk (reading (graph_input name.now)) result desk.old desk.new }
 {
     let reader = GrReader::new(alloc)?;
     read_input(desk, name, reader)
@@ -26,7 +26,7 @@ pub fn read_graph<D: Desk>(alloc: Global, name: &str, desk: &mut D) -> Result<Gr
 pub fn read_order<D: Desk>(alloc: Global, name: &str, n: u32, desk: &mut D) -> Result<Ranking, Stop>
     ensures size { IfOk result (λ at. length at ≡ n) }
     ensures ranking { IfOk result IsRanking }
-    ensures goes { Goes D.Desk (reading (order_input n name.now)) result desk.old desk.new }
+    ensures goes { Conforms D.Desk (reading (order_input n name.now)) result desk.old desk.new }
 {
     let reader = OrderReader::new(alloc, n)?;
     read_input(desk, name, reader)
@@ -35,7 +35,7 @@ pub fn read_order<D: Desk>(alloc: Global, name: &str, n: u32, desk: &mut D) -> R
 /// The pairs of the nodes 1..n of the named text.
 pub fn read_pairs<D: Desk>(alloc: Global, name: &str, n: u32, desk: &mut D) -> Result<Pairs, Stop>
     ensures within { IfOk result (ArePairsWithin n) }
-    ensures goes { Goes D.Desk (reading (pairs_input n name.now)) result desk.old desk.new }
+    ensures goes { Conforms D.Desk (reading (pairs_input n name.now)) result desk.old desk.new }
 {
     let reader = PairsReader::new(alloc, n)?;
     read_input(desk, name, reader)
@@ -43,7 +43,7 @@ pub fn read_pairs<D: Desk>(alloc: Global, name: &str, n: u32, desk: &mut D) -> R
 
 /// The index of the named file.
 pub fn read_index<D: Desk>(alloc: Global, name: &str, desk: &mut D) -> Result<Index, Stop>
-    ensures { Goes D.Desk (reading (index_input name.now)) result desk.old desk.new }
+    ensures { Conforms D.Desk (reading (index_input name.now)) result desk.old desk.new }
 {
     let reader = IndexReader::new(alloc)?;
     read_input(desk, name, reader)

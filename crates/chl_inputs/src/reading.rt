@@ -1,6 +1,6 @@
 ghost use Rattle.std.specs.Prelude.{◌≡◌, ℕ, List, [], Ok, None, IfOk};
 ghost use Rattle.chl_inputs.specs.Inputs.{input_from};
-ghost use Rattle.chl_inputs.specs.Stages.{Goes, reading};
+ghost use Rattle.chl_inputs.specs.Stages.{Conforms, reading};
 
 use crate::stop::Stop;
 use crate::stops_at::{StopsAt, stop_at_end, stop_at_opening};
@@ -15,7 +15,7 @@ pub fn read_input<D: Desk, R: StopsAt + Drop>(
 ) -> Result<R::Value, Stop>
     requires { R.refused reader [] ≡ None }
     ensures came { IfOk result (λ value. (bytes : List ℕ) × (R.comes_to reader bytes ≡ Ok value)) }
-    ensures goes { Goes D.Desk (reading (input_from (R.refused reader) (R.comes_to reader) R.stop_of name.now)) result desk.old desk.new }
+    ensures goes { Conforms D.Desk (reading (input_from (R.refused reader) (R.comes_to reader) R.stop_of name.now)) result desk.old desk.new }
 {
     match desk.open_in(name) {
         Ok(()) => {}

@@ -1,7 +1,9 @@
 pub mod Defaults
 pub mod Levels
+pub mod Limits
 pub mod Options
 pub mod Programs
+pub mod Settings
 pub mod Strays
 pub mod TypedWords
 pub mod Unknown

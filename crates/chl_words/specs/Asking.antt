@@ -1,12 +1,13 @@
 -- What a list of words asks for, by clap's meaning of it.
-use Rattle.std.specs.Prelude.{◌≤◌, ◌^◌, ◌&&◌, ℕ, List, [], ◌∷◌, Option, Some, None, option_and_then, nat_le, nat_lt, codes, if◌then◌else◌}
+use Rattle.std.specs.Prelude.{◌≤◌, ◌^◌, ◌&&◌, ℕ, List, [], ◌∷◌, Option, Some, None, option_and_then, option_map, nat_le, nat_lt, codes, if◌then◌else◌}
+use Rattle.std.specs.Option.{option_zip}
 use Rattle.std.specs.Str.{bytes_eq}
 use Rattle.std.specs.Str.Parse.{digits_value, without_leading_plus}
 use Rattle.clap.specs.Words.{Kinds, Row, Text, fault_of, first_of, subcommand_of}
 use Rattle.clap.specs.ValueTests.{is_numeral}
 use Rattle.chl_words.specs.Literal.{program}
-use Rattle.chl_words.specs.declared.reading.Building.{Building}
 use Rattle.chl_words.specs.declared.asked.By.{By}
+use Rattle.chl_words.specs.declared.asked.Construction.{Construction}
 use Rattle.chl_words.specs.declared.asked.By.TheVariants.{Plant, Lcc, Gll}
 use Rattle.chl_words.specs.declared.asked.Asked.{Asked}
 use Rattle.chl_words.specs.declared.asked.Asked.TheVariants.{List as ListRows, Build, Solve, Query, Path, Audit, Degree, Rank, Grid}
@@ -15,14 +16,14 @@ use Rattle.chl_words.specs.declared.asked.Asked.TheVariants.{List as ListRows, B
 abbrev pub Values : Type 0
 Values = Text → Option Text
 
--- one step after another, where it has a value
-infixl 20 ◌>>=◌
-abbrev pub ◌>>=◌ : {A B : Type 0} → Option A → (A → Option B) → Option B
-value >>= next = option_and_then next value
+-- both parts, where each is there
+infixl 20 ◌&◌
+abbrev pub ◌&◌ : {A B : Type 0} → Option A → Option B → Option (A × B)
+first & second = option_zip first second
 
 -- the construction that a word names
-abbrev pub construction_of : Text → Option By
-construction_of word =
+abbrev pub by_of : Text → Option By
+by_of word =
     if bytes_eq word (codes "plant") then Some Plant
     else (if bytes_eq word (codes "lcc") then Some Lcc
     else (if bytes_eq word (codes "gll") then Some Gll else None))
@@ -39,7 +40,7 @@ within least most n = if nat_le least n && nat_le n most then Some n else None
 
 -- the number between two limits that a word is
 abbrev pub number_of : ℕ → ℕ → Text → Option ℕ
-number_of least most word = any_number_of word >>= within least most
+number_of least most word = option_and_then (within least most) (any_number_of word)
 
 -- how many workers there may be, and how great the cut may be
 abbrev pub most_workers : ℕ
@@ -55,45 +56,46 @@ longest_side = 256
 abbrev pub greatest_seed : ℕ
 greatest_seed = 2147483647
 
+-- the number between two limits that the option has
+abbrev pub number_in : ℕ → ℕ → Option Text → Option ℕ
+number_in least most word = option_and_then (number_of least most) word
+
+abbrev pub workers_of : Values → Option ℕ
+workers_of value = number_in 1 most_workers (value (codes "workers"))
+
 -- how an index is to be built, by the options that may be left out
-abbrev pub building_of : Values → Option Building
-building_of value =
-    value (codes "by") >>= construction_of
-    >>= λ by. value (codes "workers") >>= number_of 1 most_workers
-    >>= λ workers. value (codes "cut") >>= number_of 1 most_roots
-    >>= λ cut. Some (record { by = by; workers = workers; cut = cut })
+abbrev pub construction_of : Values → Option Construction
+construction_of value =
+    option_map (λ p. record { by = p.0.0; workers = p.0.1; cut = p.1 })
+    (option_and_then by_of (value (codes "by")) & workers_of value & number_in 1 most_roots (value (codes "cut")))
 
 -- what each command asks for, by the values of its options
 abbrev pub list_of : Values → Option Asked
-list_of value = value (codes "graph") >>= λ graph. value (codes "order") >>= λ order. Some (ListRows graph order)
+list_of value = option_map (λ p. ListRows p.0 p.1) (value (codes "graph") & value (codes "order"))
 
 abbrev pub build_of : Values → Option Asked
-build_of value = value (codes "graph") >>= λ graph. value (codes "order") >>= λ order. value (codes "out") >>= λ out. building_of value >>= λ built. Some (Build graph order out built.by built.workers built.cut)
+build_of value = option_map (λ p. Build p.0.0.0 p.0.0.1 p.0.1 p.1) (value (codes "graph") & value (codes "order") & value (codes "out") & construction_of value)
 
 abbrev pub solve_of : Values → Option Asked
-solve_of value = value (codes "graph") >>= λ graph. value (codes "order") >>= λ order. value (codes "pairs") >>= λ pairs. building_of value >>= λ built. Some (Solve graph order pairs built.by built.workers built.cut)
+solve_of value = option_map (λ p. Solve p.0.0.0 p.0.0.1 p.0.1 p.1) (value (codes "graph") & value (codes "order") & value (codes "pairs") & construction_of value)
 
 abbrev pub query_of : Values → Option Asked
-query_of value = value (codes "index") >>= λ index. value (codes "pairs") >>= λ pairs. Some (Query index pairs)
+query_of value = option_map (λ p. Query p.0 p.1) (value (codes "index") & value (codes "pairs"))
 
 abbrev pub path_of : Values → Option Asked
-path_of value = value (codes "graph") >>= λ graph. value (codes "index") >>= λ index. value (codes "pairs") >>= λ pairs. Some (Path graph index pairs)
+path_of value = option_map (λ p. Path p.0.0 p.0.1 p.1) (value (codes "graph") & value (codes "index") & value (codes "pairs"))
 
 abbrev pub audit_of : Values → Option Asked
-audit_of value = value (codes "graph") >>= λ graph. value (codes "order") >>= λ order. value (codes "index") >>= λ index. Some (Audit graph order index)
+audit_of value = option_map (λ p. Audit p.0.0 p.0.1 p.1) (value (codes "graph") & value (codes "order") & value (codes "index"))
 
 abbrev pub degree_of : Values → Option Asked
-degree_of value = value (codes "graph") >>= λ graph. Some (Degree graph)
+degree_of value = option_map Degree (value (codes "graph"))
 
 abbrev pub rank_of : Values → Option Asked
-rank_of value = value (codes "graph") >>= λ graph. Some (Rank graph)
+rank_of value = option_map Rank (value (codes "graph"))
 
 abbrev pub grid_of : Values → Option Asked
-grid_of value =
-    value (codes "side") >>= number_of 1 longest_side
-    >>= λ side. value (codes "seed") >>= number_of 0 greatest_seed
-    >>= λ seed. value (codes "workers") >>= number_of 1 most_workers
-    >>= λ workers. Some (Grid side seed workers)
+grid_of value = option_map (λ p. Grid (record { side = p.0.0; seed = p.0.1; workers = p.1 })) (number_in 1 longest_side (value (codes "side")) & number_in 0 greatest_seed (value (codes "seed")) & workers_of value)
 
 -- what the command of this name asks for
 abbrev pub asked_of : Text → Values → Option Asked
@@ -137,7 +139,7 @@ IsGridWithinLimits side seed workers = (1 ≤ side) × (side ≤ longest_side) �
 
 -- those of a command are
 abbrev pub IsWithinLimits : Asked → Type 0
-IsWithinLimits (Build graph order out by workers cut) = AreWithinLimits workers cut
-IsWithinLimits (Solve graph order pairs by workers cut) = AreWithinLimits workers cut
-IsWithinLimits (Grid side seed workers) = IsGridWithinLimits side seed workers
+IsWithinLimits (Build graph order out built) = AreWithinLimits built.workers built.cut
+IsWithinLimits (Solve graph order pairs built) = AreWithinLimits built.workers built.cut
+IsWithinLimits (Grid grid) = IsGridWithinLimits grid.side grid.seed grid.workers
 IsWithinLimits asked = Unit {0}

@@ -1,5 +1,5 @@
 -- The program as one command of clap, with a subcommand for each of its commands.
-use Rattle.std.specs.Prelude.{◌≡◌, ◌^◌, ℕ, true, false, List, [], ◌∷◌, Some, codes}
+use Rattle.std.specs.Prelude.{◌≡◌, ◌^◌, ℕ, true, false, List, [], ◌∷◌, ◌++◌, Some, codes, map}
 use Rattle.clap.specs.Words.{App, Rule, Shape, Text, app_of, new_rule, rule_of}
 use Rattle.clap.specs.Simple.{new_shape}
 use Rattle.clap.specs.declared.builder.arg.Arg.{Arg}
@@ -42,33 +42,37 @@ cut = number (codes "cut") (2 ^ 30) (codes "1024")
 abbrev pub command : Text → List Rule → Shape
 command name options = record (new_shape name) { rules = options }
 
--- the options of a build that may be left out
-abbrev pub building : List Rule
-building = construction ∷ workers ∷ cut ∷ []
+-- one whose options must all be there, each with the name of a file
+abbrev pub files : Text → List Text → Shape
+files name options = command name (map file options)
+
+-- the same, with the options of a build that may be left out
+abbrev pub built : Text → List Text → Shape
+built name options = command name (map file options ++ construction ∷ [] ++ workers ∷ [] ++ cut ∷ [])
 
 abbrev pub list : Shape
-list = command (codes "list") (file (codes "graph") ∷ file (codes "order") ∷ [])
+list = files (codes "list") (codes "graph" ∷ codes "order" ∷ [])
 
 abbrev pub build : Shape
-build = command (codes "build") (file (codes "graph") ∷ file (codes "order") ∷ file (codes "out") ∷ building)
+build = built (codes "build") (codes "graph" ∷ codes "order" ∷ codes "out" ∷ [])
 
 abbrev pub solve : Shape
-solve = command (codes "solve") (file (codes "graph") ∷ file (codes "order") ∷ file (codes "pairs") ∷ building)
+solve = built (codes "solve") (codes "graph" ∷ codes "order" ∷ codes "pairs" ∷ [])
 
 abbrev pub query : Shape
-query = command (codes "query") (file (codes "index") ∷ file (codes "pairs") ∷ [])
+query = files (codes "query") (codes "index" ∷ codes "pairs" ∷ [])
 
 abbrev pub path : Shape
-path = command (codes "path") (file (codes "graph") ∷ file (codes "index") ∷ file (codes "pairs") ∷ [])
+path = files (codes "path") (codes "graph" ∷ codes "index" ∷ codes "pairs" ∷ [])
 
 abbrev pub audit : Shape
-audit = command (codes "audit") (file (codes "graph") ∷ file (codes "order") ∷ file (codes "index") ∷ [])
+audit = files (codes "audit") (codes "graph" ∷ codes "order" ∷ codes "index" ∷ [])
 
 abbrev pub degree : Shape
-degree = command (codes "degree") (file (codes "graph") ∷ [])
+degree = files (codes "degree") (codes "graph" ∷ [])
 
 abbrev pub rank : Shape
-rank = command (codes "rank") (file (codes "graph") ∷ [])
+rank = files (codes "rank") (codes "graph" ∷ [])
 
 abbrev pub grid : Shape
 grid = command (codes "grid") (number_needed (codes "side") 1 256 ∷ number_needed (codes "seed") 0 2147483647 ∷ workers ∷ [])

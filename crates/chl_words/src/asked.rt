@@ -46,6 +46,27 @@ pub enum By {
     Gll,
 }
 
+/// How an index is to be built.
+#[derive(Clone, Copy, Debug, PartialEq, Eq)]
+pub struct Construction {
+    pub by: By,
+    /// How many workers build: 1..64.
+    pub workers: u32,
+    /// How many roots a worker takes at a time: 1..2^30.
+    pub cut: u32,
+}
+
+/// A square grid, and how its index is to be built.
+#[derive(Clone, Copy, Debug, PartialEq, Eq)]
+pub struct Grid {
+    /// How many rows and columns the grid has: 1..256.
+    pub side: u32,
+    /// What its weights come from: 0..2^31-1.
+    pub seed: u32,
+    /// How many workers build: 1..64.
+    pub workers: u32,
+}
+
 /// What a command line asks for.
 #[derive(Debug, Drop)]
 pub enum Asked {
@@ -60,22 +81,14 @@ pub enum Asked {
         order: Name,
         /// The file that is created.
         out: Name,
-        by: By,
-        /// How many workers build: 1..64.
-        workers: u32,
-        /// How many roots a worker takes at a time: 1..2^30.
-        cut: u32,
+        construction: Construction,
     },
     /// Say the distance of each pair of nodes of a graph, with the highest-ranked node between under an order.
     Solve {
         graph: Name,
         order: Name,
         pairs: Name,
-        by: By,
-        /// How many workers build: 1..64.
-        workers: u32,
-        /// How many roots a worker takes at a time: 1..2^30.
-        cut: u32,
+        construction: Construction,
     },
     /// Say what the rows of an index say of each pair of its nodes.
     Query {
@@ -103,14 +116,7 @@ pub enum Asked {
         graph: Name,
     },
     /// Print what the index of a square grid comes to by each construction, under the order by falling degree.
-    Grid {
-        /// How many rows and columns the grid has: 1..256.
-        side: u32,
-        /// What its weights come from: 0..2^31-1.
-        seed: u32,
-        /// How many workers build: 1..64.
-        workers: u32,
-    },
+    Grid(Grid),
 }
 
 /// Why a command line asks for nothing.

@@ -1,6 +1,6 @@
 //! The commands and their options, as clap has them. A new command, or a new option of one, is an entry here and one in
 //! specs/Literal.
-ghost use Rattle.std.specs.Prelude.{◌≡◌, ℕ, List, codes, false, IfOk};
+ghost use Rattle.std.specs.Prelude.{map, IfOk};
 ghost use Rattle.clap.specs.Words.{App, Rule, Shape, with_rule, with_subcommand};
 ghost use Rattle.chl_words.specs.Literal as literal;
 ghost use Rattle.chl_words.specs.Literal.{IsOption, IsProgram, command_alone};
@@ -32,75 +32,35 @@ pub fn program<'a>(alloc: Global) -> Result<Command<'a>, AllocError>
         .disable_help_flag(true)
         .disable_help_subcommand(true)
         .subcommand_required(true);
-    let program = with_command(Ok(bare), list(alloc));
-    let program = with_command(program, build(alloc));
-    let program = with_command(program, solve(alloc));
-    let program = with_command(program, query(alloc));
-    let program = with_command(program, path(alloc));
-    let program = with_command(program, audit(alloc));
-    let program = with_command(program, degree(alloc));
-    let program = with_command(program, rank(alloc));
+    let program = with_command(Ok(bare), files(alloc, "list", &["graph", "order"]));
+    let program = with_command(program, built(alloc, "build", &["graph", "order", "out"]));
+    let program = with_command(program, built(alloc, "solve", &["graph", "order", "pairs"]));
+    let program = with_command(program, files(alloc, "query", &["index", "pairs"]));
+    let program = with_command(program, files(alloc, "path", &["graph", "index", "pairs"]));
+    let program = with_command(program, files(alloc, "audit", &["graph", "order", "index"]));
+    let program = with_command(program, files(alloc, "degree", &["graph"]));
+    let program = with_command(program, files(alloc, "rank", &["graph"]));
     with_command(program, grid(alloc))
 }
 
-fn list<'a>(alloc: Global) -> Result<Command<'a>, AllocError>
-    ensures { IfOk result (IsProgram (command_alone literal.list)) }
+/// A command whose options must all be there, each with the name of a file.
+fn files<'a>(alloc: Global, name: &'a str, options: &[&'a str]) -> Result<Command<'a>, AllocError>
+    ensures { IfOk result (IsProgram (command_alone (literal.files name.entry.now (map (λ f. f.now) options.entry.now)))) }
 {
-    let command = with_option(Ok(Command::new(alloc, "list")), file(alloc, "graph"));
-    with_option(command, file(alloc, "order"))
+    let mut command = Ok(Command::new(alloc, name));
+    for option in options {
+        command = with_option(command, file(alloc, option));
+    }
+    command
 }
 
-fn build<'a>(alloc: Global) -> Result<Command<'a>, AllocError>
-    ensures { IfOk result (IsProgram (command_alone literal.build)) }
+/// The same, with the options of a build that may be left out.
+fn built<'a>(alloc: Global, name: &'a str, options: &[&'a str]) -> Result<Command<'a>, AllocError>
+    ensures { IfOk result (IsProgram (command_alone (literal.built name.entry.now (map (λ f. f.now) options.entry.now)))) }
 {
-    let command = with_option(Ok(Command::new(alloc, "build")), file(alloc, "graph"));
-    let command = with_option(command, file(alloc, "order"));
-    let command = with_option(command, file(alloc, "out"));
-    with_building(alloc, command)
-}
-
-fn solve<'a>(alloc: Global) -> Result<Command<'a>, AllocError>
-    ensures { IfOk result (IsProgram (command_alone literal.solve)) }
-{
-    let command = with_option(Ok(Command::new(alloc, "solve")), file(alloc, "graph"));
-    let command = with_option(command, file(alloc, "order"));
-    let command = with_option(command, file(alloc, "pairs"));
-    with_building(alloc, command)
-}
-
-fn query<'a>(alloc: Global) -> Result<Command<'a>, AllocError>
-    ensures { IfOk result (IsProgram (command_alone literal.query)) }
-{
-    let command = with_option(Ok(Command::new(alloc, "query")), file(alloc, "index"));
-    with_option(command, file(alloc, "pairs"))
-}
-
-fn path<'a>(alloc: Global) -> Result<Command<'a>, AllocError>
-    ensures { IfOk result (IsProgram (command_alone literal.path)) }
-{
-    let command = with_option(Ok(Command::new(alloc, "path")), file(alloc, "graph"));
-    let command = with_option(command, file(alloc, "index"));
-    with_option(command, file(alloc, "pairs"))
-}
-
-fn audit<'a>(alloc: Global) -> Result<Command<'a>, AllocError>
-    ensures { IfOk result (IsProgram (command_alone literal.audit)) }
-{
-    let command = with_option(Ok(Command::new(alloc, "audit")), file(alloc, "graph"));
-    let command = with_option(command, file(alloc, "order"));
-    with_option(command, file(alloc, "index"))
-}
-
-fn degree<'a>(alloc: Global) -> Result<Command<'a>, AllocError>
-    ensures { IfOk result (IsProgram (command_alone literal.degree)) }
-{
-    Command::new(alloc, "degree").arg(file(alloc, "graph"))
-}
-
-fn rank<'a>(alloc: Global) -> Result<Command<'a>, AllocError>
-    ensures { IfOk result (IsProgram (command_alone literal.rank)) }
-{
-    Command::new(alloc, "rank").arg(file(alloc, "graph"))
+    let command = with_option(files(alloc, name, options), construction(alloc));
+    let command = with_option(command, workers(alloc));
+    with_option(command, cut(alloc))
 }
 
 fn grid<'a>(alloc: Global) -> Result<Command<'a>, AllocError>
@@ -133,30 +93,25 @@ fn with_option<'a>(
     command?.arg(option)
 }
 
-/// A command with the options of a build that may be left out. It takes the command as the step before gave it.
-fn with_building<'a>(
-    alloc: Global,
-    command: Result<Command<'a>, AllocError>,
-) -> Result<Command<'a>, AllocError>
-    ensures { (app : App) → IfOk command.entry (IsProgram app) → IfOk result (IsProgram (with_rule (with_rule (with_rule app literal.construction) literal.workers) literal.cut)) }
+/// An option with any text as its value.
+fn option<'a>(alloc: Global, name: &'a str) -> Arg<'a>
+    ensures { IsOption (literal.option_named name.entry.now) result }
 {
-    let command = with_option(command, construction(alloc));
-    let command = with_option(command, workers(alloc));
-    with_option(command, cut(alloc))
+    Arg::new(alloc, name).long(name)
 }
 
 /// An option that must be there, with the name of a file.
 fn file<'a>(alloc: Global, name: &'a str) -> Arg<'a>
     ensures { IsOption (literal.file name.entry.now) result }
 {
-    Arg::new(alloc, name).long(name).required(true)
+    option(alloc, name).required(true)
 }
 
 /// The option that names a construction.
 fn construction<'a>(alloc: Global) -> Arg<'a>
     ensures { IsOption literal.construction result }
 {
-    Arg::new(alloc, "by").long("by").default_value("plant")
+    option(alloc, "by").default_value("plant")
 }
 
 /// The option that says how many workers there are, one where it is left out.
@@ -178,8 +133,7 @@ fn cut<'a>(alloc: Global) -> Arg<'a>
 fn number_needed<'a>(alloc: Global, name: &'a str, least: u32, most: u32) -> Arg<'a>
     ensures { IsOption (literal.number_needed name.entry.now least most) result }
 {
-    Arg::new(alloc, name)
-        .long(name)
+    option(alloc, name)
         .required(true)
         .value_parser(ValueParser::unsigned(u64::from(least), u64::from(most)))
 }
@@ -188,8 +142,7 @@ fn number_needed<'a>(alloc: Global, name: &'a str, least: u32, most: u32) -> Arg
 fn number<'a>(alloc: Global, name: &'a str, most: u32, default: &'a str) -> Arg<'a>
     ensures { IsOption (literal.number name.entry.now most default.entry.now) result }
 {
-    Arg::new(alloc, name)
-        .long(name)
+    option(alloc, name)
         .value_parser(ValueParser::unsigned(1, u64::from(most)))
         .default_value(default)
 }

@@ -1,23 +1,17 @@
-ghost use Rattle.std.specs.Prelude.{◌≡◌, ◌≢◌, ◌≤◌, ℕ, List, Option, Some, None, codes, map, string_bytes, option_and_then, IfOk, IfErr, IfSome, IfNone};
+ghost use Rattle.std.specs.Prelude.{◌≡◌, ◌≢◌, Some, None, codes, map, string_bytes, option_and_then, IfOk, IfErr};
+ghost use Rattle.std.specs.Option.{option_copied};
 ghost use Rattle.clap.specs.Words.{found_of, kind_of, rows_of, subcommand_rows_of};
 ghost use Rattle.clap.specs.declared.error.kind.ErrorKind.TheVariants.{OutOfMemory};
-ghost use Rattle.chl_words.specs.Asking.{AreWithinLimits, IsWithinLimits, any_number_of, asked_in, asked_of, audit_of, build_of, building_of, asked_by, construction_of, degree_of, grid_of, list_of, number_of, path_of, query_of, rank_of, solve_of, values_in, within};
+ghost use Rattle.chl_words.specs.Asking as asking;
+ghost use Rattle.chl_words.specs.Asking.{IsWithinLimits, asked_in, asked_of, asked_by, audit_of, build_of, construction_of, degree_of, grid_of, list_of, number_in, path_of, query_of, rank_of, solve_of, values_in, workers_of};
 ghost use Rattle.chl_words.specs.Reading.{IsRead};
 ghost use Rattle.chl_words.specs.declared.asked.AskFault.TheVariants.{Usage};
 
-use crate::asked::{AskFault, Asked, By, Name};
+use crate::asked::{AskFault, Asked, By, Construction, Grid, Name};
 use crate::literal::{GREATEST_SEED, LONGEST_SIDE, MOST_ROOTS, MOST_WORKERS, program};
 use clap::error::ErrorKind;
 use clap::{ArgMatches, Error};
 use std::alloc::Global;
-
-/// How an index is to be built.
-#[derive(Clone, Copy)]
-struct Building {
-    by: By,
-    workers: u32,
-    cut: u32,
-}
 
 /// What the words of a command line ask for. The first is the program's own name and isn't judged.
 pub fn read_words(alloc: Global, words: &[String]) -> Result<Asked, AskFault>
@@ -45,8 +39,7 @@ fn fault_of(error: &Error) -> AskFault
 
 /// What the matches of a command line ask for.
 fn read_matches(alloc: Global, matches: &ArgMatches<'_>) -> Result<Asked, AskFault>
-    ensures read { IsRead (asked_in (subcommand_rows_of matches.now)) result }
-    ensures limits { IfOk result IsWithinLimits }
+    ensures { IsRead (asked_in (subcommand_rows_of matches.now)) result }
 {
     match matches.subcommand() {
         Some((name, found)) => read_command(alloc, name, found),
@@ -56,8 +49,7 @@ fn read_matches(alloc: Global, matches: &ArgMatches<'_>) -> Result<Asked, AskFau
 
 /// What the command of this name asks for, with these matches.
 fn read_command(alloc: Global, name: &str, found: &ArgMatches<'_>) -> Result<Asked, AskFault>
-    ensures read { IsRead (asked_of name.now (values_in (rows_of (found_of found.now)))) result }
-    ensures limits { IfOk result IsWithinLimits }
+    ensures { IsRead (asked_of name.now (values_in (rows_of (found_of found.now)))) result }
 {
     match name {
         "list" => read_list(alloc, found),
@@ -74,115 +66,89 @@ fn read_command(alloc: Global, name: &str, found: &ArgMatches<'_>) -> Result<Ask
 }
 
 fn read_list(alloc: Global, found: &ArgMatches<'_>) -> Result<Asked, AskFault>
-    ensures read { IsRead (list_of (values_in (rows_of (found_of found.now)))) result }
-    ensures limits { IfOk result IsWithinLimits }
+    ensures { IsRead (list_of (values_in (rows_of (found_of found.now)))) result }
 {
-    let graph = file(alloc, found, "graph")?;
-    let order = file(alloc, found, "order")?;
-    Ok(Asked::List { graph, order })
+    Ok(Asked::List {
+        graph: file(alloc, found, "graph")?,
+        order: file(alloc, found, "order")?,
+    })
 }
 
 fn read_build(alloc: Global, found: &ArgMatches<'_>) -> Result<Asked, AskFault>
-    ensures read { IsRead (build_of (values_in (rows_of (found_of found.now)))) result }
-    ensures limits { IfOk result IsWithinLimits }
+    ensures { IsRead (build_of (values_in (rows_of (found_of found.now)))) result }
 {
-    let graph = file(alloc, found, "graph")?;
-    let order = file(alloc, found, "order")?;
-    let out = file(alloc, found, "out")?;
-    let Building { by, workers, cut } = read_building(found)?;
     Ok(Asked::Build {
-        graph,
-        order,
-        out,
-        by,
-        workers,
-        cut,
+        graph: file(alloc, found, "graph")?,
+        order: file(alloc, found, "order")?,
+        out: file(alloc, found, "out")?,
+        construction: construction(found)?,
     })
 }
 
 fn read_solve(alloc: Global, found: &ArgMatches<'_>) -> Result<Asked, AskFault>
-    ensures read { IsRead (solve_of (values_in (rows_of (found_of found.now)))) result }
-    ensures limits { IfOk result IsWithinLimits }
+    ensures { IsRead (solve_of (values_in (rows_of (found_of found.now)))) result }
 {
-    let graph = file(alloc, found, "graph")?;
-    let order = file(alloc, found, "order")?;
-    let pairs = file(alloc, found, "pairs")?;
-    let Building { by, workers, cut } = read_building(found)?;
     Ok(Asked::Solve {
-        graph,
-        order,
-        pairs,
-        by,
-        workers,
-        cut,
+        graph: file(alloc, found, "graph")?,
+        order: file(alloc, found, "order")?,
+        pairs: file(alloc, found, "pairs")?,
+        construction: construction(found)?,
     })
 }
 
 fn read_query(alloc: Global, found: &ArgMatches<'_>) -> Result<Asked, AskFault>
-    ensures read { IsRead (query_of (values_in (rows_of (found_of found.now)))) result }
-    ensures limits { IfOk result IsWithinLimits }
+    ensures { IsRead (query_of (values_in (rows_of (found_of found.now)))) result }
 {
-    let index = file(alloc, found, "index")?;
-    let pairs = file(alloc, found, "pairs")?;
-    Ok(Asked::Query { index, pairs })
+    Ok(Asked::Query {
+        index: file(alloc, found, "index")?,
+        pairs: file(alloc, found, "pairs")?,
+    })
 }
 
 fn read_path(alloc: Global, found: &ArgMatches<'_>) -> Result<Asked, AskFault>
-    ensures read { IsRead (path_of (values_in (rows_of (found_of found.now)))) result }
-    ensures limits { IfOk result IsWithinLimits }
+    ensures { IsRead (path_of (values_in (rows_of (found_of found.now)))) result }
 {
-    let graph = file(alloc, found, "graph")?;
-    let index = file(alloc, found, "index")?;
-    let pairs = file(alloc, found, "pairs")?;
     Ok(Asked::Path {
-        graph,
-        index,
-        pairs,
+        graph: file(alloc, found, "graph")?,
+        index: file(alloc, found, "index")?,
+        pairs: file(alloc, found, "pairs")?,
     })
 }
 
 fn read_audit(alloc: Global, found: &ArgMatches<'_>) -> Result<Asked, AskFault>
-    ensures read { IsRead (audit_of (values_in (rows_of (found_of found.now)))) result }
-    ensures limits { IfOk result IsWithinLimits }
+    ensures { IsRead (audit_of (values_in (rows_of (found_of found.now)))) result }
 {
-    let graph = file(alloc, found, "graph")?;
-    let order = file(alloc, found, "order")?;
-    let index = file(alloc, found, "index")?;
     Ok(Asked::Audit {
-        graph,
-        order,
-        index,
+        graph: file(alloc, found, "graph")?,
+        order: file(alloc, found, "order")?,
+        index: file(alloc, found, "index")?,
     })
 }
 
 fn read_degree(alloc: Global, found: &ArgMatches<'_>) -> Result<Asked, AskFault>
-    ensures read { IsRead (degree_of (values_in (rows_of (found_of found.now)))) result }
-    ensures limits { IfOk result IsWithinLimits }
+    ensures { IsRead (degree_of (values_in (rows_of (found_of found.now)))) result }
 {
-    let graph = file(alloc, found, "graph")?;
-    Ok(Asked::Degree { graph })
+    Ok(Asked::Degree {
+        graph: file(alloc, found, "graph")?,
+    })
 }
 
 fn read_rank(alloc: Global, found: &ArgMatches<'_>) -> Result<Asked, AskFault>
-    ensures read { IsRead (rank_of (values_in (rows_of (found_of found.now)))) result }
-    ensures limits { IfOk result IsWithinLimits }
+    ensures { IsRead (rank_of (values_in (rows_of (found_of found.now)))) result }
 {
-    let graph = file(alloc, found, "graph")?;
-    Ok(Asked::Rank { graph })
+    Ok(Asked::Rank {
+        graph: file(alloc, found, "graph")?,
+    })
 }
 
 fn read_grid(found: &ArgMatches<'_>) -> Result<Asked, AskFault>
-    ensures read { IsRead (grid_of (values_in (rows_of (found_of found.now)))) result }
-    ensures limits { IfOk result IsWithinLimits }
+    ensures { IsRead (grid_of (values_in (rows_of (found_of found.now)))) result }
 {
-    let side = number(found, "side", 1, LONGEST_SIDE)?;
-    let seed = number(found, "seed", 0, GREATEST_SEED)?;
-    let workers = number(found, "workers", 1, MOST_WORKERS)?;
-    Ok(Asked::Grid {
-        side,
-        seed,
-        workers,
-    })
+    Ok(Asked::Grid(Grid {
+        side: number(found, "side", 1, LONGEST_SIDE)?,
+        seed: number(found, "seed", 0, GREATEST_SEED)?,
+        workers: workers(found)?,
+    }))
 }
 
 /// The name of the file that this option has.
@@ -196,83 +162,63 @@ fn file(alloc: Global, found: &ArgMatches<'_>, option: &str) -> Result<Name, Ask
 }
 
 /// How an index is to be built, by the options that may be left out.
-fn read_building(found: &ArgMatches<'_>) -> Result<Building, AskFault>
-    ensures read { IsRead (building_of (values_in (rows_of (found_of found.now)))) result }
-    ensures limits { IfOk result (λ built. AreWithinLimits built.workers built.cut) }
+fn construction(found: &ArgMatches<'_>) -> Result<Construction, AskFault>
+    ensures { IsRead (construction_of (values_in (rows_of (found_of found.now)))) result }
 {
-    let by = construction(found)?;
-    let workers = number(found, "workers", 1, MOST_WORKERS)?;
-    let cut = number(found, "cut", 1, MOST_ROOTS)?;
-    Ok(Building { by, workers, cut })
+    Ok(Construction {
+        by: by(found)?,
+        workers: workers(found)?,
+        cut: number(found, "cut", 1, MOST_ROOTS)?,
+    })
 }
 
-/// The construction that the option `--by` names.
-fn construction(found: &ArgMatches<'_>) -> Result<By, AskFault>
-    ensures { IsRead (option_and_then construction_of (values_in (rows_of (found_of found.now)) (codes "by"))) result }
+/// What the option `--by` names.
+fn by(found: &ArgMatches<'_>) -> Result<By, AskFault>
+    ensures { IsRead (option_and_then asking.by_of (values_in (rows_of (found_of found.now)) (codes "by"))) result }
 {
-    let Some(text) = value(found, "by") else {
-        return Err(AskFault::Usage);
-    };
-    match construction_named(text) {
-        Some(by) => Ok(by),
-        None => Err(AskFault::Usage),
-    }
+    let word = value(found, "by").ok_or(AskFault::Usage)?;
+    by_of(word).ok_or(AskFault::Usage)
+}
+
+/// How many workers there are.
+fn workers(found: &ArgMatches<'_>) -> Result<u32, AskFault>
+    ensures { IsRead (workers_of (values_in (rows_of (found_of found.now)))) result }
+{
+    number(found, "workers", 1, MOST_WORKERS)
 }
 
 /// The number that this option has, between two limits.
 fn number(found: &ArgMatches<'_>, option: &str, least: u32, most: u32) -> Result<u32, AskFault>
-    ensures read { IsRead (option_and_then (number_of least most) (values_in (rows_of (found_of found.now)) option.now)) result }
-    ensures limits { IfOk result (λ n. (least ≤ n) × (n ≤ most)) }
+    ensures { IsRead (number_in least most (values_in (rows_of (found_of found.now)) option.now)) result }
 {
-    let Some(text) = value(found, option) else {
-        return Err(AskFault::Usage);
-    };
-    match number_of(text, least, most) {
-        Some(number) => Ok(number),
-        None => Err(AskFault::Usage),
-    }
+    let word = value(found, option).ok_or(AskFault::Usage)?;
+    number_of(word, least, most).ok_or(AskFault::Usage)
 }
 
 /// The value of this option, as it was written or as its default is.
 fn value<'a>(found: &ArgMatches<'a>, option: &str) -> Option<&'a str>
-    ensures some { IfSome result (λ text. values_in (rows_of (found_of found.now)) option.now ≡ Some text.now) }
-    ensures none { IfNone result (values_in (rows_of (found_of found.now)) option.now ≡ None) }
+    ensures { option_copied result ≡ values_in (rows_of (found_of found.now)) option.now }
 {
     found.get_str(option)
 }
 
 /// The construction that a word names.
-fn construction_named(word: &str) -> Option<By>
-    ensures { result ≡ construction_of word.now }
+fn by_of(word: &str) -> Option<By>
+    ensures { result ≡ asking.by_of word.now }
 {
-    if word == "plant" {
-        return Some(By::Plant);
+    match word {
+        "plant" => Some(By::Plant),
+        "lcc" => Some(By::Lcc),
+        "gll" => Some(By::Gll),
+        _ => None,
     }
-    if word == "lcc" {
-        return Some(By::Lcc);
-    }
-    if word == "gll" {
-        return Some(By::Gll);
-    }
-    None
 }
 
 /// The number between two limits that a word is.
 fn number_of(word: &str, least: u32, most: u32) -> Option<u32>
-    ensures value { result ≡ number_of least most word.now }
-    ensures limits { IfSome result (λ n. (least ≤ n) × (n ≤ most)) }
+    ensures { result ≡ asking.number_of least most word.now }
 {
-    match any_number_of(word) {
-        Some(number) => within(number, least, most),
-        None => None,
-    }
-}
-
-/// The number, where it is between two limits.
-fn within(number: u32, least: u32, most: u32) -> Option<u32>
-    ensures value { result ≡ within least most number }
-    ensures limits { IfSome result (λ n. (least ≤ n) × (n ≤ most)) }
-{
+    let number = any_number_of(word)?;
     if least <= number && number <= most {
         Some(number)
     } else {
@@ -282,7 +228,7 @@ fn within(number: u32, least: u32, most: u32) -> Option<u32>
 
 /// The number below 2^32 that a word is.
 fn any_number_of(word: &str) -> Option<u32>
-    ensures { result ≡ any_number_of word.now }
+    ensures { result ≡ asking.any_number_of word.now }
 {
     word.parse::<u32>().ok()
 }

@@ -96,9 +96,9 @@ nearer_key a b le =
     let whole = div-mul-le_self a (2 ^ 32) in
     le-div (a / 2 ^ 32) b (2 ^ 32) (omega arith) (omega (arith, whole, le))
 
--- the number of a near heap entry
-near_key : (a : ℕ) → a < 2 ^ 64 → a / 2 ^ 32 < 2 ^ 32
-near_key a small = omega (arith, small, div-mul-le_self a (2 ^ 32))
+-- the number of a short heap entry
+short_key : (a : ℕ) → a < 2 ^ 64 → a / 2 ^ 32 < 2 ^ 32
+short_key a small = omega (arith, small, div-mul-le_self a (2 ^ 32))
 
 no_nearer_key : (k m : Reverse ℕ) → is_lt (nat_cmp m.0 k.0) ≡ false → k.0 ≤ m.0
 no_nearer_key k m h = grind (arith, nat_tests)
@@ -106,16 +106,16 @@ no_nearer_key k m h = grind (arith, nat_tests)
 no_nearer : (t s : HeapEntry) → is_lt (nat_cmp s.dist.0 t.dist.0) ≡ false → t.dist.0 ≤ s.dist.0
 no_nearer t s h = grind (arith, nat_tests)
 
--- a near heap entry is added
-pub Gains-near : (near now : List (Reverse ℕ)) (far : List HeapEntry) (node dist : ℕ) → node < 2 ^ 32 → IsPermutation (record { 0 = key_of node dist } ∷ near) now → Gains (heap_entries_of near far) (heap_entries_of now far) (heap_entry_of node dist)
-Gains-near near now far node dist small moved =
-    subst (Gains (heap_entries_of near far) (heap_entries_of now far)) (heap_entry_at-key node dist small)
-    (Gains-before (map heap_entry_of_key near) (map heap_entry_of_key now) far (heap_entry_at (key_of node dist))
-    (Gains-map heap_entry_of_key near now (record { 0 = key_of node dist }) (Gains-permutation near now (record { 0 = key_of node dist }) moved)))
+-- a short heap entry is added
+pub Gains-short : (short now : List (Reverse ℕ)) (far : List HeapEntry) (node dist : ℕ) → node < 2 ^ 32 → IsPermutation (record { 0 = key_of node dist } ∷ short) now → Gains (heap_entries_of short far) (heap_entries_of now far) (heap_entry_of node dist)
+Gains-short short now far node dist small moved =
+    subst (Gains (heap_entries_of short far) (heap_entries_of now far)) (heap_entry_at-key node dist small)
+    (Gains-before (map heap_entry_of_key short) (map heap_entry_of_key now) far (heap_entry_at (key_of node dist))
+    (Gains-map heap_entry_of_key short now (record { 0 = key_of node dist }) (Gains-permutation short now (record { 0 = key_of node dist }) moved)))
 
 -- a far heap entry is added
-pub Gains-far : (near : List (Reverse ℕ)) (far now : List HeapEntry) (t : HeapEntry) → IsPermutation (t ∷ far) now → Gains (heap_entries_of near far) (heap_entries_of near now) t
-Gains-far near far now t moved = Gains-after (map heap_entry_of_key near) far now t (Gains-permutation far now t moved)
+pub Gains-far : (short : List (Reverse ℕ)) (far now : List HeapEntry) (t : HeapEntry) → IsPermutation (t ∷ far) now → Gains (heap_entries_of short far) (heap_entries_of short now) t
+Gains-far short far now t moved = Gains-after (map heap_entry_of_key short) far now t (Gains-permutation far now t moved)
 
 -- a far heap entry that is added is far off, as the others are
 pub far_off-more : (far now : List HeapEntry) (t : HeapEntry) → All (λ s. 2 ^ 32 ≤ s.dist.0) far → 2 ^ 32 ≤ t.dist.0 → IsPermutation (t ∷ far) now → All (λ s. 2 ^ 32 ≤ s.dist.0) now
@@ -125,30 +125,30 @@ far_off-more far now t off this moved = All-permutation (λ s. 2 ^ 32 ≤ s.dist
 pub far_off-left : (far now : List HeapEntry) (t : HeapEntry) → All (λ s. 2 ^ 32 ≤ s.dist.0) far → IsPermutation far (t ∷ now) → All (λ s. 2 ^ 32 ≤ s.dist.0) now
 far_off-left far now t off moved = All-tail (λ s. 2 ^ 32 ≤ s.dist.0) t now (All-permutation (λ s. 2 ^ 32 ≤ s.dist.0) far (t ∷ now) moved off)
 
--- the number of a near heap entry fits
-pub near_by-more : (near now : List (Reverse ℕ)) (node dist : ℕ) → All (λ k. k.0 < 2 ^ 64) near → node < 2 ^ 32 → dist < 2 ^ 32 → IsPermutation (record { 0 = key_of node dist } ∷ near) now → All (λ k. k.0 < 2 ^ 64) now
-near_by-more near now node dist by small this moved = All-permutation (λ k. k.0 < 2 ^ 64) (record { 0 = key_of node dist } ∷ near) now moved (All-cons (λ k. k.0 < 2 ^ 64) (record { 0 = key_of node dist }) near (omega (arith, small, this)) by)
+-- the number of a short heap entry fits
+pub short_by-more : (short now : List (Reverse ℕ)) (node dist : ℕ) → All (λ k. k.0 < 2 ^ 64) short → node < 2 ^ 32 → dist < 2 ^ 32 → IsPermutation (record { 0 = key_of node dist } ∷ short) now → All (λ k. k.0 < 2 ^ 64) now
+short_by-more short now node dist by small this moved = All-permutation (λ k. k.0 < 2 ^ 64) (record { 0 = key_of node dist } ∷ short) now moved (All-cons (λ k. k.0 < 2 ^ 64) (record { 0 = key_of node dist }) short (omega (arith, small, this)) by)
 
 -- the numbers that are left fit
-pub near_by-left : (near now : List (Reverse ℕ)) (key : Reverse ℕ) → All (λ k. k.0 < 2 ^ 64) near → IsPermutation near (key ∷ now) → All (λ k. k.0 < 2 ^ 64) now
-near_by-left near now key by moved = All-tail (λ k. k.0 < 2 ^ 64) key now (All-permutation (λ k. k.0 < 2 ^ 64) near (key ∷ now) moved by)
+pub short_by-left : (short now : List (Reverse ℕ)) (key : Reverse ℕ) → All (λ k. k.0 < 2 ^ 64) short → IsPermutation short (key ∷ now) → All (λ k. k.0 < 2 ^ 64) now
+short_by-left short now key by moved = All-tail (λ k. k.0 < 2 ^ 64) key now (All-permutation (λ k. k.0 < 2 ^ 64) short (key ∷ now) moved by)
 
--- the nearest of the near heap entries is taken out
-pub Loses-near : (near now : List (Reverse ℕ)) (far : List HeapEntry) (key : Reverse ℕ) → All (λ s. 2 ^ 32 ≤ s.dist.0) far → All (λ k. k.0 < 2 ^ 64) near → IsUpperBound (λ a b. nat_cmp b.0 a.0) key near → IsPermutation near (key ∷ now) → Loses (heap_entries_of near far) (heap_entries_of now far) (heap_entry_at key.0)
-Loses-near near now far key off by least moved =
-    let small : key.0 < 2 ^ 64 = All-head (λ k. k.0 < 2 ^ 64) key now (All-permutation (λ k. k.0 < 2 ^ 64) near (key ∷ now) moved by) in
+-- the nearest of the short heap entries is taken out
+pub Loses-short : (short now : List (Reverse ℕ)) (far : List HeapEntry) (key : Reverse ℕ) → All (λ s. 2 ^ 32 ≤ s.dist.0) far → All (λ k. k.0 < 2 ^ 64) short → IsUpperBound (λ a b. nat_cmp b.0 a.0) key short → IsPermutation short (key ∷ now) → Loses (heap_entries_of short far) (heap_entries_of now far) (heap_entry_at key.0)
+Loses-short short now far key off by least moved =
+    let small : key.0 < 2 ^ 64 = All-head (λ k. k.0 < 2 ^ 64) key now (All-permutation (λ k. k.0 < 2 ^ 64) short (key ∷ now) moved by) in
     record {
-      others = Gains-before (map heap_entry_of_key now) (map heap_entry_of_key near) far (heap_entry_at key.0)
-          (Gains-map heap_entry_of_key now near key (Gains-permutation now near key (IsPermutation-sym near (key ∷ now) moved)));
-      nearest = All-append (λ s. key.0 / 2 ^ 32 ≤ s.dist.0) (map heap_entry_of_key near) far
-          (All-map (λ s. key.0 / 2 ^ 32 ≤ s.dist.0) heap_entry_of_key near (All-weaker (λ m. is_lt (nat_cmp m.0 key.0) ≡ false) (λ m. key.0 / 2 ^ 32 ≤ m.0 / 2 ^ 32) (λ m h. nearer_key key.0 m.0 (no_nearer_key key m h)) near (All-from_recursion (λ m. is_lt (nat_cmp m.0 key.0) ≡ false) near least)))
-          (All-weaker (λ s. 2 ^ 32 ≤ s.dist.0) (λ s. key.0 / 2 ^ 32 ≤ s.dist.0) (λ s h. omega (arith, h, near_key key.0 small)) far off);
-      fewer = omega (arith, length_permutation near (key ∷ now) moved, length-map near heap_entry_of_key, length-map now heap_entry_of_key, length-append (map heap_entry_of_key near) far, length-append (map heap_entry_of_key now) far);
+      others = Gains-before (map heap_entry_of_key now) (map heap_entry_of_key short) far (heap_entry_at key.0)
+          (Gains-map heap_entry_of_key now short key (Gains-permutation now short key (IsPermutation-sym short (key ∷ now) moved)));
+      nearest = All-append (λ s. key.0 / 2 ^ 32 ≤ s.dist.0) (map heap_entry_of_key short) far
+          (All-map (λ s. key.0 / 2 ^ 32 ≤ s.dist.0) heap_entry_of_key short (All-weaker (λ m. is_lt (nat_cmp m.0 key.0) ≡ false) (λ m. key.0 / 2 ^ 32 ≤ m.0 / 2 ^ 32) (λ m h. nearer_key key.0 m.0 (no_nearer_key key m h)) short (All-from_recursion (λ m. is_lt (nat_cmp m.0 key.0) ≡ false) short least)))
+          (All-weaker (λ s. 2 ^ 32 ≤ s.dist.0) (λ s. key.0 / 2 ^ 32 ≤ s.dist.0) (λ s h. omega (arith, h, short_key key.0 small)) far off);
+      fewer = omega (arith, length_permutation short (key ∷ now) moved, length-map short heap_entry_of_key, length-map now heap_entry_of_key, length-append (map heap_entry_of_key short) far, length-append (map heap_entry_of_key now) far);
     }
 
--- the nearest of the far heap entries is taken out, where none is near
-pub Loses-far : (near : List (Reverse ℕ)) (far now : List HeapEntry) (t : HeapEntry) → near ≡ [] → IsUpperBound (λ a b. nat_cmp b.dist.0 a.dist.0) t far → IsPermutation far (t ∷ now) → Loses (heap_entries_of near far) (heap_entries_of near now) t
-Loses-far near far now t none least moved = rw none (record {
+-- the nearest of the far heap entries is taken out, where none is short
+pub Loses-far : (short : List (Reverse ℕ)) (far now : List HeapEntry) (t : HeapEntry) → short ≡ [] → IsUpperBound (λ a b. nat_cmp b.dist.0 a.dist.0) t far → IsPermutation far (t ∷ now) → Loses (heap_entries_of short far) (heap_entries_of short now) t
+Loses-far short far now t none least moved = rw none (record {
   others = Gains-permutation now far t (IsPermutation-sym far (t ∷ now) moved);
   nearest = All-weaker (λ s. is_lt (nat_cmp s.dist.0 t.dist.0) ≡ false) (λ s. t.dist.0 ≤ s.dist.0) (λ s h. no_nearer t s h) far (All-from_recursion (λ s. is_lt (nat_cmp s.dist.0 t.dist.0) ≡ false) far least);
   fewer = omega (arith, length_permutation far (t ∷ now) moved);

@@ -46,11 +46,11 @@ module _ {C : Type 0} where
   told-none place d (suc n) none = ap₂ (λ (r : Reach C) (reaches : List (Reach C)). r ∷ reaches) none (told-none place d n none)
 
   -- a distance that the place has
-  pub told-near : (carried : C) (dist state apart : ℕ) → dist < 2 ^ 31 - 2 → state < 2 → told (record { word = (dist + 1) * 2 + state; carried = carried }) apart ≡ found_of state (record { dist = dist; carried = carried })
-  told-near carried dist state apart near small =
+  pub told-short : (carried : C) (dist state apart : ℕ) → dist < 2 ^ 31 - 2 → state < 2 → told (record { word = (dist + 1) * 2 + state; carried = carried }) apart ≡ found_of state (record { dist = dist; carried = carried })
+  told-short carried dist state apart short small =
       let word : ℕ = (dist + 1) * 2 + state in
       let some : nat_lt word 2 ≡ false = grind (arith, nat_tests) in
-      let other : dist + 1 ≢ 2 ^ 31 - 1 = λ same. omega (arith, same, near) in
+      let other : dist + 1 ≢ 2 ^ 31 - 1 = λ same. omega (arith, same, short) in
       let less : dist + 1 - 1 ≡ dist = omega arith in
       ap (λ t. if t then unreached else found_of (word % 2) (record { dist = dist_of word apart; carried = carried })) some
       ∙ ap₂ (λ (s h : ℕ). found_of s (record { dist = if h == 2 ^ 31 - 1 then apart else h - 1; carried = carried })) (mod-mul-add (dist + 1) 2 state small) (div-mul-add (dist + 1) 2 state small)
@@ -67,6 +67,6 @@ module _ {C : Type 0} where
 
   -- where the place has the distance, what stands apart counts nothing
   pub told-not_apart : (place : Place C) (a b : ℕ) → place.word / 2 ≢ 2 ^ 31 - 1 → told place a ≡ told place b
-  told-not_apart place a b near =
-      ap (λ t. if nat_lt place.word 2 then unreached else found_of (place.word % 2) (record { dist = if t then a else place.word / 2 - 1; carried = place.carried })) (differ (place.word / 2) (2 ^ 31 - 1) near)
-      ∙ sym (ap (λ t. if nat_lt place.word 2 then unreached else found_of (place.word % 2) (record { dist = if t then b else place.word / 2 - 1; carried = place.carried })) (differ (place.word / 2) (2 ^ 31 - 1) near))
+  told-not_apart place a b short =
+      ap (λ t. if nat_lt place.word 2 then unreached else found_of (place.word % 2) (record { dist = if t then a else place.word / 2 - 1; carried = place.carried })) (differ (place.word / 2) (2 ^ 31 - 1) short)
+      ∙ sym (ap (λ t. if nat_lt place.word 2 then unreached else found_of (place.word % 2) (record { dist = if t then b else place.word / 2 - 1; carried = place.carried })) (differ (place.word / 2) (2 ^ 31 - 1) short))

@@ -6,15 +6,15 @@ use Rattle.std.specs.BinaryHeap.{IsHeap}
 use Rattle.frontier.specs.declared.heap_entry.HeapEntry.{HeapEntry}
 use Rattle.frontier.specs.HeapEntryOf.{heap_entry_at}
 
--- the heap entries that are near, and those that are far
+-- the heap entries that are short, and those that are far
 abbrev pub heap_entries_of : List (Reverse ℕ) → List HeapEntry → List HeapEntry
-heap_entries_of near far = map (λ key. heap_entry_at key.0) near ++ far
+heap_entries_of short far = map (λ key. heap_entry_at key.0) short ++ far
 
 -- two heaps, of which the numbers are of heap entries below the distance 2^32, and the other has those from there on
-pub record AreApart (near : List (Reverse ℕ)) (far : List HeapEntry) : Type 0 where
-  pub near_heap : IsHeap (λ a b. nat_cmp b.0 a.0) near
+pub record AreApart (short : List (Reverse ℕ)) (far : List HeapEntry) : Type 0 where
+  pub short_heap : IsHeap (λ a b. nat_cmp b.0 a.0) short
   pub far_heap : IsHeap (λ a b. nat_cmp b.dist.0 a.dist.0) far
-  pub near_by : All (λ key. key.0 < 2 ^ 64) near
+  pub short_by : All (λ key. key.0 < 2 ^ 64) short
   pub far_off : All (λ t. 2 ^ 32 ≤ t.dist.0) far
 
 -- the new list has what the old one has and x, and nothing else

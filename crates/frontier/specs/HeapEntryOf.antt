@@ -5,7 +5,7 @@ use Rattle.frontier.specs.declared.heap_entry.HeapEntry.{HeapEntry}
 abbrev pub heap_entry_of : ℕ → ℕ → HeapEntry
 heap_entry_of node dist = record { dist = record { 0 = dist }; node = node }
 
--- the number of a near heap entry: the distance before the node
+-- the number of a short heap entry: the distance before the node
 abbrev pub key_of : ℕ → ℕ → ℕ
 key_of node dist = dist * 2 ^ 32 + node
 

@@ -9,10 +9,10 @@ abbrev pub reach_at : {C : Type 0} → List (Reach C) → ℕ → Reach C
 reach_at reaches x = slice_index_or reaches x Unreached
 
 -- whether an offer at this distance can change what is known of a node
-abbrev pub heeds : {C : Type 0} → Reach C → ℕ → Bool
-heeds Unreached dist = true
-heeds (Queued found) dist = nat_le dist found.dist
-heeds (Settled found) dist = false
+abbrev pub improves : {C : Type 0} → Reach C → ℕ → Bool
+improves Unreached dist = true
+improves (Queued found) dist = nat_le dist found.dist
+improves (Settled found) dist = false
 
 -- the shorter of two finds; of two that are as long, what they carry is combined
 abbrev pub better : {C : Type 0} → (C → C → C) → Found C → Found C → Found C

@@ -16,7 +16,7 @@ const FAR: u64 = 4_294_967_296;
 /// all heap entries.
 #[derive(Debug, Drop)]
 pub struct HeapEntries {
-    near: BinaryHeap<Reverse<u64>>,
+    short: BinaryHeap<Reverse<u64>>,
     far: BinaryHeap<HeapEntry>,
 }
 
@@ -28,9 +28,9 @@ impl Model for HeapEntries {
 
     ghost Value = { List HeapEntry };
 
-    ghost view = { λ t. heap_entries_of (heap_items t.near) (heap_items t.far) };
+    ghost view = { λ t. heap_entries_of (heap_items t.short) (heap_items t.far) };
 
-    ghost invariant = { λ t. AreApart (heap_items t.near) (heap_items t.far) };
+    ghost invariant = { λ t. AreApart (heap_items t.short) (heap_items t.far) };
 }
 
 impl HeapEntries {
@@ -39,7 +39,7 @@ impl HeapEntries {
         ensures { result ≡ [] }
     {
         HeapEntries {
-            near: BinaryHeap::new(alloc),
+            short: BinaryHeap::new(alloc),
             far: BinaryHeap::new(alloc),
         }
     }
@@ -51,7 +51,7 @@ impl HeapEntries {
         ensures err { OnErr result (self.new ≡ self.old) }
     {
         if dist < FAR {
-            self.near.push(Reverse(dist * FAR + node as u64))?;
+            self.short.push(Reverse(dist * FAR + node as u64))?;
         } else {
             self.far.push(HeapEntry::of(node, dist))?;
         }
@@ -65,7 +65,7 @@ impl HeapEntries {
         ensures none { IfNone result (self.old ≡ []) }
         ensures unchanged { IfNone result (self.new ≡ self.old) }
     {
-        if let Some(key) = self.near.pop() {
+        if let Some(key) = self.short.pop() {
             return Some(HeapEntry::of((key.0 % FAR) as u32, key.0 / FAR));
         }
         let heap_entry = self.far.pop()?;
@@ -76,7 +76,7 @@ impl HeapEntries {
     pub fn clear(&mut self)
         ensures { self.new ≡ [] }
     {
-        self.near.clear();
+        self.short.clear();
         self.far.clear();
     }
 }

@@ -3,7 +3,7 @@
 //! [`Frontier`] keeps for each node a [`Reach`]; an offer lowers it, and a take settles a nearest queued node. What a node
 //! carries beside its distance is the user's, who says by [`Carry`] which of two counts that came at one distance. It
 //! stands on std alone, over its `BinaryHeap`, of which callers learn nothing. Their clauses use `specs/Reaches`
-//! (`reach_at`, `heeds`, `better`, `offered`, `with_offer`, `settled`).
+//! (`reach_at`, `improves`, `better`, `offered`, `with_offer`, `settled`).
 #![tactic(auto)]
 
 mod carry;

@@ -1,5 +1,5 @@
 ghost use Rattle.std.specs.Prelude.{◌≡◌};
-ghost use Rattle.frontier.specs.Reaches.{heeds};
+ghost use Rattle.frontier.specs.Reaches.{improves};
 
 /// What has been found of a node: the least distance that it was offered, and what the offers at that distance carry.
 #[derive(Clone, Copy, Debug, PartialEq, Eq)]
@@ -22,8 +22,8 @@ pub enum Reach<C> {
 impl<C> Reach<C> {
     /// Whether an offer to the node at this distance can change anything: not where the node is settled, or queued at a
     /// shorter distance. What such an offer would carry need not be known.
-    pub fn heeds(&self, dist: u64) -> bool
-        ensures { result ≡ heeds self.now dist }
+    pub fn improves(&self, dist: u64) -> bool
+        ensures { result ≡ improves self.now dist }
     {
         match self {
             Reach::Unreached => true,

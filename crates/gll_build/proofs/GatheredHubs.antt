@@ -26,8 +26,8 @@ use Rattle.label_clean.proofs.Covering.{pos_of}
 use Rattle.label_clean.proofs.RowFacts.{first_apart}
 use Rattle.label_clean.proofs.GatheredHubs.{of_hub, to_hub}
 use Rattle.gll_superstep.specs.Growing.{HavePutOver}
-use Rattle.gll_build.proofs.FreshRoots.{JoinsRow-fresh}
-use Rattle.gll_superstep.specs.Dealing.{entries_below}
+use Rattle.gll_build.proofs.NewRoots.{JoinsRow-new}
+use Rattle.gll_superstep.specs.Partition.{entries_below}
 
 -- a part of a row has each position once, too
 once_below : (q : ℕ) (es : List Entry) → HasEachOnce es → HasEachOnce (entries_below q es)
@@ -73,7 +73,7 @@ module _ (edges : List Edge) (at : List ℕ) (weights : WeighAtLeastOne edges) (
 
     IsHubRow-gathered : IsHubRow edges at first q h (get_or rows.rows (q - first) [])
     IsHubRow-gathered =
-        let joins = JoinsRow-fresh edges at first next roots list each_once over h node in
+        let joins = JoinsRow-new edges at first next roots list each_once over h node in
         record {
           rising = gathered.rising q from low (subst HasEachOnce (sym (listed q h from low is)) (once_below q (entries_of_node list h) joins.once));
           fit = All-weaker (Contains (get_or rows.rows (q - first) [])) (EntryFits (Joined edges) at h) (λ e has. All-contains (EntryFits (Joined edges) at h) (entries_of_node list h) e joins.fit (there e has)) (get_or rows.rows (q - first) []) (All-contains_itself (get_or rows.rows (q - first) []));

@@ -1,7 +1,8 @@
-pub mod Sheaves
-pub mod FreshRoots
+pub mod Outputs
+pub mod NewRoots
 pub mod GatheredHubs
-pub mod FreshBatches
-pub mod JoinedStripes
-pub mod DealtStripes
-pub mod DealtLong
+pub mod NewMerges
+pub mod MergedShards
+pub mod LastParts
+pub mod PartsLong
+pub mod PlacedShards

@@ -1,12 +1,13 @@
-ghost use Rattle.std.specs.Prelude.{◌≡◌, ◌^◌, ◌<◌, ◌≤◌, length, IfOk};
+ghost use Rattle.std.specs.Prelude.{◌≡◌, ◌+◌, ◌^◌, ◌<◌, ◌≤◌, length, IfOk};
 ghost use Rattle.walk_laws.specs.Joined.{Joined};
 ghost use Rattle.walk_laws.specs.Labelling.{IsChl};
 ghost use Rattle.label_clean.specs.Below.{IsChlBelow};
 
-use crate::hall::worked_on;
+use crate::scheduler::LastTable;
+use crate::workers::run_workers;
 use desk_io::Gate;
-use gll_superstep::{Build, Site, Table};
-use hub_index::{Index, RowList, SplitIndex, SplitRows, Stripes};
+use gll_superstep::{Build, BuildContext, Table};
+use hub_index::{Index, RowList, Shards, SplitIndex, SplitRows};
 use label_clean::laws::the_whole_is_the_labelling;
 use rank_table::Ranking;
 use renumbering::WorkingCopy;
@@ -94,7 +95,7 @@ fn steps<B: Build + Send + Sync, R: Threads + Wait + Sync, G: Gate + Sync>(
     alloc: Global,
     graph: &Graph,
     ranking: &Ranking,
-    plan: Stripes,
+    plan: Shards,
     workers: u32,
     cut: u32,
     gate: &G,
@@ -102,37 +103,39 @@ fn steps<B: Build + Send + Sync, R: Threads + Wait + Sync, G: Gate + Sync>(
     requires edges { graph.now.edges ≡ B.edges }
     requires order { ranking.now ≡ B.order }
     requires nodes { length B.order ≡ graph.now.n }
-    requires stripes { plan.shift ≡ B.shift }
+    requires shards { plan.shift ≡ B.shift }
     requires shift { plan.shift ≤ 30 }
+    requires workers_are { workers ≡ B.workers }
     requires workers { (1 ≤ workers) × (workers ≤ 64) }
     requires cut { 1 ≤ cut }
+    requires goal { B.goal ≡ length B.order }
     ensures { IfOk result (λ rows. IsChlBelow B.edges B.order (length B.order) rows) }
 {
-    let site = Site::<B>::new(rt, alloc, graph, ranking, plan, workers, cut, false);
-    let table = Table::new(&site)?;
-    let table = worked_on(rt, &site, table, gate)?;
-    if table.first() != graph.n() {
-        return Err(AllocError);
-    }
+    let n = graph.n();
+    let context = BuildContext::<B>::new(rt, alloc, graph, ranking, plan, workers, cut, n);
+    let table = Table::new(&context)?;
+    let LastTable { table } = run_workers(rt, &context, table, gate)?;
+    let next = table.first();
+    prove!(next == n);
     table.into_rows(alloc)
 }
 
-/// In stripes of how many nodes a table of so many is cut: some four for each worker, so that each has as much to do as the
+/// In shards of how many nodes a table of so many is cut: some four for each worker, so that each has as much to do as the
 /// others, or a single one for one worker alone.
-fn plan_for(n: u32, workers: u32) -> Stripes
+fn plan_for(n: u32, workers: u32) -> Shards
     requires { 1 ≤ workers }
     ensures { result.shift ≤ 30 }
 {
     if workers == 1 {
-        return Stripes { shift: 30 };
+        return Shards { shift: 30 };
     }
     let size = (n / workers / 4).max(LEAST_STRIPE);
-    Stripes {
+    Shards {
         shift: size.ilog2().min(30),
     }
 }
 
-/// The fewest nodes that are worth a stripe.
+/// The fewest nodes that are worth a shard.
 const LEAST_STRIPE: u32 = 16;
 
 /// One superstep: of a table that is the canonical hub labelling up to the position `first`, the one up to the position of
@@ -174,7 +177,7 @@ fn one_step<B: Build + Send + Sync, R: Threads + Wait + Sync, G: Gate + Sync>(
     alloc: Global,
     graph: &Graph,
     ranking: &Ranking,
-    plan: Stripes,
+    plan: Shards,
     global: &RowList,
     first: u32,
     workers: u32,
@@ -184,23 +187,24 @@ fn one_step<B: Build + Send + Sync, R: Threads + Wait + Sync, G: Gate + Sync>(
     requires edges { graph.now.edges ≡ B.edges }
     requires order { ranking.now ≡ B.order }
     requires nodes { length B.order ≡ graph.now.n }
-    requires stripes { plan.shift ≡ B.shift }
+    requires shards { plan.shift ≡ B.shift }
     requires shift { plan.shift ≤ 30 }
     requires global { IsChlBelow B.edges B.order first global.now }
     requires first { first < length B.order }
+    requires workers_are { workers ≡ B.workers }
     requires workers { (1 ≤ workers) × (workers ≤ 64) }
     requires cut { 1 ≤ cut }
+    requires goal { B.goal ≡ first + 1 }
     ensures rows { IfOk result (λ r. IsChlBelow B.edges B.order r.1 r.0) }
     ensures more { IfOk result (λ r. first < r.1) }
     ensures within { IfOk result (λ r. r.1 ≤ length B.order) }
 {
-    let site = Site::<B>::new(rt, alloc, graph, ranking, plan, workers, cut, true);
-    let table = Table::of_rows(&site, global, first)?;
-    let table = worked_on(rt, &site, table, gate)?;
+    let n = graph.n();
+    prove!(first < n);
+    let context = BuildContext::<B>::new(rt, alloc, graph, ranking, plan, workers, cut, first + 1);
+    let table = Table::of_rows(&context, global, first)?;
+    let LastTable { table } = run_workers(rt, &context, table, gate)?;
     let next = table.first();
-    if next <= first || next > graph.n() {
-        return Err(AllocError);
-    }
     let rows = table.into_rows(alloc)?;
     Ok((rows.into_rows(alloc)?, next))
 }

@@ -1,16 +1,16 @@
 //! The build of the canonical hub labelling in supersteps (GLL; Planting Trees, PVLDB 2019): workers grow the trees of the
-//! next roots over a global table that nobody writes; what they put is cleaned and joins the table, stripe by stripe.
+//! next roots over a global table that nobody writes; what they put is cleaned and merged in the table, shard by shard.
 //!
 //! [`build_gll`] is the whole build, [`build_gll_split`] the same in the rows that it worked with, [`superstep`] one step.
 //! It stands on gll_superstep (what a worker does), label_clean, hub_index, renumbering and desk_io (the gate). Its callers'
 //! clauses use `IsChl` of walk_laws and `IsChlBelow` of label_clean.
 #![tactic(auto)]
 
-mod batches;
-mod board;
 mod build;
-mod hall;
-mod joining;
+mod merge_tasks;
+mod merging;
 mod putting_together;
+mod scheduler;
+mod workers;
 
 pub use build::{build_gll, build_gll_split, superstep};

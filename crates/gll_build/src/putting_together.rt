@@ -1,46 +1,54 @@
-//! Stripes that are done make a table again.
-ghost use Rattle.std.specs.Prelude.{◌≡◌, IfOk};
-ghost use Rattle.gll_superstep.specs.Tables.{IsStripeBelow};
+//! Shards that are merged make a table again.
+ghost use Rattle.std.specs.Prelude.{◌≡◌, ◌≤◌, Some, length, vec_len, IfOk};
+ghost use Rattle.gll_superstep.specs.Tables.{IsShardBelow};
+ghost use Rattle.gll_build.specs.Merging.{ArePlaced, OneShard};
 
-use crate::joining::{Joined, Stripe};
-use gll_superstep::{Bench, Build, Site, Table};
+use crate::merging::{Merged, Shard};
+use gll_superstep::{Build, BuildContext, Table, Workspace};
 use hub_index::SplitRows;
 use label_clean::RunList;
 use std::alloc::{AllocError, Global};
 
-/// The table of these stripes, which is the labelling up to the position `next`, from 0. The lists go back to the benches. The error
-/// is that memory ran out, for one of the stripes or here, or that they aren't those of a table, all up to that position.
-pub fn joined_table<B: Build>(
-    site: &Site<'_, B>,
-    joined: Vec<Joined<B>>,
+/// The table of these shards, which is the labelling up to the position `next`, from 0. The lists go back to the workspaces. The
+/// error is that memory ran out, for one of the shards or here, or that they aren't those of a table, all up to that position.
+pub fn merged_table<B: Build>(
+    context: &BuildContext<'_, B>,
+    merged: Vec<Merged<B>>,
     next: u32,
-    benches: &mut Vec<Bench<B>>,
+    workspaces: &mut Vec<Workspace<B>>,
 ) -> Result<Table<B>, AllocError>
+    requires { next ≤ length B.order }
     ensures { IfOk result (λ table. table.first ≡ next) }
 {
-    let mut places = places_for(site.alloc, site.count)?;
-    for one in joined {
-        put_back(one, benches, &mut places)?;
+    let mut places = places_for(context.alloc, context.count)?;
+    for one in merged {
+        put_back(one, workspaces, &mut places)?;
     }
-    table_of(site, next, places)
+    table_of(context, next, places)
 }
 
-/// Hands the lists back, one to each bench, and puts the stripe at its place. The error is that memory ran out, for the stripe or
+/// Hands the lists back, one to each workspace, and puts the shard at its place. The error is that memory ran out, for the shard or
 /// here.
 fn put_back<B: Build>(
-    one: Joined<B>,
-    benches: &mut Vec<Bench<B>>,
-    places: &mut Vec<Option<Stripe<B>>>,
-) -> Result<(), AllocError> {
-    let Joined { stripe, lists } = one;
-    hand_back(lists, benches)?;
-    let stripe = stripe?;
-    put_at(stripe.number, stripe, places);
+    one: Merged<B>,
+    workspaces: &mut Vec<Workspace<B>>,
+    places: &mut Vec<Option<Shard<B>>>,
+) -> Result<(), AllocError>
+    ensures count { vec_len places.new ≡ vec_len places.old }
+    ensures placed { ArePlaced 0 places.old.items → ArePlaced 0 places.new.items }
+{
+    let Merged { shard, lists } = one;
+    hand_back(lists, workspaces)?;
+    let shard = shard?;
+    put_at(shard, places);
     Ok(())
 }
 
 /// So many places with nothing. The only error is that memory ran out.
-fn places_for<T: Drop>(alloc: Global, count: u32) -> Result<Vec<Option<T>>, AllocError> {
+fn places_for<B: Build>(alloc: Global, count: u32) -> Result<Vec<Option<Shard<B>>>, AllocError>
+    ensures count { IfOk result (λ places. vec_len places ≡ count) }
+    ensures placed { IfOk result (λ places. ArePlaced 0 places.items) }
+{
     let mut places = Vec::with_capacity(alloc, count as usize)?;
     for _ in 0..count {
         places.push(None)?;
@@ -48,65 +56,64 @@ fn places_for<T: Drop>(alloc: Global, count: u32) -> Result<Vec<Option<T>>, Allo
     Ok(places)
 }
 
-/// Puts one at the place of this number, from 0, if there is one.
-fn put_at<T: Drop>(number: u32, one: T, places: &mut Vec<Option<T>>) {
-    let place = number as usize;
+/// Puts a shard at the place of its number, from 0, if there is one.
+fn put_at<B: Build>(shard: Shard<B>, places: &mut Vec<Option<Shard<B>>>)
+    ensures count { vec_len places.new ≡ vec_len places.old }
+    ensures placed { ArePlaced 0 places.old.items → ArePlaced 0 places.new.items }
+{
+    let place = shard.number as usize;
     if place < places.len() {
-        places[place] = Some(one);
+        places[place] = Some(shard);
     }
 }
 
-/// Hands the lists back, one to each bench. The only error is that memory ran out.
-fn hand_back<B: Build>(lists: Vec<RunList>, benches: &mut Vec<Bench<B>>) -> Result<(), AllocError> {
+/// Hands the lists back, one to each workspace. The only error is that memory ran out.
+fn hand_back<B: Build>(
+    lists: Vec<RunList>,
+    workspaces: &mut Vec<Workspace<B>>,
+) -> Result<(), AllocError> {
     let mut lists = lists;
-    for k in 0..benches.len() {
+    for k in 0..workspaces.len() {
         if let Some(list) = lists.pop() {
-            benches[k].take_back(list)?;
+            workspaces[k].take_back(list)?;
         }
     }
     Ok(())
 }
 
-/// The table of the stripes at these places. The error is that one lacks, or isn't of its place or up to the position, or that
-/// memory ran out.
+/// The table of the shards at these places. The error is that one lacks or isn't up to the position, or that memory ran out.
 fn table_of<B: Build>(
-    site: &Site<'_, B>,
+    context: &BuildContext<'_, B>,
     next: u32,
-    places: Vec<Option<Stripe<B>>>,
+    places: Vec<Option<Shard<B>>>,
 ) -> Result<Table<B>, AllocError>
+    requires within { next ≤ length B.order }
+    requires count { vec_len places ≡ context.now.count }
+    requires placed { ArePlaced 0 places.items }
     ensures { IfOk result (λ table. table.first ≡ next) }
 {
-    let n = site.graph.n();
-    if next > n || places.len() != site.count as usize {
-        return Err(AllocError);
-    }
-    let mut stripes = Vec::with_capacity(site.alloc, places.len())?;
+    let mut shards = Vec::with_capacity(context.alloc, places.len())?;
     for place in places {
-        let rows = rows_at(place, stripes.len(), next)?;
-        stripes.push(rows)?;
+        let rows = rows_at(place, next)?;
+        shards.push(rows)?;
     }
-    Ok(Table::of_stripes(site, stripes, next))
+    Ok(Table::of_shards(context, shards, next))
 }
 
-/// The rows of the stripe at the place of this number, from 0. The error is that it lacks, or isn't of its place or up to the
-/// position `next`.
-fn rows_at<B: Build>(
-    place: Option<Stripe<B>>,
-    number: usize,
-    next: u32,
-) -> Result<SplitRows, AllocError>
-    ensures { IfOk result (IsStripeBelow B.edges B.order B.shift next number) }
+/// The rows of the shard at a place. The error is that it lacks, or isn't up to the position `next`.
+fn rows_at<B: Build>(place: Option<Shard<B>>, next: u32) -> Result<SplitRows, AllocError>
+    ensures { IfOk result (λ rows. (s : OneShard) × (place ≡ Some s) × IsShardBelow B.edges B.order B.shift next s.number rows) }
 {
-    let Some(stripe) = place else {
+    let Some(shard) = place else {
         return Err(AllocError);
     };
-    let Stripe {
+    let Shard {
         rows,
-        number: its_number,
+        number: _,
         first,
         of: _,
-    } = stripe;
-    if its_number as usize != number || first != next {
+    } = shard;
+    if first != next {
         return Err(AllocError);
     }
     Ok(rows)

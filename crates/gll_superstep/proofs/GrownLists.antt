@@ -15,7 +15,7 @@ use Rattle.label_clean.specs.Needless.{IsNeedless}
 use Rattle.label_clean.proofs.Cleaned.{hub_node}
 use Rattle.label_clean.proofs.Covering.{covered, entry}
 use Rattle.gll_superstep.specs.Growing.{HavePutOver}
-use Rattle.gll_superstep.specs.Shares.{HavePut}
+use Rattle.gll_superstep.specs.Workers.{HavePut}
 
 module _ (edges : List Edge) (at : List ℕ) (ranking : IsRanking at) (first : ℕ) (global : List (List Entry)) (chl : IsChlBelow edges at first global) where
   -- what hubs below the position cover the table covers
@@ -41,11 +41,3 @@ module _ (edges : List Edge) (at : List ℕ) (ranking : IsRanking at) (first : �
   pub HavePutOver-where : (memory : Result (Unit {0}) AllocError) (roots listed : List ℕ) (list : List NodeEntry) → IfOk memory (λ _. HavePut edges at global roots list) → IfOk memory (λ _. listed ≡ roots) → IfOk memory (λ _. HavePutOver edges at first listed list)
   HavePutOver-where (Ok t) roots listed list put same = subst (λ rs. HavePutOver edges at first rs list) (sym same) (HavePutOver-from roots list put)
   HavePutOver-where (Err fault) roots listed list put same = tt
-
--- the same by other names of the graph's edges, the ranking and the position
-pub HavePutOver-there : (edges : List Edge) (at : List ℕ) (graph : List Edge) (order : List ℕ) (first there : ℕ) → graph ≡ edges → order ≡ at → first ≡ there → IsRanking order → (global : List (List Entry)) → IsChlBelow edges at first global
-    → (memory : Result (Unit {0}) AllocError) (roots listed : List ℕ) (list : List NodeEntry) → IfOk memory (λ _. HavePut graph order global roots list) → IfOk memory (λ _. listed ≡ roots) → IfOk memory (λ _. HavePutOver edges at there listed list)
-HavePutOver-there edges at graph order first there graph_is order_is first_is ranking global chl memory roots listed list put same =
-    subst (λ p. IfOk memory (λ _. HavePutOver edges at p listed list)) first_is
-    (HavePutOver-where edges at (subst IsRanking order_is ranking) first global chl memory roots listed list
-    (subst (λ es. IfOk memory (λ _. HavePut es at global roots list)) graph_is (subst (λ os. IfOk memory (λ _. HavePut graph os global roots list)) order_is put)) same)

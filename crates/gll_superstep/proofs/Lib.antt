@@ -1,10 +1,10 @@
-pub mod DealtEntries
+pub mod PartEntries
 pub mod ListedHubs
-pub mod DealtLists
+pub mod PartLists
 pub mod PutBy
-pub mod DoneShares
+pub mod DoneWorkers
 pub mod UncoveredPuts
-pub mod StripedTables
-pub mod PlacedStripes
+pub mod ShardedTables
+pub mod PlacedShards
 pub mod GrownLists
-pub mod ReapedSheaves
+pub mod OutputHubs

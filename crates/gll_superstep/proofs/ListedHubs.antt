@@ -18,7 +18,7 @@ use Rattle.label_clean.specs.declared.hub_rows.HubEntry.{HubEntry}
 use Rattle.label_clean.specs.HubRows.{entries_of_hub}
 use Rattle.label_clean.proofs.Cleaned.{hub_place}
 use Rattle.label_clean.proofs.GatheredHubs.{entries_of_hub-append}
-use Rattle.gll_superstep.specs.Dealing.{entries_below, hub_entries, hub_entry}
+use Rattle.gll_superstep.specs.Partition.{entries_below, hub_entries, hub_entry}
 
 pub below-append : (q : ℕ) (xs ys : List Entry) → entries_below q (xs ++ ys) ≡ entries_below q xs ++ entries_below q ys
 below-append q xs ys = filter-append (λ (e : Entry). nat_lt e.pos q) xs ys

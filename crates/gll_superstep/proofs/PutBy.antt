@@ -4,7 +4,7 @@ use Rattle.walk_laws.specs.declared.graph.Edge.{Edge}
 use Rattle.walk_laws.specs.declared.entry.Entry.{Entry}
 use Rattle.pruned_tree.specs.GrownBy.{IsGrownBy}
 use Rattle.pruned_tree.proofs.GrownPuts.{AreApart, IsGrownBy-then, IsGrownBy-after}
-use Rattle.gll_superstep.specs.Shares.{IsPutBy}
+use Rattle.gll_superstep.specs.Workers.{IsPutBy}
 
 module _ (edges : List Edge) (at : List ℕ) where
   pub IsPutBy-from_grown : (roots : List ℕ) (whole : Type 0) (v : ℕ) (entries : List Entry) → whole → IsGrownBy edges at roots whole v [] entries → IsPutBy edges at roots v entries

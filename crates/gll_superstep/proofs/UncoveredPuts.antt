@@ -11,7 +11,7 @@ use Rattle.label_clean.specs.Needless.{IsNeedless}
 use Rattle.pruned_tree.specs.Grown.{IsGrown}
 use Rattle.pool_view.specs.Seen.{seen_chain}
 use Rattle.pool_view.specs.Viewing.{Viewing, puts_row, seen_row}
-use Rattle.gll_superstep.specs.Shares.{AreUncovered, StayUncovered}
+use Rattle.gll_superstep.specs.Workers.{AreUncovered, StayUncovered}
 
 module _ (at : List ℕ) where
   -- a row of the global table alone stands in the row that a view saw

@@ -1,4 +1,4 @@
-pub mod Shares
-pub mod Dealing
+pub mod Workers
+pub mod Partition
 pub mod Growing
 pub mod Tables

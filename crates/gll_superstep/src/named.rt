@@ -2,9 +2,9 @@
 
 use std::marker::Brand;
 
-/// A build, for contracts alone: the edges of its graph, its nodes by falling rank, and by which power of two its table is cut in
-/// stripes. What threads hand to one another says by it whose it is, since of what comes out of a lock nothing else is known than what
-/// its type says.
+/// A build, for contracts alone: the edges of its graph, its nodes by falling rank, by which power of two its table is cut in
+/// shards, how many workers it has, and how far it goes. What threads hand to one another says by it whose it is, since of what
+/// comes out of a lock nothing else is known than what its type says.
 pub trait Build {
     ghost use Rattle.std.specs.Prelude.{ℕ, List};
     ghost use Rattle.walk_laws.specs.declared.graph.Edge.{Edge};
@@ -15,8 +15,14 @@ pub trait Build {
     /// The nodes, highest rank first.
     ghost order: { List ℕ };
 
-    /// The power of two that is the size of a stripe.
+    /// The power of two that is the size of a shard.
     ghost shift: { ℕ };
+
+    /// How many workers there are.
+    ghost workers: { ℕ };
+
+    /// The position, from 0, that the next root has at least once the build is over.
+    ghost goal: { ℕ };
 }
 
 /// The builds that a call names: it picks the members.
@@ -28,4 +34,8 @@ impl Build for Brand {
     ghost order = { [] };
 
     ghost shift = { 0 };
+
+    ghost workers = { 0 };
+
+    ghost goal = { 0 };
 }

@@ -1,20 +1,21 @@
-//! The global table, in stripes.
+//! The global table, in shards.
 ghost use Rattle.std.specs.Prelude.{◌≡◌, ◌≤◌, length, IfOk};
+ghost use Rattle.hub_index.specs.Shards.{sharded_rows};
 ghost use Rattle.label_clean.specs.Below.{IsChlBelow};
-ghost use Rattle.gll_superstep.specs.Tables.{AreStripesBelow};
+ghost use Rattle.gll_superstep.specs.Tables.{AreShardsBelow};
 
+use crate::context::BuildContext;
 use crate::named::Build;
-use crate::site::Site;
-use hub_index::{RowList, SplitRows, StripedRows, Stripes};
+use hub_index::{RowList, ShardedRows, Shards, SplitRows};
 use std::alloc::{AllocError, Global};
 use std::marker::{Model, PhantomData};
 
-/// The global table of a build, in stripes: the labelling up to the position `first`, from 0, of the next root. Contracts see that
-/// position and the rows of each stripe.
+/// The global table of a build, in shards: the labelling up to the position `first`, from 0, of the next root. Contracts see that
+/// position and the rows of each shard.
 #[derive(Drop)]
 pub struct Table<B: Build> {
-    stripes: Vec<SplitRows>,
-    plan: Stripes,
+    shards: Vec<SplitRows>,
+    plan: Shards,
     n: u32,
     pub(crate) first: u32,
     of: PhantomData<B>,
@@ -22,30 +23,30 @@ pub struct Table<B: Build> {
 
 impl<B: Build> Model for Table<B> {
     ghost use Rattle.std.specs.Prelude.{◌≡◌, length};
-    ghost use Rattle.gll_superstep.specs.Tables.{AreStripesBelow, StripedTable};
+    ghost use Rattle.gll_superstep.specs.Tables.{AreShardsBelow, ShardedTable};
 
-    ghost Value = { StripedTable };
+    ghost Value = { ShardedTable };
 
-    ghost view = { λ t. record { first = t.first; stripes = t.stripes.items } };
+    ghost view = { λ t. record { first = t.first; shards = t.shards.items } };
 
-    ghost invariant = { λ t. (t.n ≡ length B.order) × (t.plan.shift ≡ B.shift) × AreStripesBelow B.edges B.order B.shift t.first t.stripes.items };
+    ghost invariant = { λ t. (t.n ≡ length B.order) × (t.plan.shift ≡ B.shift) × AreShardsBelow B.edges B.order B.shift t.first t.shards.items };
 }
 
 impl<B: Build> Table<B> {
     /// The table before the first root. The only error is that memory ran out.
-    pub fn new(site: &Site<'_, B>) -> Result<Table<B>, AllocError>
+    pub fn new(context: &BuildContext<'_, B>) -> Result<Table<B>, AllocError>
         ensures { IfOk result (λ table. table.first ≡ 0) }
     {
-        let n = site.graph.n();
-        let count = site.plan.count(n);
-        let mut stripes = Vec::with_capacity(site.alloc, count as usize)?;
+        let n = context.graph.n();
+        let count = context.plan.count(n);
+        let mut shards = Vec::with_capacity(context.alloc, count as usize)?;
         for number in 0..count {
-            let stripe = SplitRows::new(site.alloc, site.plan.size(n, number))?;
-            stripes.push(stripe)?;
+            let shard = SplitRows::new(context.alloc, context.plan.size(n, number))?;
+            shards.push(shard)?;
         }
         Ok(Table {
-            stripes,
-            plan: site.plan,
+            shards,
+            plan: context.plan,
             n,
             first: 0,
             of: PhantomData,
@@ -54,35 +55,39 @@ impl<B: Build> Table<B> {
 
     /// The table of these rows, which are the labelling up to the position `first`, from 0. The rows are copied. The only error is that
     /// memory ran out.
-    pub fn of_rows(site: &Site<'_, B>, rows: &RowList, first: u32) -> Result<Table<B>, AllocError>
+    pub fn of_rows(
+        context: &BuildContext<'_, B>,
+        rows: &RowList,
+        first: u32,
+    ) -> Result<Table<B>, AllocError>
         requires below { IsChlBelow B.edges B.order first rows.now }
         requires first { first ≤ length B.order }
         ensures { IfOk result (λ table. table.first ≡ first) }
     {
-        let n = site.graph.n();
-        let mut stripes = Vec::with_capacity(site.alloc, site.count as usize)?;
-        for number in 0..site.count {
-            let stripe = SplitRows::of_stripe(site.alloc, rows, site.plan, number)?;
-            stripes.push(stripe)?;
+        let n = context.graph.n();
+        let mut shards = Vec::with_capacity(context.alloc, context.count as usize)?;
+        for number in 0..context.count {
+            let shard = SplitRows::of_shard(context.alloc, rows, context.plan, number)?;
+            shards.push(shard)?;
         }
         Ok(Table {
-            stripes,
-            plan: site.plan,
+            shards,
+            plan: context.plan,
             n,
             first,
             of: PhantomData,
         })
     }
 
-    /// The table of these stripes, which are the labelling up to the position `first`, from 0.
-    pub fn of_stripes(site: &Site<'_, B>, stripes: Vec<SplitRows>, first: u32) -> Table<B>
-        requires { AreStripesBelow B.edges B.order B.shift first stripes.items }
+    /// The table of these shards, which are the labelling up to the position `first`, from 0.
+    pub fn of_shards(context: &BuildContext<'_, B>, shards: Vec<SplitRows>, first: u32) -> Table<B>
+        requires { AreShardsBelow B.edges B.order B.shift first shards.items }
         ensures { result.first ≡ first }
     {
         Table {
-            stripes,
-            plan: site.plan,
-            n: site.graph.n(),
+            shards,
+            plan: context.plan,
+            n: context.graph.n(),
             first,
             of: PhantomData,
         }
@@ -96,39 +101,40 @@ impl<B: Build> Table<B> {
         self.first
     }
 
-    /// Its stripes, which are the labelling up to the position of the next root.
-    pub fn into_stripes(self) -> Vec<SplitRows>
-        ensures { AreStripesBelow B.edges B.order B.shift self.first result.items }
+    /// Its shards, which are the labelling up to the position of the next root.
+    pub fn into_shards(self) -> Vec<SplitRows>
+        ensures { AreShardsBelow B.edges B.order B.shift self.first result.items }
     {
         let Table {
-            stripes,
+            shards,
             plan: _,
             n: _,
             first: _,
             of: _,
         } = self;
-        stripes
+        shards
     }
 
     /// Its rows, to be looked at.
-    pub fn rows(&self) -> StripedRows<'_>
-        ensures { IsChlBelow B.edges B.order self.now.first result }
+    pub fn rows(&self) -> ShardedRows<'_>
+        ensures value { result ≡ sharded_rows B.shift (length B.order) self.now.shards }
+        ensures below { IsChlBelow B.edges B.order self.now.first result }
     {
-        StripedRows::of(self.stripes.as_slice(), self.plan, self.n)
+        ShardedRows::of(self.shards.as_slice(), self.plan, self.n)
     }
 
-    /// Its rows, no longer in stripes. The only error is that memory ran out.
+    /// Its rows, no longer in shards. The only error is that memory ran out.
     pub fn into_rows(self, alloc: Global) -> Result<SplitRows, AllocError>
         ensures { IfOk result (λ rows. IsChlBelow B.edges B.order self.first rows) }
     {
         let Table {
-            stripes,
+            shards,
             plan,
             n,
             first: _,
             of: _,
         } = self;
-        let rows = SplitRows::of_stripes(alloc, stripes, plan, n)?;
+        let rows = SplitRows::of_shards(alloc, shards, plan, n)?;
         Ok(rows)
     }
 }

@@ -14,7 +14,7 @@ use Rattle.walk_laws.specs.Worked.{edge, entry, first_four}
 use Rattle.walk_laws.proofs.JoinedEdges.{Joined-positive}
 use Rattle.walk_laws.proofs.CanonicalHubs.{IsCanonical-itself, IsCanonical-ranked}
 use Rattle.walk_laws.proofs.LabellingExists.{IsRowFrom, row_from_end, row_with, row_without, row_from_first}
-use Rattle.walk_laws.proofs.Positions.{get_or-position}
+use Rattle.walk_laws.proofs.Squares.{above_2, above_3}
 use Rattle.walk_laws.proofs.Walks.{HasWalk-arc, HasWalk-append}
 use Rattle.walk_laws.proofs.Bounds.{IsLeast-from_bound, IsOn-bound}
 use Rattle.grid_work.specs.Worked.{edges_of_side_two, rows_of_side_two}
@@ -56,19 +56,6 @@ one_to_four = HasWalk-append J 1 2 4 7 2 one_to_two two_to_four
 -- nothing ranks above the first node, and above the next only those before it
 above_1 : (x : ℕ) → RanksAbove first_four x 1 → ⊥
 above_1 x above = omega arith
-
-at_position : (x p : ℕ) → p < 4 → position_of first_four x ≡ p → get_or first_four p 0 ≡ x
-at_position x p within is = ap (λ q. get_or first_four q 0) (sym is) ∙ get_or-position first_four x 0 (omega arith)
-
-above_2 : (x : ℕ) → RanksAbove first_four x 2 → 1 ≡ x
-above_2 x above = at_position x 0 (omega arith) (omega arith)
-
-above_3 : (x : ℕ) → RanksAbove first_four x 3 → (1 ≡ x) ⊎ (2 ≡ x)
-above_3 x above =
-    elim (cases_lt 0 (position_of first_four x)) [
-      | inl second ↦ inr (at_position x 1 (omega arith) (omega arith))
-      | inr first ↦ inl (at_position x 0 (omega arith) (omega arith))
-    ]
 
 of_one : (v d : ℕ) → HasWalk J 1 v d → from_1 v ≡ d → IsCanonical J first_four 1 v d
 of_one v d walk is = record { least = IsLeast-from_bound edges_of_side_two from_1 refl 1 v d walk (omega (arith, is)); highest = λ x on. above_1 x }

@@ -7,10 +7,10 @@ pub mod RowsGathered
 pub mod SquareEntries
 pub mod TouchedPositions
 pub mod GatheredRows
-pub mod NarrowEntries
+pub mod CompactEntries
 pub mod PartedRows
 pub mod LentRows
 pub mod Backwards
 pub mod DealtNodes
-pub mod RowsInStripes
-pub mod TakenStripes
+pub mod RowsInShards
+pub mod TakenShards

@@ -11,7 +11,7 @@ use Rattle.std.proofs.lemmas.Map.Made.{IsDistinct-from_AllPairs}
 use Rattle.std.proofs.lemmas.Map.Steps.{length-le_from_distinct_below}
 use Rattle.std.proofs.lemmas.Map.Views.{Contains-from_any}
 use Rattle.hub_index.specs.RootDistances.{root_distance}
-use Rattle.hub_index.specs.Touched.{HasTouched, nearest_of}
+use Rattle.hub_index.specs.Touched.{HasTouched, clamped_of}
 
 pub one_of : {X : Type 0} (y x : X) → Contains (y ∷ []) x → y ≡ x
 one_of y x (zero, lt, is) = is
@@ -163,13 +163,13 @@ unfolding no_distance
 HasTouched-new n = HasTouched-none (replicate n None) (replicate n 0) (length-replicate n 0 ∙ sym (length-replicate n no_distance)) (λ p held. held (nothing_noted n p))
 
 -- no position has a distance to be tested
-pub nearest-none : (n : ℕ) → replicate n (2 ^ 32 - 1) ≡ map nearest_of (replicate n None)
-nearest-none zero = refl
-nearest-none (suc n) = ap (λ xs. (2 ^ 32 - 1) ∷ xs) (nearest-none n)
+pub clamped-none : (n : ℕ) → replicate n (2 ^ 32 - 1) ≡ map clamped_of (replicate n None)
+clamped-none zero = refl
+clamped-none (suc n) = ap (λ xs. (2 ^ 32 - 1) ∷ xs) (clamped-none n)
 
 -- a distance is written in both ways
-pub nearest-set : (dists : List (Option ℕ)) (nearest : List ℕ) (p : ℕ) (o : Option ℕ) → nearest ≡ map nearest_of dists → set nearest p (nearest_of o) ≡ map nearest_of (set dists p o)
-nearest-set dists nearest p o is = ap (λ xs. set xs p (nearest_of o)) is ∙ sym (map-set nearest_of dists p o)
+pub clamped-set : (dists : List (Option ℕ)) (clamped : List ℕ) (p : ℕ) (o : Option ℕ) → clamped ≡ map clamped_of dists → set clamped p (clamped_of o) ≡ map clamped_of (set dists p o)
+clamped-set dists clamped p o is = ap (λ xs. set xs p (clamped_of o)) is ∙ sym (map-set clamped_of dists p o)
 
-pub nearest-length : (dists : List (Option ℕ)) (nearest : List ℕ) → nearest ≡ map nearest_of dists → length nearest ≡ length dists
-nearest-length dists nearest is = ap length is ∙ length-map dists nearest_of
+pub clamped-length : (dists : List (Option ℕ)) (clamped : List ℕ) → clamped ≡ map clamped_of dists → length clamped ≡ length dists
+clamped-length dists clamped is = ap length is ∙ length-map dists clamped_of

@@ -5,6 +5,6 @@ pub mod Laws
 pub mod RootDistances
 pub mod Touched
 pub mod Views
-pub mod NarrowRows
+pub mod CompactRows
 pub mod PlainRows
-pub mod Stripes
+pub mod Shards

@@ -11,6 +11,6 @@ pub record HasTouched (table : List (Option ℕ)) (touched : List ℕ) (count : 
   pub each : (p : ℕ) → (root_distance table p ≢ None) ↔ Contains (take count touched) p
 
 -- the distance as it is tested first, where none is 2^32 - 1, and so is a greater one
-abbrev pub nearest_of : Option ℕ → ℕ
-nearest_of None = 2 ^ 32 - 1
-nearest_of (Some d) = min d (2 ^ 32 - 1)
+abbrev pub clamped_of : Option ℕ → ℕ
+clamped_of None = 2 ^ 32 - 1
+clamped_of (Some d) = min d (2 ^ 32 - 1)

@@ -60,8 +60,8 @@ impl Index {
     {
         IndexRows {
             ranking: &self.ranking,
-            narrow: &[],
-            wide: &self.rows,
+            compact: &[],
+            full: &self.rows,
         }
     }
 

@@ -11,7 +11,7 @@ pub struct RootTable {
     dists: Vec<Option<u64>>,
     /// The same in a quarter of the room, for the test of a cover: u32::MAX stands for none, for itself, and for all that is
     /// greater.
-    nearest: Vec<u32>,
+    clamped: Vec<u32>,
     /// The positions that have a distance are the first `count` of these.
     touched: Vec<u32>,
     count: usize,
@@ -19,13 +19,13 @@ pub struct RootTable {
 
 impl Model for RootTable {
     ghost use Rattle.std.specs.Prelude.{◌≡◌, ℕ, ◌^◌, ◌<◌, List, Option, length, map};
-    ghost use Rattle.hub_index.specs.Touched.{HasTouched, nearest_of};
+    ghost use Rattle.hub_index.specs.Touched.{HasTouched, clamped_of};
 
     ghost Value = { List (Option ℕ) };
 
     ghost view = { λ t. t.dists.items };
 
-    ghost invariant = { λ t. HasTouched t.dists.items t.touched.items t.count × (t.nearest.items ≡ map nearest_of t.dists.items) };
+    ghost invariant = { λ t. HasTouched t.dists.items t.touched.items t.count × (t.clamped.items ≡ map clamped_of t.dists.items) };
 }
 
 impl RootTable {
@@ -35,7 +35,7 @@ impl RootTable {
     {
         Ok(RootTable {
             dists: vec![in alloc; None; n as usize]?,
-            nearest: vec![in alloc; u32::MAX; n as usize]?,
+            clamped: vec![in alloc; u32::MAX; n as usize]?,
             touched: vec![in alloc; 0u32; n as usize]?,
             count: 0,
         })
@@ -64,7 +64,7 @@ impl RootTable {
             let last = self.count - 1;
             let pos = self.touched[last];
             self.dists[pos as usize] = None;
-            self.nearest[pos as usize] = u32::MAX;
+            self.clamped[pos as usize] = u32::MAX;
             self.count = last;
         }
     }
@@ -81,12 +81,12 @@ impl RootTable {
                 self.touched[self.count] = entry.pos;
                 self.count += 1;
                 self.dists[place] = Some(entry.dist);
-                self.nearest[place] = nearest(entry.dist);
+                self.clamped[place] = clamped(entry.dist);
             }
             Some(known) => {
                 let least = known.min(entry.dist);
                 self.dists[place] = Some(least);
-                self.nearest[place] = nearest(least);
+                self.clamped[place] = clamped(least);
             }
         }
     }
@@ -122,7 +122,7 @@ impl RootTable {
             return false;
         }
         let place = entry.pos as usize;
-        if u64::from(self.nearest[place]).saturating_add(entry.dist) > dist {
+        if u64::from(self.clamped[place]).saturating_add(entry.dist) > dist {
             return false;
         }
         match self.dists[place] {
@@ -133,7 +133,7 @@ impl RootTable {
 }
 
 /// The distance as the test of a cover reads it first, which is never greater.
-fn nearest(dist: u64) -> u32
+fn clamped(dist: u64) -> u32
     ensures { result ≡ min dist (2 ^ 32 - 1) }
 {
     u32::try_from(dist).unwrap_or(u32::MAX)

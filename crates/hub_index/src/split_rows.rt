@@ -3,47 +3,47 @@ ghost use Rattle.std.specs.Prelude.{◌≡◌, ◌≢◌, ℕ, ◌-◌, ◌^◌,
 ghost use Rattle.walk_laws.specs.declared.entry.Entry.{Entry as AnEntry};
 ghost use Rattle.walk_laws.specs.Labelling.{label_row};
 ghost use Rattle.hub_index.specs.HubIndex.{with_entry};
-ghost use Rattle.hub_index.specs.NarrowRows.{row_of_parts, rows_of_parts};
-ghost use Rattle.hub_index.specs.Stripes.{AreStripes, node_at, stripe_count, stripe_number, stripe_of, stripe_size, striped_rows};
+ghost use Rattle.hub_index.specs.CompactRows.{row_of_parts, rows_of_parts};
+ghost use Rattle.hub_index.specs.Shards.{AreShards, node_at, shard_count, shard_number, shard_of, shard_size, sharded_rows};
 ghost use Rattle.hub_index.specs.WellFormed.{IsWellFormed};
 ghost use Rattle.hub_index.specs.RootDistances.{noted, IsCover, HoldsRow};
 ghost use Rattle.hub_index.specs.Views.{IsNode, IsAnswerOf, with_put};
 
+use crate::compact_row::{CompactEntry, cover_of_parts, joined_parts, note_parts};
 use crate::from_last::FromLast;
+use crate::full_rows::FullRows;
 use crate::index_rows::IndexRows;
-use crate::narrow_row::{NarrowEntry, joined_parts, narrow_cover, note_parts};
-use crate::root_table::{RootTable, covered};
+use crate::root_table::RootTable;
 use crate::row_list::RowList;
 use crate::row_view::Offer;
-use crate::stripes::Stripes;
-use crate::wide_rows::WideRows;
+use crate::shards::Shards;
 use rank_table::Ranking;
 use std::alloc::{AllocError, Global};
 use std::marker::Model;
 use walk_laws::Entry;
 
 /// The entries for which a row has room when it begins, so that a short row asks for memory once, and a long one seldom.
-const FIRST_ROOM: usize = 32;
+pub const FIRST_ROOM: usize = 32;
 
 /// A row for each of the nodes 1..n: entries of 8 bytes, and from the first on whose distance is too great for that, entries
 /// of 16. The two parts of a row lie apart, since the second is nearly always empty; of rows that were made empty none is looked
 /// at before an entry is put there. Contracts see the list of the rows, node 1 first.
 #[derive(Drop)]
 pub struct SplitRows {
-    narrow: Vec<Vec<NarrowEntry>>,
-    wide: WideRows,
+    compact: Vec<Vec<CompactEntry>>,
+    full: FullRows,
 }
 
 impl Model for SplitRows {
     ghost use Rattle.std.specs.Prelude.{◌≡◌, ◌^◌, ◌<◌, List, length, map};
     ghost use Rattle.walk_laws.specs.declared.entry.Entry.{Entry};
-    ghost use Rattle.hub_index.specs.NarrowRows.{rows_of_parts};
+    ghost use Rattle.hub_index.specs.CompactRows.{rows_of_parts};
 
     ghost Value = { List (List Entry) };
 
-    ghost view = { λ r. rows_of_parts (map (λ row. row.items) r.narrow.items) r.wide };
+    ghost view = { λ r. rows_of_parts (map (λ row. row.items) r.compact.items) r.full };
 
-    ghost invariant = { λ r. (length r.narrow.items ≡ length r.wide) × (length r.wide < 2 ^ 32) };
+    ghost invariant = { λ r. (length r.compact.items ≡ length r.full) × (length r.full < 2 ^ 32) };
 }
 
 impl SplitRows {
@@ -59,12 +59,12 @@ impl SplitRows {
     fn with_room(alloc: Global, n: u32, room: usize) -> Result<SplitRows, AllocError>
         ensures { IfOk result (λ rows. rows ≡ replicate n []) }
     {
-        let mut narrow = Vec::with_capacity(alloc, n as usize)?;
+        let mut compact = Vec::with_capacity(alloc, n as usize)?;
         for _ in 0..n {
-            narrow.push(Vec::with_capacity(alloc, room)?)?;
+            compact.push(Vec::with_capacity(alloc, room)?)?;
         }
-        let wide = WideRows::new(alloc, n)?;
-        Ok(SplitRows { narrow, wide })
+        let full = FullRows::new(alloc, n)?;
+        Ok(SplitRows { compact, full })
     }
 
     /// Notes the entries of the row of the node `v`, a number from 1, in the table, one after another. It takes no memory.
@@ -74,7 +74,7 @@ impl SplitRows {
         requires positions { All (λ e. e.pos < length table.old) (label_row self.now v) }
         ensures { table.new ≡ noted table.old (label_row self.now v) }
     {
-        note_parts(&self.narrow[v as usize - 1], self.wide.row(v), table);
+        note_parts(&self.compact[v as usize - 1], self.full.row(v), table);
     }
 
     /// The entries of the row of the node `v`, a number from 1, from the last one on. It takes no memory.
@@ -84,22 +84,22 @@ impl SplitRows {
         ensures { result ≡ reverse (label_row self.now v) }
     {
         FromLast {
-            narrow: &self.narrow[v as usize - 1],
-            wide: self.wide.row(v),
+            compact: &self.compact[v as usize - 1],
+            full: self.full.row(v),
         }
     }
 
-    /// The rows that a list has of the nodes of one stripe, each at its place there, with most entries in half the room. The
-    /// stripes count from 0. The only error is that memory ran out.
-    pub fn of_stripe(
+    /// The rows that a list has of the nodes of one shard, each at its place there, with most entries in half the room. The
+    /// shards count from 0. The only error is that memory ran out.
+    pub fn of_shard(
         alloc: Global,
         list: &RowList,
-        dealt: Stripes,
+        dealt: Shards,
         number: u32,
     ) -> Result<SplitRows, AllocError>
         requires shift { dealt.shift ≤ 30 }
-        requires number { number < stripe_count dealt.shift (length list.now) }
-        ensures { IfOk result (λ rows. rows ≡ stripe_of dealt.shift number list.now) }
+        requires number { number < shard_count dealt.shift (length list.now) }
+        ensures { IfOk result (λ rows. rows ≡ shard_of dealt.shift number list.now) }
     {
         let size = dealt.size(list.n(), number);
         let mut rows = SplitRows::new(alloc, size)?;
@@ -109,53 +109,53 @@ impl SplitRows {
         Ok(rows)
     }
 
-    /// The rows of the nodes 1..n, which lie in stripes, in one table. They are moved, and no entry is copied. The only error
+    /// The rows of the nodes 1..n, which lie in shards, in one table. They are moved, and no entry is copied. The only error
     /// is that memory ran out.
-    pub fn of_stripes(
+    pub fn of_shards(
         alloc: Global,
-        mut stripes: Vec<SplitRows>,
-        dealt: Stripes,
+        mut shards: Vec<SplitRows>,
+        dealt: Shards,
         n: u32,
     ) -> Result<SplitRows, AllocError>
-        requires { AreStripes dealt.shift n stripes.items }
-        ensures { IfOk result (λ rows. rows ≡ striped_rows dealt.shift n stripes.items) }
+        requires { AreShards dealt.shift n shards.items }
+        ensures { IfOk result (λ rows. rows ≡ sharded_rows dealt.shift n shards.items) }
     {
         let mut rows = SplitRows::with_room(alloc, n, 0)?;
-        while let Some(stripe) = stripes.pop() {
-            rows.take_stripe(stripe, dealt, stripes.len() as u32);
+        while let Some(shard) = shards.pop() {
+            rows.take_shard(shard, dealt, shards.len() as u32);
         }
         Ok(rows)
     }
 
-    /// Makes the rows of a stripe those of its nodes, and leaves the rows of all others. It takes no memory.
-    fn take_stripe(&mut self, stripe: SplitRows, dealt: Stripes, number: u32)
+    /// Makes the rows of a shard those of its nodes, and leaves the rows of all others. It takes no memory.
+    fn take_shard(&mut self, shard: SplitRows, dealt: Shards, number: u32)
         requires shift { dealt.shift ≤ 30 }
         requires nodes { length self.old < 2 ^ 32 }
-        requires size { length stripe ≡ stripe_size dealt.shift (length self.old) number }
+        requires size { length shard ≡ shard_size dealt.shift (length self.old) number }
         ensures size { length self.new ≡ length self.old }
-        ensures taken { (place : ℕ) → IsNode (length stripe) place → label_row self.new (node_at dealt.shift number place) ≡ label_row stripe place }
-        ensures others { (v : ℕ) → 1 ≤ v → stripe_number dealt.shift v ≢ number → label_row self.new v ≡ label_row self.old v }
+        ensures taken { (place : ℕ) → IsNode (length shard) place → label_row self.new (node_at dealt.shift number place) ≡ label_row shard place }
+        ensures others { (v : ℕ) → 1 ≤ v → shard_number dealt.shift v ≢ number → label_row self.new v ≡ label_row self.old v }
     {
-        let SplitRows { narrow, wide } = stripe;
-        let mut wide = wide.into_list().into_rows().into_iter();
+        let SplitRows { compact, full } = shard;
+        let mut full = full.into_list().into_rows().into_iter();
         let mut place = 0;
-        for narrow in narrow {
-            let Some(wide) = wide.next() else {
+        for compact in compact {
+            let Some(full) = full.next() else {
                 unreachable!();
             };
             place += 1;
-            self.put_row(dealt.node(number, place), narrow, wide);
+            self.put_row(dealt.node(number, place), compact, full);
         }
     }
 
     /// Makes these two parts the row of the node `v`, a number from 1. It takes no memory.
-    fn put_row(&mut self, v: u32, narrow: Vec<NarrowEntry>, wide: Vec<Entry>)
+    fn put_row(&mut self, v: u32, compact: Vec<CompactEntry>, full: Vec<Entry>)
         requires node { 1 ≤ v }
         requires within { v ≤ length self.old }
-        ensures { self.new ≡ slice_set self.old (v - 1) (row_of_parts narrow.items wide.items) }
+        ensures { self.new ≡ slice_set self.old (v - 1) (row_of_parts compact.items full.items) }
     {
-        self.narrow[v as usize - 1] = narrow;
-        self.wide.put_row(v, wide);
+        self.compact[v as usize - 1] = compact;
+        self.full.put_row(v, full);
     }
 
     /// Puts the entries of another row last in the row of the node `v`, a number from 1, in their order. The only error is
@@ -214,10 +214,8 @@ impl SplitRows {
         ensures some { IfSome result (λ e. Contains (label_row self.now v) e × IsCover table.now pos dist e) }
         ensures none { IfNone result ((e : AnEntry) → Contains (label_row self.now v) e → ¬ IsCover table.now pos dist e) }
     {
-        if let Some(cover) = narrow_cover(&self.narrow[v as usize - 1], table, pos, dist) {
-            return Some(cover);
-        }
-        covered(self.wide.row(v), table, pos, dist)
+        let compact = &self.compact[v as usize - 1];
+        cover_of_parts(compact, self.full.row(v), table, pos, dist)
     }
 
     /// Puts the entry last in the row of the node `v`, a number from 1. The only error is that memory ran out, and then
@@ -228,16 +226,16 @@ impl SplitRows {
         ensures ok { OnOk result (self.new ≡ with_entry self.old v entry) }
         ensures err { OnErr result (self.new ≡ self.old) }
     {
-        if self.wide.row(v).is_empty() {
+        if self.full.row(v).is_empty() {
             if let Ok(dist) = u32::try_from(entry.dist) {
-                self.narrow[v as usize - 1].push(NarrowEntry {
+                self.compact[v as usize - 1].push(CompactEntry {
                     pos: entry.pos,
                     dist,
                 })?;
                 return Ok(());
             }
         }
-        self.wide.push(v, entry)?;
+        self.full.push(v, entry)?;
         Ok(())
     }
 
@@ -249,28 +247,28 @@ impl SplitRows {
     {
         IndexRows {
             ranking,
-            narrow: &self.narrow,
-            wide: self.wide.list(),
+            compact: &self.compact,
+            full: self.full.list(),
         }
     }
 
     /// The two parts of each row, the first being those of node 1. It takes no memory.
-    pub fn into_parts(self) -> (Vec<Vec<NarrowEntry>>, RowList)
+    pub fn into_parts(self) -> (Vec<Vec<CompactEntry>>, RowList)
         ensures rows { rows_of_parts (map (λ row. row.items) result.0.items) result.1 ≡ self }
         ensures size { vec_len result.0 ≡ length result.1 }
     {
-        let SplitRows { narrow, wide } = self;
-        (narrow, wide.into_list())
+        let SplitRows { compact, full } = self;
+        (compact, full.into_list())
     }
 
     /// The rows in these parts, the first being those of node 1. It takes no memory.
-    pub fn from_parts(narrow: Vec<Vec<NarrowEntry>>, wide: RowList) -> SplitRows
-        requires { vec_len narrow ≡ length wide }
-        ensures { result ≡ rows_of_parts (map (λ row. row.items) narrow.items) wide }
+    pub fn from_parts(compact: Vec<Vec<CompactEntry>>, full: RowList) -> SplitRows
+        requires { vec_len compact ≡ length full }
+        ensures { result ≡ rows_of_parts (map (λ row. row.items) compact.items) full }
     {
         SplitRows {
-            narrow,
-            wide: WideRows::of(wide),
+            compact,
+            full: FullRows::of(full),
         }
     }
 
@@ -279,14 +277,14 @@ impl SplitRows {
     pub fn into_rows(self, alloc: Global) -> Result<RowList, AllocError>
         ensures { IfOk result (λ rows. rows ≡ self) }
     {
-        let SplitRows { narrow, wide } = self;
-        let mut wide = wide.into_list().into_rows().into_iter();
-        let mut rows = Vec::with_capacity(alloc, narrow.len())?;
-        for narrow in narrow {
-            let Some(wide) = wide.next() else {
+        let SplitRows { compact, full } = self;
+        let mut full = full.into_list().into_rows().into_iter();
+        let mut rows = Vec::with_capacity(alloc, compact.len())?;
+        for compact in compact {
+            let Some(full) = full.next() else {
                 unreachable!();
             };
-            rows.push(joined_parts(alloc, &narrow, &wide)?)?;
+            rows.push(joined_parts(alloc, &compact, &full)?)?;
         }
         Ok(RowList::from_rows(rows))
     }

@@ -30,29 +30,29 @@ use Rattle.index_file.proofs.SoundBytes.{IsSound-start, ok_is, Leads, Leads-byte
 use Rattle.index_file.proofs.Sizes.{length-well_formed}
 
 -- from any offset the bytes lead from one field to another
-pub record Goes (next : Next) (bytes : List ℕ) (new : Next) : Type 0 where
+pub record Conforms (next : Next) (bytes : List ℕ) (new : Next) : Type 0 where
   pub way : (at : ℕ) → (end : ℕ) × (fed (Ok (record { next = next; held = []; at = at })) bytes ≡ Ok (record { next = new; held = []; at = end }))
 
-Goes-none : (next new : Next) → next ≡ new → Goes next [] new
-Goes-none next new same = record { way = λ at. (at, ap (λ n. Ok (record { next = n; held = []; at = at })) same) }
+Conforms-none : (next new : Next) → next ≡ new → Conforms next [] new
+Conforms-none next new same = record { way = λ at. (at, ap (λ n. Ok (record { next = n; held = []; at = at })) same) }
 
-Goes-then : (a b c : Next) (xs ys : List ℕ) → Goes a xs b → Goes b ys c → Goes a (xs ++ ys) c
-Goes-then a b c xs ys first second = record {
+Conforms-then : (a b c : Next) (xs ys : List ℕ) → Conforms a xs b → Conforms b ys c → Conforms a (xs ++ ys) c
+Conforms-then a b c xs ys first second = record {
   way = λ at.
       let f = first.way at in
       let s = second.way f.0 in
       (s.0, fed-append (Ok (record { next = a; held = []; at = at })) xs ys ∙ ap (λ r. fed r ys) f.1 ∙ s.1);
 }
 
-Goes-from : (a b c : Next) (xs : List ℕ) → a ≡ b → Goes b xs c → Goes a xs c
-Goes-from a b c xs same goes = subst (λ next. Goes next xs c) (sym same) goes
+Conforms-from : (a b c : Next) (xs : List ℕ) → a ≡ b → Conforms b xs c → Conforms a xs c
+Conforms-from a b c xs same goes = subst (λ next. Conforms next xs c) (sym same) goes
 
-Goes-to : (a b c : Next) (xs : List ℕ) → b ≡ c → Goes a xs b → Goes a xs c
-Goes-to a b c xs same goes = subst (Goes a xs) same goes
+Conforms-to : (a b c : Next) (xs : List ℕ) → b ≡ c → Conforms a xs b → Conforms a xs c
+Conforms-to a b c xs same goes = subst (Conforms a xs) same goes
 
 -- a number that its field accepts
-Goes-number : (next : Next) (x : ℕ) (new : Next) → x < 256 ^ width next → ((at : ℕ) → after_field at next x ≡ Ok new) → Goes next (big_bytes (width next) x) new
-Goes-number next x new fits accepts = record {
+Conforms-number : (next : Next) (x : ℕ) (new : Next) → x < 256 ^ width next → ((at : ℕ) → after_field at next x ≡ Ok new) → Conforms next (big_bytes (width next) x) new
+Conforms-number next x new fits accepts = record {
   way = λ at.
       let long : length (big_bytes (width next) x) ≡ width next = length-bytes_high_first (width next) x in
       let back : big_number (length (big_bytes (width next) x)) (big_bytes (width next) x) ≡ x =
@@ -76,56 +76,56 @@ new_in_ranking prefix left v ranking =
     let new : list_any (nat_eq v) prefix ≡ false = false_from_ne_true (list_any (nat_eq v) prefix) (λ seen. repeated (prefix ++ v ∷ left) (length prefix) inside (subst (λ x. list_any (eqb x) (take (length prefix) (prefix ++ v ∷ left)) ≡ true) (sym here) (subst (λ xs. list_any (eqb v) xs ≡ true) (sym before) seen)) ranking.once) in
     and_from (leb 1 v) (leb v (length (prefix ++ v ∷ left)) && not (list_any (nat_eq v) prefix)) (le-leb 1 v node.0) (and_from (leb v (length (prefix ++ v ∷ left))) (not (list_any (nat_eq v) prefix)) (le-leb v _ node.1) (not_from_false (list_any (nat_eq v) prefix) new))
 
-Goes-node : (n v : ℕ) (prefix : List ℕ) → length prefix < n → v < 2 ^ 32 → is_new_node (record { n = n; order = prefix }) v ≡ true → Goes (after_node (record { n = n; order = prefix })) (word v) (after_node (record { n = n; order = prefix ++ v ∷ [] }))
-Goes-node n v prefix more fits new =
+Conforms-node : (n v : ℕ) (prefix : List ℕ) → length prefix < n → v < 2 ^ 32 → is_new_node (record { n = n; order = prefix }) v ≡ true → Conforms (after_node (record { n = n; order = prefix })) (word v) (after_node (record { n = n; order = prefix ++ v ∷ [] }))
+Conforms-node n v prefix more fits new =
     let next : after_node (record { n = n; order = prefix }) ≡ Node (record { n = n; order = prefix }) = rw (ne_eqb (length prefix) n (λ same. omega arith)) refl in
-    Goes-from _ _ _ (word v) next (Goes-number (Node (record { n = n; order = prefix })) v (after_node (record { n = n; order = prefix ++ v ∷ [] })) fits (λ at. rw new refl))
+    Conforms-from _ _ _ (word v) next (Conforms-number (Node (record { n = n; order = prefix })) v (after_node (record { n = n; order = prefix ++ v ∷ [] })) fits (λ at. rw new refl))
 
-Goes-names : (prefix left : List ℕ) (n : ℕ) → n ≤ 2 ^ 30 → length (prefix ++ left) ≡ n → IsRanking (prefix ++ left) → Goes (after_node (record { n = n; order = prefix })) (flat_map word left) (after_row (record { order = prefix ++ left; rows = [] }))
-Goes-names prefix [] n small size ranking =
+Conforms-names : (prefix left : List ℕ) (n : ℕ) → n ≤ 2 ^ 30 → length (prefix ++ left) ≡ n → IsRanking (prefix ++ left) → Conforms (after_node (record { n = n; order = prefix })) (flat_map word left) (after_row (record { order = prefix ++ left; rows = [] }))
+Conforms-names prefix [] n small size ranking =
     let all : prefix ++ [] ≡ prefix = append-nil prefix in
-    Goes-none (after_node (record { n = n; order = prefix })) (after_row (record { order = prefix ++ []; rows = [] })) (rw (eq-eqb (length prefix) n (ap length (sym all) ∙ size), all) refl)
-Goes-names prefix (v ∷ left) n small size ranking =
+    Conforms-none (after_node (record { n = n; order = prefix })) (after_row (record { order = prefix ++ []; rows = [] })) (rw (eq-eqb (length prefix) n (ap length (sym all) ∙ size), all) refl)
+Conforms-names prefix (v ∷ left) n small size ranking =
     let regroup : (prefix ++ v ∷ []) ++ left ≡ prefix ++ v ∷ left = append_assoc prefix (v ∷ []) left in
     let new : is_new_node (record { n = n; order = prefix }) v ≡ true = subst (λ k. is_new_node (record { n = k; order = prefix }) v ≡ true) size (new_in_ranking prefix left v ranking) in
     let node : (1 ≤ get_or (prefix ++ v ∷ left) (length prefix) 0) × (get_or (prefix ++ v ∷ left) (length prefix) 0 ≤ length (prefix ++ v ∷ left)) = ranking.node (length prefix) 0 (omega (arith, length-append prefix (v ∷ left))) in
     let fits : v < 2 ^ 32 = omega (arith, node.1, get_or-append_seam prefix v left 0) in
-    let one = Goes-node n v prefix (omega (arith, length-append prefix (v ∷ left))) fits new in
-    let rest = Goes-names (prefix ++ v ∷ []) left n small (ap length regroup ∙ size) (subst IsRanking (sym regroup) ranking) in
-    let rest_to = subst (λ at. Goes (after_node (record { n = n; order = prefix ++ v ∷ [] })) (flat_map word left) (after_row (record { order = at; rows = [] }))) regroup rest in
-    Goes-then _ _ _ (word v) (flat_map word left) one rest_to
+    let one = Conforms-node n v prefix (omega (arith, length-append prefix (v ∷ left))) fits new in
+    let rest = Conforms-names (prefix ++ v ∷ []) left n small (ap length regroup ∙ size) (subst IsRanking (sym regroup) ranking) in
+    let rest_to = subst (λ at. Conforms (after_node (record { n = n; order = prefix ++ v ∷ [] })) (flat_map word left) (after_row (record { order = at; rows = [] }))) regroup rest in
+    Conforms-then _ _ _ (word v) (flat_map word left) one rest_to
 
 -- ---- one row
 
 last_entry : (done : HubIndex) (count : ℕ) (prefix : List Entry) → least_after prefix ≤ next_own done → length prefix + 1 ≡ count → next_own done < 2 ^ 32 →
-    Goes (Position done (record { count = count; entries = prefix })) (entry_bytes (own_entry done.order (next_node done))) (after_row (with_row done (prefix ++ own_entry done.order (next_node done) ∷ [])))
+    Conforms (Position done (record { count = count; entries = prefix })) (entry_bytes (own_entry done.order (next_node done))) (after_row (with_row done (prefix ++ own_entry done.order (next_node done) ∷ [])))
 last_entry done count prefix above last fits =
     let part : Part = record { count = count; entries = prefix } in
     let own = next_own done in
     let is : eqb (length prefix + 1) count ≡ true = eq-eqb _ _ last in
     let position : is_next_position (next_own done) (record { count = count; entries = prefix }) (next_own done) ≡ true = rw (le-leb (least_after prefix) (next_own done) above, is) (eq-eqb (next_own done) (next_own done) refl) in
     let whole : eqb (length (prefix ++ own_entry done.order (next_node done) ∷ [])) count ≡ true = eq-eqb _ _ (length-append prefix (own_entry done.order (next_node done) ∷ []) ∙ last) in
-    Goes-then _ _ _ (word (next_own done)) (big_bytes 8 0)
-    (Goes-number (Position done (record { count = count; entries = prefix })) (next_own done) (Distance done (record { count = count; entries = prefix }) (next_own done)) fits (λ at. rw position refl))
-    (Goes-number (Distance done (record { count = count; entries = prefix }) (next_own done)) 0 (after_row (with_row done (prefix ++ own_entry done.order (next_node done) ∷ []))) (omega arith) (λ at. rw (is, whole) refl))
+    Conforms-then _ _ _ (word (next_own done)) (big_bytes 8 0)
+    (Conforms-number (Position done (record { count = count; entries = prefix })) (next_own done) (Distance done (record { count = count; entries = prefix }) (next_own done)) fits (λ at. rw position refl))
+    (Conforms-number (Distance done (record { count = count; entries = prefix }) (next_own done)) 0 (after_row (with_row done (prefix ++ own_entry done.order (next_node done) ∷ []))) (omega arith) (λ at. rw (is, whole) refl))
 
 other_entry : (done : HubIndex) (count : ℕ) (prefix : List Entry) (e : Entry) → least_after prefix ≤ e.pos → e.pos < next_own done → (1 ≤ e.dist) × (e.dist < 2 ^ 62) → length prefix + 1 < count → next_own done < 2 ^ 32 →
-    Goes (Position done (record { count = count; entries = prefix })) (entry_bytes e) (Position done (record { count = count; entries = prefix ++ e ∷ [] }))
+    Conforms (Position done (record { count = count; entries = prefix })) (entry_bytes e) (Position done (record { count = count; entries = prefix ++ e ∷ [] }))
 other_entry done count prefix e above below far more fits =
     let is : eqb (length prefix + 1) count ≡ false = ne_eqb _ _ (λ same. omega arith) in
     let position : is_next_position (next_own done) (record { count = count; entries = prefix }) e.pos ≡ true = rw (le-leb (least_after prefix) e.pos above, is) (lt-ltb e.pos (next_own done) below) in
     let distance : is_next_distance (record { count = count; entries = prefix }) e.dist ≡ true = rw is (and_from (leb 1 e.dist) (ltb e.dist (2 ^ 62)) (le-leb 1 e.dist far.0) (lt-ltb e.dist (2 ^ 62) far.1)) in
     let not_whole : eqb (length (prefix ++ e ∷ [])) count ≡ false = ne_eqb _ _ (λ same. omega (arith, length-append prefix (e ∷ []))) in
-    Goes-then _ _ _ (word e.pos) (big_bytes 8 e.dist)
-    (Goes-number (Position done (record { count = count; entries = prefix })) e.pos (Distance done (record { count = count; entries = prefix }) e.pos) (omega arith) (λ at. rw position refl))
-    (Goes-number (Distance done (record { count = count; entries = prefix }) e.pos) e.dist (Position done (record { count = count; entries = prefix ++ e ∷ [] })) (omega (arith, far.1)) (λ at. rw (distance, not_whole) refl))
+    Conforms-then _ _ _ (word e.pos) (big_bytes 8 e.dist)
+    (Conforms-number (Position done (record { count = count; entries = prefix })) e.pos (Distance done (record { count = count; entries = prefix }) e.pos) (omega arith) (λ at. rw position refl))
+    (Conforms-number (Distance done (record { count = count; entries = prefix }) e.pos) e.dist (Position done (record { count = count; entries = prefix ++ e ∷ [] })) (omega (arith, far.1)) (λ at. rw (distance, not_whole) refl))
 
-Goes-entries : (done : HubIndex) (count : ℕ) (prefix left : List Entry) → Rises pos_of (prefix ++ (left ++ own_entry done.order (next_node done) ∷ [])) → All (λ e. (1 ≤ e.dist) × (e.dist < 2 ^ 62)) left → length (prefix ++ (left ++ own_entry done.order (next_node done) ∷ [])) ≡ count → next_own done < 2 ^ 32 →
-    Goes (Position done (record { count = count; entries = prefix })) (flat_map entry_bytes (left ++ own_entry done.order (next_node done) ∷ [])) (after_row (with_row done (prefix ++ (left ++ own_entry done.order (next_node done) ∷ []))))
-Goes-entries done count prefix [] up far size fits =
-    subst (λ bytes. Goes (Position done (record { count = count; entries = prefix })) bytes (after_row (with_row done (prefix ++ own_entry done.order (next_node done) ∷ [])))) (sym (append-nil (entry_bytes (own_entry done.order (next_node done)))))
+Conforms-entries : (done : HubIndex) (count : ℕ) (prefix left : List Entry) → Rises pos_of (prefix ++ (left ++ own_entry done.order (next_node done) ∷ [])) → All (λ e. (1 ≤ e.dist) × (e.dist < 2 ^ 62)) left → length (prefix ++ (left ++ own_entry done.order (next_node done) ∷ [])) ≡ count → next_own done < 2 ^ 32 →
+    Conforms (Position done (record { count = count; entries = prefix })) (flat_map entry_bytes (left ++ own_entry done.order (next_node done) ∷ [])) (after_row (with_row done (prefix ++ (left ++ own_entry done.order (next_node done) ∷ []))))
+Conforms-entries done count prefix [] up far size fits =
+    subst (λ bytes. Conforms (Position done (record { count = count; entries = prefix })) bytes (after_row (with_row done (prefix ++ own_entry done.order (next_node done) ∷ [])))) (sym (append-nil (entry_bytes (own_entry done.order (next_node done)))))
     (last_entry done count prefix (least_after-prefix prefix (own_entry done.order (next_node done)) [] up) (sym (length-append prefix (own_entry done.order (next_node done) ∷ [])) ∙ size) fits)
-Goes-entries done count prefix (e ∷ left) up far size fits =
+Conforms-entries done count prefix (e ∷ left) up far size fits =
     let own = own_entry done.order (next_node done) in
     let regroup : (prefix ++ e ∷ []) ++ (left ++ own_entry done.order (next_node done) ∷ []) ≡ prefix ++ (e ∷ (left ++ own_entry done.order (next_node done) ∷ [])) = append_assoc prefix (e ∷ []) (left ++ own_entry done.order (next_node done) ∷ []) in
     let above = least_after-prefix prefix e (left ++ own_entry done.order (next_node done) ∷ []) up in
@@ -133,27 +133,27 @@ Goes-entries done count prefix (e ∷ left) up far size fits =
     let long = length-append prefix (e ∷ (left ++ own_entry done.order (next_node done) ∷ [])) in
     let longer = length-append left (own_entry done.order (next_node done) ∷ []) in
     let one = other_entry done count prefix e above below (far 0 e (omega arith)) (omega (arith, long, longer, size)) fits in
-    let rest = Goes-entries done count (prefix ++ e ∷ []) left (subst (Rises pos_of) (sym regroup) up) (λ k d within. far (suc k) d (omega arith)) (ap length regroup ∙ size) fits in
-    Goes-then _ _ _ (entry_bytes e) (flat_map entry_bytes (left ++ own_entry done.order (next_node done) ∷ [])) one
-    (subst (λ row. Goes (Position done (record { count = count; entries = prefix ++ e ∷ [] })) (flat_map entry_bytes (left ++ own_entry done.order (next_node done) ∷ [])) (after_row (with_row done row))) regroup rest)
+    let rest = Conforms-entries done count (prefix ++ e ∷ []) left (subst (Rises pos_of) (sym regroup) up) (λ k d within. far (suc k) d (omega arith)) (ap length regroup ∙ size) fits in
+    Conforms-then _ _ _ (entry_bytes e) (flat_map entry_bytes (left ++ own_entry done.order (next_node done) ∷ [])) one
+    (subst (λ row. Conforms (Position done (record { count = count; entries = prefix ++ e ∷ [] })) (flat_map entry_bytes (left ++ own_entry done.order (next_node done) ∷ [])) (after_row (with_row done row))) regroup rest)
 
 -- ---- all rows
 
-Goes-row : (done : HubIndex) (row : List Entry) → IsWellFormedRow done.order (next_node done) row → length done.rows < length done.order → length row < 2 ^ 32 → next_own done < 2 ^ 32 → Goes (after_row done) (row_bytes row) (after_row (with_row done row))
-Goes-row done row is more few fits =
+Conforms-row : (done : HubIndex) (row : List Entry) → IsWellFormedRow done.order (next_node done) row → length done.rows < length done.order → length row < 2 ^ 32 → next_own done < 2 ^ 32 → Conforms (after_row done) (row_bytes row) (after_row (with_row done row))
+Conforms-row done row is more few fits =
     let own = own_entry done.order (next_node done) in
     let up : Rises pos_of row = AllPairs-from_increasing (map pos_of row) is.rising in
     let ends : row ≡ is.others ++ own_entry done.order (next_node done) ∷ [] = is.ends in
     let long = ap length ends in
     let next : after_row done ≡ Count done = rw (ne_eqb (length done.rows) (length done.order) (λ same. omega arith)) refl in
     let some : eqb (length row) 0 ≡ false = ne_eqb _ _ (λ none. omega (arith, long, length-append is.others (own_entry done.order (next_node done) ∷ []))) in
-    let entries = Goes-entries done (length row) [] is.others (subst (Rises pos_of) ends up) is.far (sym long) fits in
-    let entries_of_row = subst (λ r. Goes (Position done (record { count = length row; entries = [] })) (flat_map entry_bytes r) (after_row (with_row done r))) (sym ends) entries in
-    Goes-from _ _ _ (row_bytes row) next (Goes-then _ _ _ (word (length row)) (flat_map entry_bytes row) (Goes-number (Count done) (length row) (Position done (record { count = length row; entries = [] })) few (λ at. rw some refl)) entries_of_row)
+    let entries = Conforms-entries done (length row) [] is.others (subst (Rises pos_of) ends up) is.far (sym long) fits in
+    let entries_of_row = subst (λ r. Conforms (Position done (record { count = length row; entries = [] })) (flat_map entry_bytes r) (after_row (with_row done r))) (sym ends) entries in
+    Conforms-from _ _ _ (row_bytes row) next (Conforms-then _ _ _ (word (length row)) (flat_map entry_bytes row) (Conforms-number (Count done) (length row) (Position done (record { count = length row; entries = [] })) few (λ at. rw some refl)) entries_of_row)
 
-Goes-rows : (order : List ℕ) (prefix left : List (List Entry)) → IsWellFormed order (prefix ++ left) → Goes (after_row (record { order = order; rows = prefix })) (flat_map row_bytes left) (after_row (record { order = order; rows = prefix ++ left }))
-Goes-rows order prefix [] is = Goes-none _ _ (ap (λ rows. after_row (record { order = order; rows = rows })) (sym (append-nil prefix)))
-Goes-rows order prefix (row ∷ left) is =
+Conforms-rows : (order : List ℕ) (prefix left : List (List Entry)) → IsWellFormed order (prefix ++ left) → Conforms (after_row (record { order = order; rows = prefix })) (flat_map row_bytes left) (after_row (record { order = order; rows = prefix ++ left }))
+Conforms-rows order prefix [] is = Conforms-none _ _ (ap (λ rows. after_row (record { order = order; rows = rows })) (sym (append-nil prefix)))
+Conforms-rows order prefix (row ∷ left) is =
     let done : HubIndex = record { order = order; rows = prefix } in
     let v : ℕ = length prefix + 1 in
     let more : length prefix < length order = omega (arith, is.size, length-append prefix (row ∷ left)) in
@@ -161,24 +161,24 @@ Goes-rows order prefix (row ∷ left) is =
     let here : label_row (prefix ++ row ∷ left) (length prefix + 1) ≡ row = ap (λ i. get_or (prefix ++ row ∷ left) i []) place ∙ get_or-append_seam prefix row left [] in
     let well_formed : IsWellFormedRow order (length prefix + 1) row = subst (IsWellFormedRow order (length prefix + 1)) here (is.row (length prefix + 1) (omega arith) (omega arith)) in
     let own : position_of order (length prefix + 1) < length order = position-lt order (length prefix + 1) is.ranking (omega arith) (omega arith) in
-    let one = Goes-row (record { order = order; rows = prefix }) row well_formed more (omega (arith, length-well_formed order (length prefix + 1) row well_formed, own, is.small)) (omega (arith, own, is.small)) in
+    let one = Conforms-row (record { order = order; rows = prefix }) row well_formed more (omega (arith, length-well_formed order (length prefix + 1) row well_formed, own, is.small)) (omega (arith, own, is.small)) in
     let regroup : (prefix ++ row ∷ []) ++ left ≡ prefix ++ row ∷ left = append_assoc prefix (row ∷ []) left in
-    let rest = Goes-rows order (prefix ++ row ∷ []) left (subst (IsWellFormed order) (sym regroup) is) in
-    Goes-then _ _ _ (row_bytes row) (flat_map row_bytes left) one (subst (λ rows. Goes (after_row (record { order = order; rows = prefix ++ row ∷ [] })) (flat_map row_bytes left) (after_row (record { order = order; rows = rows }))) regroup rest)
+    let rest = Conforms-rows order (prefix ++ row ∷ []) left (subst (IsWellFormed order) (sym regroup) is) in
+    Conforms-then _ _ _ (row_bytes row) (flat_map row_bytes left) one (subst (λ rows. Conforms (after_row (record { order = order; rows = prefix ++ row ∷ [] })) (flat_map row_bytes left) (after_row (record { order = order; rows = rows }))) regroup rest)
 
 -- ---- the whole file
 
-Goes-all : (at : List ℕ) (rows : List (List Entry)) → IsWellFormed at rows → Goes Size (word (length at) ++ (flat_map word at ++ flat_map row_bytes rows)) (End (record { order = at; rows = rows }))
-Goes-all at rows is =
+Conforms-all : (at : List ℕ) (rows : List (List Entry)) → IsWellFormed at rows → Conforms Size (word (length at) ++ (flat_map word at ++ flat_map row_bytes rows)) (End (record { order = at; rows = rows }))
+Conforms-all at rows is =
     let end : after_row (record { order = at; rows = rows }) ≡ End (record { order = at; rows = rows }) = rw (eq-eqb (length rows) (length at) is.size) refl in
-    let size = Goes-number Size (length at) (after_node (record { n = length at; order = [] })) (omega (arith, is.small)) (λ offset. rw (le-leb (length at) (2 ^ 30) is.small) refl) in
-    let names = Goes-names [] at (length at) is.small refl is.ranking in
-    let all_rows = Goes-to _ _ _ (flat_map row_bytes rows) end (Goes-rows at [] rows is) in
-    Goes-then _ _ _ (word (length at)) (flat_map word at ++ flat_map row_bytes rows) size (Goes-then _ _ _ (flat_map word at) (flat_map row_bytes rows) names all_rows)
+    let size = Conforms-number Size (length at) (after_node (record { n = length at; order = [] })) (omega (arith, is.small)) (λ offset. rw (le-leb (length at) (2 ^ 30) is.small) refl) in
+    let names = Conforms-names [] at (length at) is.small refl is.ranking in
+    let all_rows = Conforms-to _ _ _ (flat_map row_bytes rows) end (Conforms-rows at [] rows is) in
+    Conforms-then _ _ _ (word (length at)) (flat_map word at ++ flat_map row_bytes rows) size (Conforms-then _ _ _ (flat_map word at) (flat_map row_bytes rows) names all_rows)
 
 -- the layout is read as the index
 pub index_of-layout : (at : List ℕ) (rows : List (List Entry)) → IsWellFormed at rows → index_of (index_bytes at rows) ≡ Ok (record { order = at; rows = rows })
-index_of-layout at rows is = let all = (Goes-all at rows is).way 8 in ap end_of all.1
+index_of-layout at rows is = let all = (Conforms-all at rows is).way 8 in ap end_of all.1
 
 -- ---- and only the layout
 

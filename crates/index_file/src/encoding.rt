@@ -1,10 +1,10 @@
 ghost use Rattle.std.specs.Prelude.{◌≡◌, ℕ, ◌+◌, ◌*◌, ◌^◌, ◌<◌, ◌≤◌, ◌++◌, length, flat_map, IfOk, OnOk};
 ghost use Rattle.walk_laws.specs.Labelling.{label_row};
-ghost use Rattle.hub_index.specs.NarrowRows.{row_of_parts};
+ghost use Rattle.hub_index.specs.CompactRows.{row_of_parts};
 ghost use Rattle.index_file.specs.Layout.{before_rows, index_bytes, entry_bytes, row_bytes, run_bytes, word};
 
 use byteorder::{BigEndian, ByteOrder};
-use hub_index::{Index, IndexRows, NarrowEntry};
+use hub_index::{CompactEntry, Index, IndexRows};
 use std::alloc::{AllocError, Global};
 use walk_laws::Entry;
 
@@ -86,8 +86,8 @@ pub fn row_len(index: &IndexRows<'_>, v: u32) -> usize
     ensures small { result ≤ 2 ^ 30 }
     ensures nodes { length index.now.order ≤ 2 ^ 30 }
 {
-    let (narrow, wide) = index.row(v);
-    narrow.len() + wide.len()
+    let (compact, full) = index.row(v);
+    compact.len() + full.len()
 }
 
 /// Puts the nodes in ranked order at the end.
@@ -107,22 +107,22 @@ fn push_rows(out: &mut Vec<u8>, index: &IndexRows<'_>, from: u32, to: u32) -> Re
     ensures { OnOk result (out.new.items ≡ out.old.items ++ run_bytes index.now.rows from to) }
 {
     for p in from..to {
-        let (narrow, wide) = index.row(p + 1);
-        push_row(out, narrow, wide)?;
+        let (compact, full) = index.row(p + 1);
+        push_row(out, compact, full)?;
     }
     Ok(())
 }
 
 /// Puts the row in these parts at the end: the number of its entries, and the entries.
-fn push_row(out: &mut Vec<u8>, narrow: &[NarrowEntry], wide: &[Entry]) -> Result<(), AllocError>
-    requires { length (row_of_parts narrow.now wide.now) < 2 ^ 32 }
-    ensures { OnOk result (out.new.items ≡ out.old.items ++ row_bytes (row_of_parts narrow.now wide.now)) }
+fn push_row(out: &mut Vec<u8>, compact: &[CompactEntry], full: &[Entry]) -> Result<(), AllocError>
+    requires { length (row_of_parts compact.now full.now) < 2 ^ 32 }
+    ensures { OnOk result (out.new.items ≡ out.old.items ++ row_bytes (row_of_parts compact.now full.now)) }
 {
-    push_word(out, (narrow.len() + wide.len()) as u32)?;
-    for entry in narrow {
+    push_word(out, (compact.len() + full.len()) as u32)?;
+    for entry in compact {
         push_entry(out, entry.widened())?;
     }
-    for entry in wide {
+    for entry in full {
         push_entry(out, *entry)?;
     }
     Ok(())

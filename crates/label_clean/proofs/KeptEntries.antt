@@ -1,20 +1,20 @@
 -- What is kept of a row, entry by entry.
-use Rattle.std.proofs.Common.{◌≡◌, ◌↔◌, ℕ, ◌+◌, ◌<◌, ◌≤◌, List, [], ◌∷◌, ◌++◌, Contains, length, map, get_or, take, sym, ap, subst, ◌∙◌, inl, inr, arith, add-one}
-use Rattle.std.specs.List.Sorted.{IsStrictlyIncreasing}
+use Rattle.std.proofs.Common.{◌≡◌, ◌≢◌, ℕ, ◌+◌, ◌<◌, ◌≤◌, List, [], ◌∷◌, ◌++◌, Contains, length, map, get_or, take, sym, subst, ◌∙◌, inl, inr, arith, add-one}
 use Rattle.std.proofs.Math.Seq.{take-suc}
-use Rattle.std.proofs.lemmas.List.{take_all, length-map, length-take, get_or-map, get_or-take, map-append}
+use Rattle.std.proofs.lemmas.List.{take_all, length-map, length-take, get_or-map, get_or-take, get_or_default, map-append}
 use Rattle.std.proofs.lemmas.List.Elements.{All-append, All-contains_itself, All-map, All-weaker, Contains-append_left, Contains-append_right, Contains-append_cases, Contains-get_or}
-use Rattle.std.proofs.lemmas.List.Kept.{AllPairs-from_increasing, AllPairs-cons}
+use Rattle.std.proofs.lemmas.List.Kept.{AllPairs-cons}
 use Rattle.std.proofs.lemmas.List.Quantifiers.{all_pairs_push}
 use Rattle.walk_laws.specs.declared.entry.Entry.{Entry}
 use Rattle.walk_laws.proofs.LabelRows.{Rises, Rises-first, Rises-rest}
 use Rattle.walk_laws.proofs.Members.{Contains-first, Contains-next, Contains-cons_cases, Contains-empty}
+use Rattle.std.proofs.lemmas.Bool.Decides.{Decides-eqb}
+use Rattle.std.proofs.lemmas.Map.Made.{AllPairs-from_IsDistinct, IsDistinct-from_AllPairs}
+use Rattle.std.specs.List.{AllPairs}
+use Rattle.label_clean.specs.RawRows.{HasEachOnce}
+use Rattle.label_clean.specs.Kept.{IsKept}
 use Rattle.label_clean.proofs.Covering.{pos_of}
-
--- the row without the entries of one kind
-pub record IsKept (P : Entry → Type 0) (row kept : List Entry) : Type 0 where
-  pub rises : Rises pos_of kept
-  pub each : (e : Entry) → Contains kept e ↔ (Contains row e × ¬ P e)
+use Rattle.label_clean.proofs.RowFacts.{one_place}
 
 -- a rising row still rises with an entry after it that is above all others
 pub Rises-push : (xs : List Entry) (x : Entry) → Rises pos_of xs → ((e : Entry) → Contains xs e → e.pos < x.pos) → Rises pos_of (xs ++ x ∷ [])
@@ -38,24 +38,35 @@ Rises-append (x ∷ xs) ys up more below =
     (All-weaker (Contains ys) (λ (e : Entry). x.pos < e.pos) (λ e h. below x e (Contains-first x xs) h) ys (All-contains_itself ys))))
     (Rises-append xs ys (Rises-rest pos_of x xs up) more (λ e f h k. below e f (Contains-next x e xs h) k))
 
--- in a rising row the entries before a place are below the one that stands there
-before_place : (row : List Entry) (i : ℕ) (d e : Entry) → IsStrictlyIncreasing (map pos_of row) → i < length row → Contains (take i row) e → e.pos < (get_or row i d).pos
-before_place row i d e rising within (k, k_within, is) =
+-- entries at different positions, and one more at another
+each_once-push : (xs : List Entry) (x : Entry) → HasEachOnce xs → ((e : Entry) → Contains xs e → e.pos ≢ x.pos) → HasEachOnce (xs ++ x ∷ [])
+each_once-push xs x once other =
+    IsDistinct-from_AllPairs Decides-eqb (map pos_of (xs ++ x ∷ []))
+    (subst (AllPairs (λ a b. a ≢ b)) (sym (map-append pos_of xs (x ∷ [])))
+    (all_pairs_push (λ a b. a ≢ b) (map pos_of xs) x.pos (AllPairs-from_IsDistinct Decides-eqb (map pos_of xs) once) far))
+  where
+    far : (k d : ℕ) → k < length (map pos_of xs) → get_or (map pos_of xs) k d ≢ x.pos
+    far k d lt same =
+        let within : k < length xs = omega (arith, length-map xs pos_of) in
+        other (get_or xs k x) (Contains-get_or xs k x within) (sym (get_or-map pos_of xs k x d within) ∙ same)
+
+-- in such a row the entries before a place have other positions than the one that stands there
+before_place : (row : List Entry) (i : ℕ) (d e : Entry) → HasEachOnce row → i < length row → Contains (take i row) e → e.pos ≢ (get_or row i d).pos
+before_place row i d e once within (k, k_within, is) same =
     let before : k < i = omega (arith, length-take i row) in
     let there : get_or row k e ≡ e = sym (get_or-take i row k e before) ∙ is in
-    let up = AllPairs-from_increasing (map pos_of row) rising k i 0 before (omega (arith, length-map row pos_of)) in
-    omega (arith, up, get_or-map pos_of row k e 0 (omega arith), get_or-map pos_of row i d 0 within, ap pos_of there)
+    one_place row k i e (get_or row i d) once before within there (get_or_default row i (get_or row i d) d within) same
 
 module _ (P : Entry → Type 0) where
   pub IsKept-none : IsKept P [] []
   IsKept-none = record {
-    rises = λ i j d lt within. absurd (omega (arith, within));
+    once = IsDistinct-from_AllPairs Decides-eqb [] (λ i j d lt within. absurd (omega (arith, within)));
     each = λ e. (λ h. absurd (Contains-empty e h), λ h. absurd (Contains-empty e h.0));
   }
 
-  one_more_kept : (row kept : List Entry) (x : Entry) → IsKept P row kept → ((e : Entry) → Contains row e → e.pos < x.pos) → ¬ P x → IsKept P (row ++ x ∷ []) (kept ++ x ∷ [])
-  one_more_kept row kept x so_far below good = record {
-    rises = Rises-push kept x so_far.rises (λ e h. below e ((so_far.each e).0 h).0);
+  one_more_kept : (row kept : List Entry) (x : Entry) → IsKept P row kept → ((e : Entry) → Contains row e → e.pos ≢ x.pos) → ¬ P x → IsKept P (row ++ x ∷ []) (kept ++ x ∷ [])
+  one_more_kept row kept x so_far other good = record {
+    once = each_once-push kept x so_far.once (λ e h. other e ((so_far.each e).0 h).0);
     each = λ e. (there e, back e);
   }
     where
@@ -76,7 +87,7 @@ module _ (P : Entry → Type 0) where
 
   one_left_out : (row kept : List Entry) (x : Entry) → IsKept P row kept → P x → IsKept P (row ++ x ∷ []) kept
   one_left_out row kept x so_far bad = record {
-    rises = so_far.rises;
+    once = so_far.once;
     each = λ e. (λ h. let known = (so_far.each e).0 h in (Contains-append_left row (x ∷ []) e known.0, known.1), back e);
   }
     where
@@ -94,9 +105,9 @@ module _ (P : Entry → Type 0) where
     cut = rw add-one (take-suc row i d within)
 
     -- the entry at the place is kept
-    pub IsKept-with : IsStrictlyIncreasing (map pos_of row) → ¬ P (get_or row i d) → IsKept P (take (i + 1) row) (kept ++ get_or row i d ∷ [])
-    IsKept-with rising good =
-        subst (λ xs. IsKept P xs (kept ++ get_or row i d ∷ [])) (sym cut) (one_more_kept (take i row) kept (get_or row i d) so_far (λ e h. before_place row i d e rising within h) good)
+    pub IsKept-with : HasEachOnce row → ¬ P (get_or row i d) → IsKept P (take (i + 1) row) (kept ++ get_or row i d ∷ [])
+    IsKept-with once good =
+        subst (λ xs. IsKept P xs (kept ++ get_or row i d ∷ [])) (sym cut) (one_more_kept (take i row) kept (get_or row i d) so_far (λ e h. before_place row i d e once within h) good)
 
     -- or left out
     pub IsKept-without : P (get_or row i d) → IsKept P (take (i + 1) row) kept
@@ -105,6 +116,3 @@ module _ (P : Entry → Type 0) where
   -- after the last entry the whole row has been gone through
   pub IsKept-whole : (row kept : List Entry) (i : ℕ) → length row ≤ i → IsKept P (take i row) kept → IsKept P row kept
   IsKept-whole row kept i over so_far = subst (λ xs. IsKept P xs kept) (take_all i row over) so_far
-
-  pub IsKept-rising : (row kept : List Entry) → IsKept P row kept → IsStrictlyIncreasing (map pos_of kept)
-  IsKept-rising row kept all k within = all.rises k (k + 1) 0 (omega arith) within

@@ -64,9 +64,6 @@ module _ (at : List ℕ) (near : List (List Entry)) where
       subst (HasSurvivors at near v) (sym is)
       (record { once = once; each = λ e. (λ h. (h, All-contains (λ x. IsNeedless at near v x → ⊥) (label_row near v) e stay h), λ h. h.0) })
 
-  pub HasSurvivors-kept : (v : ℕ) (row : List Entry) → IsSurvivingRow at near v row → HasSurvivors at near v row
-  HasSurvivors-kept v row is = record { once = once_from_rising row is.rising; each = is.each }
-
   -- sorted they survive
   pub IsSurvivingRow-sorted : (v : ℕ) (row sorted : List Entry) → HasSurvivors at near v row → IsSortedRow row sorted → IsSurvivingRow at near v sorted
   IsSurvivingRow-sorted v row sorted has is = record {

@@ -10,25 +10,27 @@ use Rattle.walk_laws.specs.declared.entry.Entry.{Entry}
 use Rattle.walk_laws.specs.Labelling.{label_row}
 use Rattle.hub_index.specs.RootDistances.{IsCover, HoldsRow}
 use Rattle.label_clean.specs.RawRows.{HasEachOnce, IsRawRow}
-use Rattle.label_clean.specs.Tested.{AreNearRows, IsNearRow, HasCover, HoldsLeast}
+use Rattle.label_clean.specs.Tested.{AreNearRows, HasEntriesOf, HasCover, HoldsLeast}
 use Rattle.label_clean.proofs.Covering.{entry, pos_of}
 use Rattle.label_clean.proofs.RowFacts.{eqb_flips, same_entry, All-each}
 
 abbrev pub dist_of : Entry → ℕ
 dist_of e = e.dist
 
--- entries that differ in position, sorted by distance
-pub IsNearRow-from_sort : (row near : List Entry) → HasEachOnce row → IsPermutation row near → IsNonDecreasingBy dist_of near → IsNearRow row near
-IsNearRow-from_sort row near once moved up = record {
-  nearing = up;
-  once = IsDistinct-IsPermutation eqb eqb_flips (map pos_of row) (map pos_of near) (IsPermutation-map pos_of row near moved) once;
-  each = λ e. (λ h. Contains-permutation near row e (IsPermutation-sym row near moved) h, λ h. Contains-permutation row near e moved h);
+-- entries that differ in position, in another order
+pub HasEntriesOf-moved : (row moved : List Entry) → HasEachOnce row → IsPermutation row moved → HasEntriesOf row moved
+HasEntriesOf-moved row moved once is = record {
+  once = IsDistinct-IsPermutation eqb eqb_flips (map pos_of row) (map pos_of moved) (IsPermutation-map pos_of row moved is) once;
+  each = λ e. (λ h. Contains-permutation moved row e (IsPermutation-sym row moved is) h, λ h. Contains-permutation row moved e is h);
 }
 
-pub IsRawRow-near : (n : ℕ) (entries row : List Entry) → IsNearRow entries row → All (λ e. e.pos < n) entries → IsRawRow n row
-IsRawRow-near n entries row near within = record {
-  within = All-each (λ (e : Entry). e.pos < n) entries row (λ e. (near.each e).0) within;
-  once = near.once;
+pub HasEntriesOf-same : (row : List Entry) → HasEachOnce row → HasEntriesOf row row
+HasEntriesOf-same row once = record { once = once; each = λ e. (λ h. h, λ h. h) }
+
+pub IsRawRow-moved : (n : ℕ) (entries row : List Entry) → HasEntriesOf entries row → All (λ e. e.pos < n) entries → IsRawRow n row
+IsRawRow-moved n entries row has within = record {
+  within = All-each (λ (e : Entry). e.pos < n) entries row (λ e. (has.each e).0) within;
+  once = has.once;
 }
 
 -- after an entry that is too far nothing covers
@@ -42,8 +44,8 @@ no_cover_after table p d row i none nearing within far before (e, (k, k_within, 
 ]
 
 -- a table that was loaded with a row, which has one entry of each hub
-pub HoldsLeast-loaded : (n : ℕ) (near : List (List Entry)) (v : ℕ) (row : List Entry) (table : List (Option ℕ)) → AreNearRows n near → 1 ≤ v → v ≤ n → row ≡ label_row near v → HoldsRow table row → HoldsLeast table (label_row near v)
-HoldsLeast-loaded n near v row table are from_one up_to_n is held =
+pub HoldsLeast-loaded : (at : List ℕ) (near : List (List Entry)) (v : ℕ) (row : List Entry) (table : List (Option ℕ)) → AreNearRows at near → 1 ≤ v → v ≤ length at → row ≡ label_row near v → HoldsRow table row → HoldsLeast table (label_row near v)
+HoldsLeast-loaded at near v row table are from_one up_to_n is held =
     let loaded : HoldsRow table (label_row near v) = subst (HoldsRow table) is held in
     record {
       there = λ p d root. ((loaded p d).0 root).there;

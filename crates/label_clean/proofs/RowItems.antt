@@ -22,7 +22,7 @@ each_node P rows all v from_one up_to_n =
     subst (λ x. P x (label_row rows x)) same (all (v - 1) (omega arith))
 
 -- rows that are changed place by place are changed node by node
-pub each_changed : (P : List Entry → List Entry → Type 0) (before after : List (Vec Entry Global)) → length after ≡ length before → ((i : ℕ) (d : Vec Entry Global) → i < length before → P (get_or before i d).items (get_or after i d).items) → (v : ℕ) → 1 ≤ v → v ≤ length (items_of before) → P (label_row (items_of before) v) (label_row (items_of after) v)
+pub each_changed : (P : ℕ → List Entry → List Entry → Type 0) (before after : List (Vec Entry Global)) → length after ≡ length before → ((i : ℕ) (d : Vec Entry Global) → i < length before → P (i + 1) (get_or before i d).items (get_or after i d).items) → (v : ℕ) → 1 ≤ v → v ≤ length (items_of before) → P v (label_row (items_of before) v) (label_row (items_of after) v)
 each_changed P [] after size each v from_one up_to_n = absurd (omega (arith, from_one, up_to_n))
 each_changed P (x ∷ xs) after size each v from_one up_to_n =
     let before = x ∷ xs in
@@ -30,9 +30,9 @@ each_changed P (x ∷ xs) after size each v from_one up_to_n =
     let first = row_at before (v - 1) x within in
     let second = row_at after (v - 1) x (omega (arith, within, size)) in
     let node : v - 1 + 1 ≡ v = omega arith in
-    subst (λ k. P (label_row (items_of before) k) (label_row (items_of after) k)) node
-    (subst (λ row. P row (label_row (items_of after) (v - 1 + 1))) (sym first)
-    (subst (P (get_or before (v - 1) x).items) (sym second) (each (v - 1) x within)))
+    subst (λ k. P k (label_row (items_of before) k) (label_row (items_of after) k)) node
+    (subst (λ row. P (v - 1 + 1) row (label_row (items_of after) (v - 1 + 1))) (sym first)
+    (subst (P (v - 1 + 1) (get_or before (v - 1) x).items) (sym second) (each (v - 1) x within)))
 
 -- a vector whose slice was lent whole has what the slice has then
 pub take_filled : {X : Type 0} (n : ℕ) (now old : List X) → length now ≡ length old → length old ≡ n → take n (now ++ drop (length now) old) ≡ now

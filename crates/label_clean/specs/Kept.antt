@@ -4,19 +4,23 @@ use Rattle.std.specs.declared.alloc.Global.{Global}
 use Rattle.walk_laws.specs.declared.entry.Entry.{Entry}
 use Rattle.walk_laws.specs.Labelling.{label_row}
 use Rattle.label_clean.specs.RawRows.{HasEachOnce}
-use Rattle.label_clean.specs.Needless.{IsNeedless, IsSurvivingRow}
+use Rattle.label_clean.specs.Needless.{IsNeedless}
+
+-- the entries of a row that are not of one kind, each once, in any order
+pub record IsKept (P : Entry → Type 0) (row kept : List Entry) : Type 0 where
+  pub once : HasEachOnce kept
+  pub each : (e : Entry) → Contains kept e ↔ (Contains row e × ¬ P e)
+
+-- the row has exactly the entries of v that are not needless, each once, in any order
+abbrev pub HasSurvivors : List ℕ → List (List Entry) → ℕ → List Entry → Type 0
+HasSurvivors at near v row = IsKept (IsNeedless at near v) (label_row near v) row
 
 -- what is kept of the row of v: all of it, where that is none, or else these entries
 abbrev pub IsKeptRow : List ℕ → List (List Entry) → ℕ → Option (Vec Entry Global) → Type 0
 IsKeptRow at near v None = All (λ e. ¬ IsNeedless at near v e) (label_row near v)
-IsKeptRow at near v (Some kept) = IsSurvivingRow at near v kept.items
+IsKeptRow at near v (Some kept) = HasSurvivors at near v kept.items
 
 -- what is kept of the rows of the nodes after `from` up to `to`
 pub record AreKeptRows (at : List ℕ) (near : List (List Entry)) (from to : ℕ) (kept : List (Option (Vec Entry Global))) : Type 0 where
   pub size : from + length kept ≡ to
   pub each : (k : ℕ) → k < length kept → IsKeptRow at near (from + k + 1) (get_or kept k None)
-
--- the row has exactly the entries of v that are not needless, each once, in any order
-pub record HasSurvivors (at : List ℕ) (near : List (List Entry)) (v : ℕ) (row : List Entry) : Type 0 where
-  pub once : HasEachOnce row
-  pub each : (e : Entry) → Contains row e ↔ (Contains (label_row near v) e × ¬ IsNeedless at near v e)

@@ -1,22 +1,26 @@
--- What entries are tested with: rows by rising distance, and a table of the distances of a row.
-use Rattle.std.specs.Prelude.{◌≡◌, ◌↔◌, ℕ, ◌+◌, ◌<◌, ◌≤◌, List, Option, Some, Contains, length}
+-- What entries are tested with: rows of which those that are read most are by rising distance, and a table of the distances of a row.
+use Rattle.std.specs.Prelude.{◌≡◌, ◌↔◌, ℕ, ◌+◌, ◌/◌, ◌<◌, ◌≤◌, List, Option, Some, Contains, length}
 use Rattle.std.specs.List.Sorted.{IsNonDecreasingBy}
 use Rattle.walk_laws.specs.declared.entry.Entry.{Entry}
 use Rattle.walk_laws.specs.Labelling.{label_row}
+use Rattle.walk_laws.specs.Ranking.{position_of}
 use Rattle.hub_index.specs.RootDistances.{root_distance, IsCover}
 use Rattle.label_clean.specs.RawRows.{HasEachOnce, IsRawRow}
 
--- the row has the entries of another by rising distance
-pub record IsNearRow (entries row : List Entry) : Type 0 where
-  pub nearing : IsNonDecreasingBy (λ e. e.dist) row
+-- the row has the entries of another in any order
+pub record HasEntriesOf (entries row : List Entry) : Type 0 where
   pub once : HasEachOnce row
   pub each : (e : Entry) → Contains row e ↔ Contains entries e
 
--- a row for each of n nodes, by rising distance, with at most one entry of each hub
-pub record AreNearRows (n : ℕ) (rows : List (List Entry)) : Type 0 where
-  pub size : length rows ≡ n
-  pub nearing : (v : ℕ) → 1 ≤ v → v ≤ n → IsNonDecreasingBy (λ e. e.dist) (label_row rows v)
-  pub raw : (v : ℕ) → 1 ≤ v → v ≤ n → IsRawRow n (label_row rows v)
+-- how many of n nodes, the highest-ranked ones, are hubs of so many others that their rows are put by distance
+abbrev pub near_count : ℕ → ℕ
+near_count n = n / 8
+
+-- a row for each node, with at most one entry of each hub; the rows of the highest-ranked nodes are by rising distance
+pub record AreNearRows (at : List ℕ) (rows : List (List Entry)) : Type 0 where
+  pub size : length rows ≡ length at
+  pub nearing : (v : ℕ) → 1 ≤ v → v ≤ length at → position_of at v < near_count (length at) → IsNonDecreasingBy (λ e. e.dist) (label_row rows v)
+  pub raw : (v : ℕ) → 1 ≤ v → v ≤ length at → IsRawRow (length at) (label_row rows v)
 
 -- each distance of the table is one of the row, and no greater than any that the row has at its position
 pub record HoldsLeast (table : List (Option ℕ)) (row : List Entry) : Type 0 where

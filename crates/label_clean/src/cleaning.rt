@@ -60,14 +60,14 @@ pub fn clean_in_place<R: Threads + Sync>(
     ensures { IfOk result (λ rows. (edges : List AnEdge) (c : ℕ) → HoldsBelow edges ranking.now c [] raw → IsChlBelow edges ranking.now c rows) }
 {
     let n = ranking.n();
-    let near = by_distance(rt, raw);
+    let near = by_distance(rt, ranking, raw);
     let kept = test_rows(rt, alloc, ranking, &near, cuts_for(rt, n), 0, n)?;
     Ok(by_position(rt, replaced(ranking, near, kept)))
 }
 
 /// The near rows, each replaced by what is kept of it where it loses an entry.
 fn replaced(ranking: &Ranking, near: RowList, kept: Vec<Option<Vec<Entry>>>) -> RowList
-    requires near { AreNearRows (length ranking.now) near }
+    requires near { AreNearRows ranking.now near }
     requires kept { AreKeptRows ranking.now near 0 (length ranking.now) kept.items }
     ensures size { length result ≡ length ranking.now }
     ensures rows { (v : ℕ) → 1 ≤ v → v ≤ length ranking.now → HasSurvivors ranking.now near v (label_row result v) }

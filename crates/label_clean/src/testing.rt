@@ -1,95 +1,83 @@
 //! What is kept of each row, on all cores, in pieces of about as many entries, each with one table; only a row that loses an
 //! entry is copied.
-ghost use Rattle.std.specs.Prelude.{◌+◌, ◌-◌, ◌≡◌, ◌↔◌, ℕ, ◌<◌, ◌≤◌, All, length, IsTrue, IfOk};
+ghost use Rattle.std.specs.Prelude.{◌+◌, ◌-◌, ◌≡◌, ◌↔◌, ℕ, ◌<◌, ◌≤◌, All, length, IsTrue, IfOk, OnOk};
 ghost use Rattle.walk_laws.specs.Labelling.{label_row};
 ghost use Rattle.std.specs.Thread.{IsSync};
-ghost use Rattle.label_clean.specs.Needless.{IsNeedless, IsSurvivingRow};
-ghost use Rattle.label_clean.specs.Kept.{IsKeptRow, AreKeptRows};
+ghost use Rattle.label_clean.specs.RawRows.{IsRawRow};
+ghost use Rattle.label_clean.specs.Needless.{IsNeedless};
+ghost use Rattle.label_clean.specs.Kept.{IsKept, IsKeptRow, AreKeptRows};
 ghost use Rattle.label_clean.specs.Tested.{AreNearRows, HoldsLeast};
 
 use crate::cover::is_covered;
-use crate::sorting::sorted_row;
+use crate::sorting::near_count;
 use hub_index::{RootTable, RowList};
 use rank_table::Ranking;
 use std::alloc::{AllocError, Global};
 use std::thread::{Threads, join};
 use walk_laws::Entry;
 
-/// Whether an entry of a node's row is needless, where the table has the distances of the node's row. The near rows are
-/// by rising distance.
+/// Whether an entry of a node's row is needless, where the table has the distances of the node's row.
 fn is_needless(ranking: &Ranking, near: &RowList, table: &RootTable, entry: Entry) -> bool
-    requires near { AreNearRows (length ranking.now) near.now }
+    requires near { AreNearRows ranking.now near.now }
     requires size { length table.now ≡ length ranking.now }
     requires position { entry.pos < length ranking.now }
     ensures { (v : ℕ) → HoldsLeast table.now (label_row near.now v) → IsTrue result ↔ IsNeedless ranking.now near.now v entry }
 {
     let hub = ranking.at(entry.pos);
-    is_covered(near.row(hub), table, entry.pos, entry.dist)
+    let is_near = entry.pos < near_count(ranking.n());
+    is_covered(near.row(hub), is_near, table, entry.pos, entry.dist)
 }
 
-/// Whether none of the entries, which are of a node's row, is needless, where the table has the distances of the node's row.
-fn all_stay(ranking: &Ranking, near: &RowList, table: &RootTable, row: &[Entry]) -> bool
-    requires near { AreNearRows (length ranking.now) near.now }
-    requires size { length table.now ≡ length ranking.now }
-    requires positions { All (λ e. e.pos < length ranking.now) row.now }
-    ensures { (v : ℕ) → HoldsLeast table.now (label_row near.now v) → IsTrue result → All (λ e. ¬ IsNeedless ranking.now near.now v e) row.now }
-{
-    for entry in row {
-        if is_needless(ranking, near, table, *entry) {
-            return false;
-        }
-    }
-    true
-}
-
-/// The near entries of the node `v`, a number from 1, that are not needless, by rising position, where the table has the
-/// distances of its row. The only error is that memory ran out.
-fn surviving_row(
-    alloc: Global,
+/// Puts the entries of a node's row that are not needless in `kept`, in the place of what there was, where the table has the
+/// distances of the row. It answers whether these are all of them. The only error is that memory ran out.
+fn keep(
     ranking: &Ranking,
     near: &RowList,
     table: &RootTable,
-    v: u32,
-) -> Result<Vec<Entry>, AllocError>
-    requires near { AreNearRows (length ranking.now) near.now }
+    row: &[Entry],
+    kept: &mut Vec<Entry>,
+) -> Result<bool, AllocError>
+    requires near { AreNearRows ranking.now near.now }
     requires size { length table.now ≡ length ranking.now }
-    requires node { 1 ≤ v }
-    requires node_within { v ≤ length ranking.now }
-    requires held { HoldsLeast table.now (label_row near.now v) }
-    ensures { IfOk result (λ row. IsSurvivingRow ranking.now near.now v row.items) }
+    requires row { IsRawRow (length ranking.now) row.now }
+    ensures all { IfOk result (λ all. IsTrue all → (v : ℕ) → HoldsLeast table.now (label_row near.now v) → All (λ e. ¬ IsNeedless ranking.now near.now v e) row.now) }
+    ensures kept { OnOk result ((v : ℕ) → HoldsLeast table.now (label_row near.now v) → IsKept (IsNeedless ranking.now near.now v) row.now kept.new.items) }
 {
-    let row = sorted_row(alloc, near.row(v))?;
-    let mut kept = Vec::with_capacity(alloc, row.len())?;
-    for entry in &row {
+    kept.clear();
+    let mut all = true;
+    for entry in row {
         if is_needless(ranking, near, table, *entry) {
+            all = false;
             continue;
         }
         kept.push(*entry)?;
     }
-    Ok(kept)
+    Ok(all)
 }
 
 /// The near entries of the node `v`, a number from 1, that are not needless, or None where all of them stay: a row that
-/// stays as it is costs no memory. The table may hold anything before. The only error is that memory ran out.
+/// stays as it is costs no memory. The table and the room may hold anything before. The only error is that memory ran out.
 fn kept_row(
     alloc: Global,
     ranking: &Ranking,
     near: &RowList,
     table: &mut RootTable,
+    room: &mut Vec<Entry>,
     v: u32,
 ) -> Result<Option<Vec<Entry>>, AllocError>
-    requires near { AreNearRows (length ranking.now) near.now }
+    requires near { AreNearRows ranking.now near.now }
     requires size { length table.old ≡ length ranking.now }
     requires node { 1 ≤ v }
     requires node_within { v ≤ length ranking.now }
     ensures size { length table.new ≡ length table.old }
     ensures kept { IfOk result (λ kept. IsKeptRow ranking.now near.now v kept) }
 {
-    table.load(near.row(v));
-    if all_stay(ranking, near, table, near.row(v)) {
+    let row = near.row(v);
+    table.load(row);
+    if keep(ranking, near, table, row, room)? {
         return Ok(None);
     }
-    let row = surviving_row(alloc, ranking, near, table, v)?;
+    let row = Vec::from_slice(alloc, room)?;
     Ok(Some(row))
 }
 
@@ -102,15 +90,17 @@ fn test_in_turn(
     from: u32,
     to: u32,
 ) -> Result<Vec<Option<Vec<Entry>>>, AllocError>
-    requires near { AreNearRows (length ranking.now) near.now }
+    requires near { AreNearRows ranking.now near.now }
     requires rising { from ≤ to }
     requires within { to ≤ length ranking.now }
     ensures { IfOk result (λ kept. AreKeptRows ranking.now near.now from to kept.items) }
 {
     let mut table = RootTable::new(alloc, ranking.n())?;
+    let mut room = Vec::new(alloc);
     let mut kept = Vec::with_capacity(alloc, (to - from) as usize)?;
     for place in from..to {
-        kept.push(kept_row(alloc, ranking, near, &mut table, place + 1)?)?;
+        let row = kept_row(alloc, ranking, near, &mut table, &mut room, place + 1)?;
+        kept.push(row)?;
     }
     Ok(kept)
 }
@@ -149,7 +139,7 @@ pub fn test_rows<R: Threads + Sync>(
     from: u32,
     to: u32,
 ) -> Result<Vec<Option<Vec<Entry>>>, AllocError>
-    requires near { AreNearRows (length ranking.now) near.now }
+    requires near { AreNearRows ranking.now near.now }
     requires cuts { cuts ≤ 6 }
     requires rising { from ≤ to }
     requires within { to ≤ length ranking.now }
@@ -163,11 +153,11 @@ pub fn test_rows<R: Threads + Sync>(
     let (first, second) = join(
         rt,
         || -> Result<Vec<Option<Vec<Entry>>>, AllocError>
-            requires { IsSync R.row × AreNearRows (length ranking.now) near.now × (below ≤ 6) × (from ≤ mid) × (mid ≤ length ranking.now) }
+            requires { IsSync R.row × AreNearRows ranking.now near.now × (below ≤ 6) × (from ≤ mid) × (mid ≤ length ranking.now) }
             ensures { IfOk result (λ kept. AreKeptRows ranking.entry.now near.entry.now from mid kept.items) }
         { test_rows(rt, alloc, ranking, near, below, from, mid) },
         || -> Result<Vec<Option<Vec<Entry>>>, AllocError>
-            requires { IsSync R.row × AreNearRows (length ranking.now) near.now × (below ≤ 6) × (mid ≤ to) × (to ≤ length ranking.now) }
+            requires { IsSync R.row × AreNearRows ranking.now near.now × (below ≤ 6) × (mid ≤ to) × (to ≤ length ranking.now) }
             ensures { IfOk result (λ kept. AreKeptRows ranking.entry.now near.entry.now mid to kept.items) }
         { test_rows(rt, alloc, ranking, near, below, mid, to) },
     );

@@ -147,10 +147,10 @@ module _ {F : Type 0} (fact : F → ℕ → Entry → Type 0) (about : About F) 
 
     -- the open cell is linked where the head is the expected one
     module _ (v : ℕ) (node : IsNode me.0.knows.n v) (cell next dist head : ℕ) (is : me.0.knows.filling ≡ Some (record { cell = cell; next = Some next; dist = Some dist })) (names : name_in next ≡ head % 2 ^ 32) (met : IsMet fact me.0.knows.fact v (record { pos = pos_in next; dist = dist })) where
-      abbrev Goes : Table F → ℕ → ℕ → Type 0
-      Goes s found x = (w : SeatView (View F)) × (a : Act (Unit {0})) × Valid s.homes me.1 a × IsLawful fact about (stepped s (head_at v) x id me.1 w a) × LinkedTo (step slots (head_at v) head (cell + 1) none) me found (w, carried_after me.1 a)
+      abbrev Conforms : Table F → ℕ → ℕ → Type 0
+      Conforms s found x = (w : SeatView (View F)) × (a : Act (Unit {0})) × Valid s.homes me.1 a × IsLawful fact about (stepped s (head_at v) x id me.1 w a) × LinkedTo (step slots (head_at v) head (cell + 1) none) me found (w, carried_after me.1 a)
 
-      hits : (s : Table F) → IsLawful fact about s → get_elem? s.views id ≡ some me.0 → slice_index s.words (head_at v) ≡ head → Goes s (slice_index s.words (head_at v)) (cell + 1)
+      hits : (s : Table F) → IsLawful fact about s → get_elem? s.views id ≡ some me.0 → slice_index s.words (head_at v) ≡ head → Conforms s (slice_index s.words (head_at v)) (cell + 1)
       hits s lawful at same =
           let seated = steps.seated_here fact about s id me.0 at lawful live in
           let here = node_here v node s lawful at in
@@ -177,11 +177,11 @@ module _ {F : Type 0} (fact : F → ℕ → Entry → Type 0) (about : About F) 
                 ),
           )
 
-      misses : (s : Table F) → IsLawful fact about s → get_elem? s.views id ≡ some me.0 → slice_index s.words (head_at v) ≢ head → Goes s (slice_index s.words (head_at v)) (slice_index s.words (head_at v))
+      misses : (s : Table F) → IsLawful fact about s → get_elem? s.views id ≡ some me.0 → slice_index s.words (head_at v) ≢ head → Conforms s (slice_index s.words (head_at v)) (slice_index s.words (head_at v))
       misses s lawful at other = (me.0, keeps, tt, same_lawful s (head_at v) lawful at, λ u word. ((λ same. absurd (other same)), λ _. refl))
 
       pub links_one : Allows (IsLawful fact about) slots id me (head_at v) (λ k. either (k == head) (cell + 1) k) (LinkedTo (step slots (head_at v) head (cell + 1) none) me)
-      links_one s lawful _ at _ = exchanged (slice_index s.words (head_at v)) head (cell + 1) (Goes s (slice_index s.words (head_at v))) (hits s lawful at) (misses s lawful at)
+      links_one s lawful _ at _ = exchanged (slice_index s.words (head_at v)) head (cell + 1) (Conforms s (slice_index s.words (head_at v))) (hits s lawful at) (misses s lawful at)
 
   module _ (me : SeatView (View F)) where
     pub splits_off : (give : ℕ) → give + 1 < me.seats → Splits (IsLawful fact about) id me (kept_of give me) (given_of given give me)

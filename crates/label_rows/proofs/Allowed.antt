@@ -35,7 +35,7 @@ module _ (about : About) (slots id : ℕ) where
         (me.0, keeps, tt, subst (λ (t : List ℕ × List (SeatView View)). IsLawful about (record { words = t.0; homes = s.homes; views = t.1 })) (λ k. (sym same_words k, sym same_views k)) lawful, (refl, is_one about.seats (IsSeated about) nothing s.views id me.0 lawful.seating at, tt))
 
     module _ (v : ℕ) (empty : me.0.knows.hold ≡ None) (node : IsNode (length me.0.knows.order) v) where
-      -- a turn is taken where it is free
+      -- a lock is taken where it is free
       pub takes_one : Allows (IsLawful about) slots id me v (λ _. 1) (Took (step slots v 1 0 none) me)
       takes_one s lawful _ at _ =
           let seated = seated_here about s id me.0 at lawful live in
@@ -69,7 +69,7 @@ module _ (about : About) (slots id : ℕ) where
               let same_views = set_again s.views id me.0 at in
               (me.0, keeps, tt, subst (λ (t : List ℕ × List (SeatView View)). IsLawful about (record { words = t.0; homes = s.homes; views = t.1 })) (λ k. (sym same_words k, sym same_views k)) lawful, (λ zero. absurd (omega (arith, zero, taken.word)), λ _. refl))
 
-  -- a turn is given back
+  -- a lock is given back
   pub gives_one : (view : SeatView View) (v : ℕ) (row : List Entry) → 1 ≤ view.seats → IsNode (length view.knows.order) v → MayGive view v row
       → Allows (IsLawful about) slots id (view, (v - 1, row) ∷ []) v (λ _. 0) (λ _. Gave (step slots v 0 0 none) (view, (v - 1, row) ∷ []) 0)
   gives_one view v row live node may s lawful _ at _ =

@@ -17,7 +17,7 @@ use Rattle.label_rows.specs.Visits.{left_by}
 use Rattle.label_rows.specs.Lawful.{Table, Holds, IsRowOf, IsSeated, IsLawful, first_view, first_known, nothing}
 use Rattle.table_seats.proofs.Seating as seating
 use Rattle.table_seats.proofs.EachSeat.{Each-one}
-use Rattle.label_rows.proofs.Turn.{no_turn}
+use Rattle.label_rows.proofs.Lock.{no_lock}
 
 no_entries : List Entry
 no_entries = []
@@ -40,7 +40,7 @@ module _ (about : About) (n : ℕ) (size : length about.ranking.value ≡ n) (so
     place = inl (record {
       word = word_of v within;
       at_home = home_of v from_one within;
-      by_none = Each-one (λ seat. (found : List Entry) → ¬ Holds seat v found) (first_view about) (λ found. no_turn (first_view about) v found refl);
+      by_none = Each-one (λ seat. (found : List Entry) → ¬ Holds seat v found) (first_view about) (λ found. no_lock (first_view about) v found refl);
     });
     fit = All-nil (EntryFits (Joined about.graph.value.edges) about.ranking.value v);
     visited = Each-one _ (first_view about) (All-nil (λ x. GoesOnFrom (left_by x) []));

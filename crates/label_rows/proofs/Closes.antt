@@ -21,7 +21,7 @@ use Rattle.table_seats.proofs.EachSeat.{at_or, one_of}
 use Rattle.table_seats.proofs.Seating.{others_empty}
 use Rattle.label_rows.proofs.PutRows.{puts-row, row_seen}
 use Rattle.label_rows.proofs.Steps.{places_at}
-use Rattle.label_rows.proofs.Turn.{no_turn}
+use Rattle.label_rows.proofs.Lock.{no_lock}
 
 -- what comes out where the last seat closes the rows
 pub record IsClosed (about : About) (me : SeatView View) (rows : List (List Entry)) : Type 0 where
@@ -42,8 +42,8 @@ module _ (about : About) (s : Table) (id : ℕ) (me : SeatView View) (at : get_e
       where
         by_nobody : IsTaken s v row → ⊥
         by_nobody taken = dite (ℕ_discrete taken.by id)
-            (λ mine. no_turn me v row empty (ap (λ (x : SeatView View). x.knows.hold) (some-injective me taken.holder (sym at ∙ ap (get_elem? s.views) (sym mine) ∙ taken.there)) ∙ taken.holds))
-            (λ other. no_turn taken.holder v row (ap (λ (x : View). x.hold) (others_none taken.by taken.holder other taken.there)) taken.holds)
+            (λ mine. no_lock me v row empty (ap (λ (x : SeatView View). x.knows.hold) (some-injective me taken.holder (sym at ∙ ap (get_elem? s.views) (sym mine) ∙ taken.there)) ∙ taken.holds))
+            (λ other. no_lock taken.holder v row (ap (λ (x : View). x.hold) (others_none taken.by taken.holder other taken.there)) taken.holds)
 
     -- all entries were put by visits of the last seat
     own_places : (row : List Entry) → IsRowOf about s v row → IsPermutation (places_of me.knows.visits v) (numbers 0 (length row))

@@ -1,4 +1,4 @@
--- The row of a node whose turn is free.
+-- The row of a node whose lock is free.
 use Rattle.std.proofs.Common.{◌≡◌, ⊎_elim, ℕ, List, [], ◌∷◌, ◌++◌, zero, suc, All, IsPermutation, length, refl, sym, ap, subst, ◌∙◌, arith}
 use Rattle.label_rows.specs.declared.rule.About.{About}
 use Rattle.walk_laws.specs.declared.entry.Entry.{Entry}

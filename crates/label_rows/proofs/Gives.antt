@@ -22,9 +22,9 @@ use Rattle.table_seats.specs.Seats.{knowing}
 use Rattle.table_seats.proofs.EachSeat.{Each-set, times-changed}
 use Rattle.label_rows.proofs.SeenRows.{goes_on-self, goes_on-further, visits-here, visits-else, places-here}
 use Rattle.label_rows.proofs.Steps.{StillIn, places_at, next_lawful}
-use Rattle.label_rows.proofs.Turn.{no_turn, one_turn, one_row}
+use Rattle.label_rows.proofs.Lock.{no_lock, one_lock, one_row}
 
--- the seat that gave the turn of v back, with an entry put after the row or none
+-- the seat that gave the lock of v back, with an entry put after the row or none
 abbrev pub went : SeatView View → ℕ → List Entry → Option Entry → SeatView View
 went me v found put = knowing me (record me.knows { hold = None; visits = me.knows.visits ++ record { node = v; found = found; put = put } ∷ [] })
 
@@ -62,7 +62,7 @@ module _ (about : About) (s : Table) (id : ℕ) (me : SeatView View) (at : get_e
       word = get_or-set_same s.words v 0 0 (omega (arith, lawful.words, node.up_to_n));
       at_home = set_here s.homes (v - 1) (some Grown) (omega (arith, lawful.slots, node.up_to_n, node.from_one));
       by_none = λ j seat there found has. ⊎_elim
-          (λ (t : (j ≡ id) × (went me v row put ≡ seat)). no_turn (went me v row put) v found refl (ap (λ (x : SeatView View). x.knows.hold) t.1 ∙ has))
+          (λ (t : (j ≡ id) × (went me v row put ≡ seat)). no_lock (went me v row put) v found refl (ap (λ (x : SeatView View). x.knows.hold) t.1 ∙ has))
           (λ (t : (j ≢ id) × (get_elem? s.views j ≡ some seat)). t.0 (taken.by_one j seat found t.1 has ∙ sym (taken.by_one id me row at holds)))
           (at_set s.views id j (went me v row put) seat there);
     }
@@ -86,12 +86,12 @@ module _ (about : About) (s : Table) (id : ℕ) (me : SeatView View) (at : get_e
 
     goes : IsLawful about After
     goes = next_lawful about s id me at lawful live v 0 (some Grown) (went me v row put).knows node (λ seated. record { edges = seated.edges; order = seated.order; all = seated.all }) (Grown, grown) (λ u other. record {
-      on = λ found has. absurd (other (one_turn me v u row found holds has));
-      back = λ found has. absurd (no_turn (went me v row put) u found refl has);
+      on = λ found has. absurd (other (one_lock me v u row found holds has));
+      back = λ found has. absurd (no_lock (went me v row put) u found refl has);
       visits = visits-else me.knows.visits Made u (λ is. other (sym is));
     })
 
-  -- a turn is given back, with the row that was found, or with that and one entry after it
+  -- a lock is given back, with the row that was found, or with that and one entry after it
   pub gives : (found : List Entry) (put : Option Entry) → Holds me v found → All (EntryFits (Joined about.graph.value.edges) about.ranking.value v) (put_list put)
       → IsLawful about (record { words = set s.words v 0; homes = set s.homes (v - 1) (some (found ++ put_list put)); views = set s.views id (gave me (found ++ put_list put)) })
   gives found put holds fits =

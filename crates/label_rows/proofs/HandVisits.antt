@@ -23,7 +23,7 @@ use Rattle.label_rows.proofs.SeenRows.{seen-here, goes_on-further}
 abbrev pub seated : TableId → ℕ → SeatView View → Seated
 seated id left view = record { rows = rows_id id view.knows; left = left; visits = view.knows.visits }
 
--- the seat that has a turn gives it back
+-- the seat that has a lock gives it back
 pub one_visit : (id id' : TableId) (left : ℕ) (taken given : SeatView View) (v : ℕ) (found row : List Entry) (put : Option Entry) (before : Seated)
     → seated id left taken ≡ before → Holds taken v found → id' ≡ id → given ≡ gave taken row → row ≡ found ++ put_list put → seated id' left given ≡ with_visit before (visit_of v found put)
 one_visit id id' left taken given v found row put before is holds same after grown =

@@ -19,7 +19,7 @@ use Rattle.table_seats.specs.Seats.{Each, joined, spent}
 use Rattle.table_seats.proofs.Seating as seating
 use Rattle.table_seats.proofs.EachSeat.{Each-set, times-changed}
 use Rattle.label_rows.proofs.Steps.{StillIn, places_at, seated_here}
-use Rattle.label_rows.proofs.Turn.{no_turn}
+use Rattle.label_rows.proofs.Lock.{no_lock}
 
 visits-joined : (xs ys : List Visit) (v : ℕ) → visits_of (xs ++ ys) v ≡ visits_of xs v ++ visits_of ys v
 visits-joined xs ys v = filter-append (λ x. nat_eq x.node v) xs ys
@@ -49,11 +49,11 @@ module _ (about : About) (s : Table) (id : ℕ) (me : SeatView View) (at : get_e
         (λ (free : IsFree s v row). inl (record {
           word = free.word;
           at_home = free.at_home;
-          by_none = each_after (λ x. (found : List Entry) → ¬ Holds x v found) free.by_none (λ found. no_turn (joined both me u) v found empty) (λ found. no_turn (spent nothing) v found refl);
+          by_none = each_after (λ x. (found : List Entry) → ¬ Holds x v found) free.by_none (λ found. no_lock (joined both me u) v found empty) (λ found. no_lock (spent nothing) v found refl);
         }))
         (λ (taken : IsTaken s v row).
-        let not_me : taken.by ≢ id = λ is. no_turn me v row empty (ap (λ (x : SeatView View). x.knows.hold) (some-injective me taken.holder (sym at ∙ ap (get_elem? s.views) (sym is) ∙ taken.there)) ∙ taken.holds) in
-        let not_other : taken.by ≢ other = λ is. no_turn u v row empty_too (ap (λ (x : SeatView View). x.knows.hold) (some-injective u taken.holder (sym there ∙ ap (get_elem? s.views) (sym is) ∙ taken.there)) ∙ taken.holds) in
+        let not_me : taken.by ≢ id = λ is. no_lock me v row empty (ap (λ (x : SeatView View). x.knows.hold) (some-injective me taken.holder (sym at ∙ ap (get_elem? s.views) (sym is) ∙ taken.there)) ∙ taken.holds) in
+        let not_other : taken.by ≢ other = λ is. no_lock u v row empty_too (ap (λ (x : SeatView View). x.knows.hold) (some-injective u taken.holder (sym there ∙ ap (get_elem? s.views) (sym is) ∙ taken.there)) ∙ taken.holds) in
         inr (record {
           word = taken.word;
           by = taken.by;
@@ -61,9 +61,9 @@ module _ (about : About) (s : Table) (id : ℕ) (me : SeatView View) (at : get_e
           there = set_else First other taken.by (spent nothing) not_other ∙ set_else s.views id taken.by (joined both me u) not_me ∙ taken.there;
           holds = taken.holds;
           by_one = λ j x found here has. ⊎_elim
-              (λ (t : (j ≡ other) × (spent nothing ≡ x)). absurd (no_turn (spent nothing) v found refl (ap (λ (y : SeatView View). y.knows.hold) t.1 ∙ has)))
+              (λ (t : (j ≡ other) × (spent nothing ≡ x)). absurd (no_lock (spent nothing) v found refl (ap (λ (y : SeatView View). y.knows.hold) t.1 ∙ has)))
               (λ (t : (j ≢ other) × (get_elem? First j ≡ some x)). ⊎_elim
-              (λ (b : (j ≡ id) × (joined both me u ≡ x)). absurd (no_turn (joined both me u) v found empty (ap (λ (y : SeatView View). y.knows.hold) b.1 ∙ has)))
+              (λ (b : (j ≡ id) × (joined both me u ≡ x)). absurd (no_lock (joined both me u) v found empty (ap (λ (y : SeatView View). y.knows.hold) b.1 ∙ has)))
               (λ (b : (j ≢ id) × (get_elem? s.views j ≡ some x)). taken.by_one j x found b.1 has)
               (at_set s.views id j (joined both me u) x t.1))
               (at_set First other j (spent nothing) x here);

@@ -10,4 +10,4 @@ mod SeenRows
 mod Splits
 mod Steps
 mod Takes
-mod Turn
+mod Lock

@@ -19,16 +19,16 @@ use Rattle.table_seats.specs.Seats.{kept_of, given_of}
 use Rattle.table_seats.proofs.Seating as seating
 use Rattle.table_seats.proofs.EachSeat.{Each-push}
 use Rattle.label_rows.proofs.Steps.{StillIn, places_at, row_still, seated_here}
-use Rattle.label_rows.proofs.Turn.{no_turn}
+use Rattle.label_rows.proofs.Lock.{no_lock}
 
--- a seat that has no turn and no visit comes to the table
+-- a seat that has no lock and no visit comes to the table
 row_with : (about : About) (s : Table) (seat : SeatView View) (v : ℕ) (row : List Entry) → seat.knows.hold ≡ None → seat.knows.visits ≡ [] → IsRowOf about s v row → IsRowOf about (record { words = s.words; homes = s.homes; views = s.views ++ seat ∷ [] }) v row
 row_with about s seat v row empty new old = record {
   place = ⊎_elim
       (λ (free : IsFree s v row). inl (record {
         word = free.word;
         at_home = free.at_home;
-        by_none = Each-push (λ x. (found : List Entry) → ¬ Holds x v found) s.views seat free.by_none (λ found. no_turn seat v found empty);
+        by_none = Each-push (λ x. (found : List Entry) → ¬ Holds x v found) s.views seat free.by_none (λ found. no_lock seat v found empty);
       }))
       (λ (taken : IsTaken s v row). inr (record {
         word = taken.word;
@@ -38,7 +38,7 @@ row_with about s seat v row empty new old = record {
         holds = taken.holds;
         by_one = λ j x found there has. ⊎_elim
             (λ before. taken.by_one j x found before has)
-            (λ last. absurd (no_turn seat v found empty (ap (λ (y : SeatView View). y.knows.hold) last ∙ has)))
+            (λ last. absurd (no_lock seat v found empty (ap (λ (y : SeatView View). y.knows.hold) last ∙ has)))
             (at_snoc s.views seat x j there);
       }))
       old.place;

@@ -39,7 +39,7 @@ module _ (about : About) (s : Table) (id : ℕ) (me : SeatView View) (at : get_e
   here_within : id < length s.views
   here_within = within s.views id me at
 
-  -- the seat that has the turn of v, where nothing that concerns v changes
+  -- the seat that has the lock of v, where nothing that concerns v changes
   taken_still : (words : List ℕ) (homes : List (Option (List Entry))) (w : SeatView View) (v : ℕ) (row : List Entry) → slice_index words v ≡ slice_index s.words v → IsSameAt v me w → IsTaken s v row → IsTaken (Next words homes w) v row
   taken_still words homes w v row word same taken =
       dite (ℕ_discrete taken.by id)

@@ -17,7 +17,7 @@ use Rattle.label_rows.specs.Lawful.{Table, IsFree, IsRowOf, IsLawful, took}
 use Rattle.table_seats.proofs.EachSeat.{within, Each-set, times-changed}
 use Rattle.label_rows.proofs.SeenRows.{longest-still}
 use Rattle.label_rows.proofs.Steps.{StillIn, places_at, next_lawful}
-use Rattle.label_rows.proofs.Turn.{no_turn, one_turn}
+use Rattle.label_rows.proofs.Lock.{no_lock, one_lock}
 
 module _ (about : About) (s : Table) (id : ℕ) (me : SeatView View) (at : get_elem? s.views id ≡ some me) where
   -- what was seen of a row still stands in it
@@ -50,11 +50,11 @@ module _ (about : About) (s : Table) (id : ℕ) (me : SeatView View) (at : get_e
           omega arith);
     }
 
-    -- a free turn is taken
+    -- a free lock is taken
     pub takes : IsLawful about (record { words = set s.words v 1; homes = set s.homes (v - 1) none; views = set s.views id (took me v row) })
     unfolding after
     takes = next_lawful about s id me at lawful live v 1 none (took me v row).knows node (λ seated. record { edges = seated.edges; order = seated.order; all = seated.all }) (row, taken) (λ u other. record {
-      on = λ found holds. absurd (no_turn me u found empty holds);
-      back = λ found holds. absurd (other (one_turn (took me v row) v u row found refl holds));
+      on = λ found holds. absurd (no_lock me u found empty holds);
+      back = λ found holds. absurd (other (one_lock (took me v row) v u row found refl holds));
       visits = refl;
     })

@@ -1,4 +1,4 @@
--- The rule of the rows, which holds between any two steps, and what each step changes. Word 0 is of no node; the node v has its turn word at v, and its row in the slot v - 1.
+-- The rule of the rows, which holds between any two steps, and what each step changes. Word 0 is of no node; the node v has its lock word at v, and its row in the slot v - 1.
 use Rattle.std.specs.Prelude.{◌≡◌, ◌⊎◌, ℕ, ◌+◌, ◌-◌, Option, Some, None, List, [], ◌∷◌, ◌++◌, All, IsPermutation, flat_map, length, slice_get, slice_index}
 use mathlib.Core.Option.{some}
 use lib.ListN.{get_elem?}
@@ -23,17 +23,17 @@ Table = State (List Entry) (SeatView View)
 abbrev pub Sitter : Type 0
 Sitter = Me (List Entry) (SeatView View)
 
--- the seat has the turn of the node v, and found this row
+-- the seat has the lock of the node v, and found this row
 abbrev pub Holds : SeatView View → ℕ → List Entry → Type 0
 Holds seat v row = seat.knows.hold ≡ Some (record { node = v; row = row })
 
--- the node v is free: its turn word is 0, its row is at home, and no seat has the turn
+-- the node v is free: its lock word is 0, its row is at home, and no seat has the lock
 pub record IsFree (s : Table) (v : ℕ) (row : List Entry) : Type 0 where
   pub word : slice_index s.words v ≡ 0
   pub at_home : get_elem? s.homes (v - 1) ≡ some (some row)
   pub by_none : Each (λ seat. (found : List Entry) → ¬ Holds seat v found) s.views
 
--- the node v is taken: its turn word is 1, and exactly one seat has the turn, with the row
+-- the node v is taken: its lock word is 1, and exactly one seat has the lock, with the row
 pub record IsTaken (s : Table) (v : ℕ) (row : List Entry) : Type 0 where
   pub word : slice_index s.words v ≡ 1
   pub by : ℕ
@@ -42,7 +42,7 @@ pub record IsTaken (s : Table) (v : ℕ) (row : List Entry) : Type 0 where
   pub holds : Holds holder v row
   pub by_one : (id : ℕ) (seat : SeatView View) (found : List Entry) → get_elem? s.views id ≡ some seat → Holds seat v found → id ≡ by
 
--- The row of the node v: at home where v is free, and else the row that was found by the seat which has the turn. Its entries may stand there, what each visit left still stands in it, and at each of its places exactly one visit, of all seats, put an entry
+-- The row of the node v: at home where v is free, and else the row that was found by the seat which has the lock. Its entries may stand there, what each visit left still stands in it, and at each of its places exactly one visit, of all seats, put an entry
 pub record IsRowOf (about : About) (s : Table) (v : ℕ) (row : List Entry) : Type 0 where
   pub place : IsFree s v row ⊎ IsTaken s v row
   pub fit : All (EntryFits (Joined about.graph.value.edges) about.ranking.value v) row
@@ -55,7 +55,7 @@ pub record IsSeated (about : About) (seat : View) : Type 0 where
   pub order : seat.order ≡ about.ranking.value
   pub all : seat.all ≡ about.seats
 
--- what a seat knows that has no turn and made no visit
+-- what a seat knows that has no lock and made no visit
 abbrev pub fresh : View → View
 fresh seat = record { edges = seat.edges; order = seat.order; all = seat.all; hold = None; visits = [] }
 
@@ -86,11 +86,11 @@ first_known about = record { edges = about.graph.value.edges; order = about.rank
 abbrev pub first_view : About → SeatView View
 first_view about = first_of about.seats (first_known about)
 
--- the seat that took the turn of the node v and found the row
+-- the seat that took the lock of the node v and found the row
 abbrev pub took : SeatView View → ℕ → List Entry → SeatView View
 took seat v row = knowing seat (record seat.knows { hold = Some (record { node = v; row = row }) })
 
--- What a take tells. Where the turn was free, the seat has it, with the node's row, which goes on from what the seat saw of it. Else nothing has changed
+-- What a take tells. Where the lock was free, the seat has it, with the node's row, which goes on from what the seat saw of it. Else nothing has changed
 pub record IsTake (me : Sitter) (v : ℕ) (after : Sitter) : Type 0 where
   pub row : List Entry
   pub view : after.0 ≡ took me.0 v row
@@ -101,12 +101,12 @@ pub record IsTake (me : Sitter) (v : ℕ) (after : Sitter) : Type 0 where
 abbrev pub Took : Step (List Entry) → Sitter → ℕ → Sitter → Type 0
 Took step me found after = (found ≡ 0 → IsTake me step.word after) × (¬ (found ≡ 0) → after ≡ me)
 
--- the visit of a seat which has a turn, and gives it back with the row as it is then
+-- the visit of a seat which has a lock, and gives it back with the row as it is then
 abbrev pub visits_by : Option Held → List Entry → List Visit
 visits_by None row = []
 visits_by (Some held) row = record { node = held.node; found = held.row; put = slice_get row (length held.row) } ∷ []
 
--- the seat that gave its turn back
+-- the seat that gave its lock back
 abbrev pub gave : SeatView View → List Entry → SeatView View
 gave seat row = knowing seat (record seat.knows { hold = None; visits = seat.knows.visits ++ visits_by seat.knows.hold row })
 
@@ -119,7 +119,7 @@ slot_row (slot ∷ others) = slot.1
 abbrev pub Gave : Step (List Entry) → Sitter → ℕ → Sitter → Type 0
 Gave step me found after = (after.0 ≡ gave me.0 (slot_row me.1)) × (after.1 ≡ rest me.1)
 
--- a seat which has the turn of v may give back the row that it found, or that with one entry after it which may stand there
+-- a seat which has the lock of v may give back the row that it found, or that with one entry after it which may stand there
 pub record MayGive (seat : SeatView View) (v : ℕ) (row : List Entry) : Type 0 where
   pub found : List Entry
   pub put : Option Entry

@@ -19,30 +19,30 @@ use Rattle.label_rows.specs.Lawful.{Table, Holds, IsLawful, first_view, took, ga
 abbrev pub IsSeat : Table → ℕ → SeatView View → Type 0
 IsSeat s id me = seats.IsSeat s.views id me
 
--- the table where the turn word and the slot of v, and the view of one seat, are these
-abbrev pub with_turn : Table → ℕ → ℕ → Home (List Entry) → ℕ → SeatView View → Table
-with_turn s v word home id w = record { words = slice_set s.words v word; homes = slice_set s.homes (v - 1) home; views = slice_set s.views id w }
+-- the table where the lock word and the slot of v, and the view of one seat, are these
+abbrev pub with_lock : Table → ℕ → ℕ → Home (List Entry) → ℕ → SeatView View → Table
+with_lock s v word home id w = record { words = slice_set s.words v word; homes = slice_set s.homes (v - 1) home; views = slice_set s.views id w }
 
--- as many empty rows as nodes, all turns free, and one seat
+-- as many empty rows as nodes, all locks free, and one seat
 abbrev pub HoldsAtFirst : Type 0
 HoldsAtFirst = (about : About) → 1 ≤ about.seats → about.seats ≤ 64 → IsLawful about (opening (replicate (length about.ranking.value + 1) 0) (replicate (length about.ranking.value) []) (first_view about))
 
--- a seat that has no turn takes one that is free, and the row is out of its slot
+-- a seat that has no lock takes one that is free, and the row is out of its slot
 abbrev pub TakesKeep : Type 0
 TakesKeep = (about : About) (s : Table) (id : ℕ) (me : SeatView View) (v : ℕ) → IsLawful about s → IsSeat s id me → me.knows.hold ≡ None → IsNode (length about.ranking.value) v → slice_index s.words v ≡ 0
-    → (row : List Entry) × (get_elem? s.homes (v - 1) ≡ some (some row)) × IsLawful about (with_turn s v 1 none id (took me v row))
+    → (row : List Entry) × (get_elem? s.homes (v - 1) ≡ some (some row)) × IsLawful about (with_lock s v 1 none id (took me v row))
 
--- a seat gives a turn back with the row that it found, or with that and one entry after it which may stand there
+-- a seat gives a lock back with the row that it found, or with that and one entry after it which may stand there
 abbrev pub GivesKeep : Type 0
 GivesKeep = (about : About) (s : Table) (id : ℕ) (me : SeatView View) (v : ℕ) (found : List Entry) (put : Option Entry) → IsLawful about s → IsSeat s id me → IsNode (length about.ranking.value) v → Holds me v found
-    → All (EntryFits (Joined about.graph.value.edges) about.ranking.value v) (put_list put) → IsLawful about (with_turn s v 0 (some (found ++ put_list put)) id (gave me (found ++ put_list put)))
+    → All (EntryFits (Joined about.graph.value.edges) about.ranking.value v) (put_list put) → IsLawful about (with_lock s v 0 (some (found ++ put_list put)) id (gave me (found ++ put_list put)))
 
 -- a new seat is split from a seat that has as many
 abbrev pub SplitsKeep : Type 0
 SplitsKeep = (about : About) (s : Table) (id : ℕ) (me : SeatView View) (give : ℕ) → IsLawful about s → IsSeat s id me → give + 1 < me.seats
     → IsLawful about (record { words = s.words; homes = s.homes; views = slice_set s.views id (kept_of give me) ++ given_of fresh give me ∷ [] })
 
--- a seat is joined into another, where neither has a turn
+-- a seat is joined into another, where neither has a lock
 abbrev pub JoinsKeep : Type 0
 JoinsKeep = (about : About) (s : Table) (id other : ℕ) (me them : SeatView View) → IsLawful about s → IsSeat s id me → IsSeat s other them → other ≢ id → me.knows.hold ≡ None → them.knows.hold ≡ None
     → IsLawful about (record { words = s.words; homes = s.homes; views = slice_set (slice_set s.views id (joined both me them)) other (spent nothing) })

@@ -7,9 +7,9 @@ ghost use Rattle.hub_index.specs.Views.{IsNode, IsFoundOnward, IsAnswerOf, with_
 ghost use Rattle.label_rows.specs.Seats.{IsSeatOf, with_visit};
 ghost use Rattle.label_rows.specs.Visits.{seen_of, puts_of, put_by, visit_of};
 
+use crate::locks::{give, take};
 use crate::rows::Rows;
 use crate::seat::RowSeat;
-use crate::turns::{give, take};
 use hub_index::{Offer, RootTable, RowView};
 use std::marker::Model;
 use std::sync::Wait;
@@ -34,7 +34,7 @@ impl<'a, R: Wait> Model for RowHand<'a, R> {
 }
 
 impl<'a, R: Wait> RowHand<'a, R> {
-    /// A hand of the seat. By `rt` it waits for turns.
+    /// A hand of the seat. By `rt` it waits for locks.
     pub fn new(rt: &'a R, rows: &'a Rows, seat: RowSeat) -> RowHand<'a, R>
         requires seat { IsSeatOf rows.now seat }
         ensures { result ≡ seat }
@@ -55,7 +55,7 @@ impl<'a, R: Wait> RowHand<'a, R> {
     }
 }
 
-/// The list seen of a node's row is the longest that a visit left. Each call takes the turn of its node once, waits while
+/// The list seen of a node's row is the longest that a visit left. Each call takes the lock of its node once, waits while
 /// another seat has it, and is one visit of the seat: the row that it found, and the entry that it put, or none. What was
 /// seen before is the prefix of that row, and after a put the list seen is the row with the entry after it.
 impl<'a, R: Wait> RowView for RowHand<'a, R> {
@@ -87,10 +87,10 @@ impl<'a, R: Wait> RowView for RowHand<'a, R> {
         ensures size { length table.new ≡ length table.old }
     {
         let rows = self.rows;
-        let turns = &rows.table.shared;
-        let row = take(self.rt, rows.alloc, turns, &mut self.seat.seat, h);
-        table.load(row.entries.as_slice());
-        give(turns, &mut self.seat.seat, h, row);
+        let locks = &rows.table.shared;
+        let row = take(self.rt, rows.alloc, locks, &mut self.seat.seat, h);
+        row.load(table);
+        give(locks, &mut self.seat.seat, h, row);
     }
 
     fn offer(&mut self, v: u32, entry: Entry, table: &RootTable) -> Offer
@@ -101,10 +101,10 @@ impl<'a, R: Wait> RowView for RowHand<'a, R> {
             × IsAnswerOf table.now row entry result × (self.new ≡ with_visit self.old (visit_of v row (put_by entry result))) × (seen_of self.new.visits v ≡ with_put row entry result) }
     {
         let rows = self.rows;
-        let turns = &rows.table.shared;
-        let mut row = take(self.rt, rows.alloc, turns, &mut self.seat.seat, v);
+        let locks = &rows.table.shared;
+        let mut row = take(self.rt, rows.alloc, locks, &mut self.seat.seat, v);
         let answer = row.offer(entry, table);
-        give(turns, &mut self.seat.seat, v, row);
+        give(locks, &mut self.seat.seat, v, row);
         answer
     }
 }

@@ -1,4 +1,4 @@
-ghost use Rattle.std.specs.Prelude.{◌≡◌, ◌+◌, ◌<◌, ◌≤◌, ◌++◌, ◌^◌, [], All, IsPermutation, IfOk, length, replicate, ℕ};
+ghost use Rattle.std.specs.Prelude.{◌≡◌, ◌+◌, ◌<◌, ◌≤◌, ◌++◌, ◌^◌, [], All, IsPermutation, IfOk, length, replicate, vec_len, ℕ};
 ghost use Rattle.std.specs.Slots.{IsFull, slots_items, slots_len};
 ghost use Rattle.walk_laws.specs.Joined.{Joined};
 ghost use Rattle.walk_laws.specs.Labelling.{EntryFits, label_row};
@@ -17,7 +17,7 @@ use std::snapshot::Snapshot;
 use table_seats::{SeatView, join_in, split_off};
 use walk_laws::{Entry, Graph};
 
-/// A row of entries for each node of a graph under a ranking, which many workers write. Each row has a turn: a seat that
+/// A row of entries for each node of a graph under a ranking, which many workers write. Each row has a lock: a seat that
 /// has it reads the row and puts an entry after it, and no other seat does anything to the row. Contracts see which table
 /// it is, the edges, the order of the nodes and how many seats there are.
 ///
@@ -71,7 +71,7 @@ impl Rows {
     {
         let n = ranking.n();
         let words = vec![in alloc; 0u64; n as usize + 1]?;
-        let slots = empty_rows(alloc, n)?;
+        let slots = roomy_rows(alloc, n)?;
         let about = About {
             graph: Snapshot::of(graph),
             ranking: Snapshot::of(ranking),
@@ -133,28 +133,51 @@ impl Rows {
     {
         let Rows { table, alloc, n } = self;
         let RowSeat { seat, left: _ } = seat;
-        let rows = RowList::new(alloc, n)?;
+        let rows = empty_rows(alloc, n)?;
         let closed = table.close_with(seat);
-        Ok(taken_out(closed, rows))
+        let list = entries_of(alloc, taken_out(closed, rows))?;
+        Ok(list)
     }
 }
 
 // The rows out of their slots, in the place of as many others. It takes no memory.
-fn taken_out(mut closed: Closed<Row, Global>, rows: RowList) -> RowList
+fn taken_out(mut closed: Closed<Row, Global>, rows: Vec<Row>) -> Vec<Row>
     requires full { IsFull closed.slots }
-    requires size { length rows ≡ slots_len closed.slots }
-    requires few { slots_len closed.slots < 2 ^ 32 }
-    ensures { result ≡ slots_items closed.slots }
+    requires size { vec_len rows ≡ slots_len closed.slots }
+    ensures { result.items ≡ slots_items closed.slots }
 {
-    let mut rows = rows.into_rows();
+    let mut rows = rows;
     for place in 0..rows.len() {
-        rows[place] = closed.take(place).entries;
+        rows[place] = closed.take(place);
     }
     closed.free();
-    RowList::from_rows(rows)
+    rows
 }
 
-// `n` rows without entries.
+// The entries of the rows, in just the room that they take. The only error is that memory ran out.
+fn entries_of(alloc: Global, rows: Vec<Row>) -> Result<RowList, AllocError>
+    requires { vec_len rows < 2 ^ 32 }
+    ensures { IfOk result (λ list. list ≡ rows.items) }
+{
+    let mut list = Vec::with_capacity(alloc, rows.len())?;
+    for row in rows {
+        list.push(row.into_entries(alloc)?)?;
+    }
+    Ok(RowList::from_rows(list))
+}
+
+// `n` rows without entries, with room for some. The only error is that memory ran out.
+fn roomy_rows(alloc: Global, n: u32) -> Result<Vec<Row>, AllocError>
+    ensures { IfOk result (λ rows. rows.items ≡ replicate n []) }
+{
+    let mut rows = Vec::with_capacity(alloc, n as usize)?;
+    for _ in 0..n {
+        rows.push(Row::with_room(alloc)?)?;
+    }
+    Ok(rows)
+}
+
+// `n` rows without entries, which take no memory. The only error is that memory for their list ran out.
 fn empty_rows(alloc: Global, n: u32) -> Result<Vec<Row>, AllocError>
     ensures { IfOk result (λ rows. rows.items ≡ replicate n []) }
 {

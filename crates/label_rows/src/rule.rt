@@ -15,7 +15,7 @@ pub struct About {
     pub seats: u32,
 }
 
-/// A node, a number from 1, whose turn a seat has, and the row that it found. No value of it is made.
+/// A node, a number from 1, whose lock a seat has, and the row that it found. No value of it is made.
 pub struct Held {
     pub node: u32,
     pub row: LinkedList<Entry>,
@@ -50,7 +50,7 @@ impl TableRule<Row, SeatView<View>, About> for Law {
     ghost first = { first_view };
 }
 
-/// The turn of a node is taken, where it was free.
+/// The lock of a node is taken, where it was free.
 pub struct Takes;
 
 impl Play<Row, SeatView<View>> for Takes {
@@ -59,7 +59,7 @@ impl Play<Row, SeatView<View>> for Takes {
     ghost then = { Took };
 }
 
-/// The turn of a node is given back, and its row is at home again.
+/// The lock of a node is given back, and its row is at home again.
 pub struct Gives;
 
 impl Play<Row, SeatView<View>> for Gives {
@@ -68,7 +68,7 @@ impl Play<Row, SeatView<View>> for Gives {
     ghost then = { Gave };
 }
 
-/// A split seat has no turn and made no visit; a join puts the visits of both seats together.
+/// A split seat has no lock and made no visit; a join puts the visits of both seats together.
 pub struct Handing;
 
 impl Shares<View> for Handing {

@@ -6,7 +6,7 @@ use hub_index::Row;
 use std::marker::Model;
 use table_seats::SeatView;
 
-/// The right of one worker to take turns at rows, and to split seats off. It goes from thread to thread and is never
+/// The right of one worker to take locks at rows, and to split seats off. It goes from thread to thread and is never
 /// copied. Contracts see whose it is, how many seats may still be split from it, and its visits: at which node it found
 /// which row and put which entry, with the visits of the seats that were joined into it.
 #[derive(Drop)]

@@ -18,7 +18,7 @@ use Rattle.frontier.specs.declared.reach.Reach.TheVariants.{Unreached, Queued, S
 use Rattle.plant_tree.proofs.TreeEnds.{tree_is_exact}
 use Rattle.plant_tree.proofs.TreeFacts.{IsTree, reach_of}
 use Rattle.plant_tree.proofs.TreeRounds.{round_tree}
-use Rattle.plant_tree.proofs.TreeSize.{arcs_of_row}
+use Rattle.walk_laws.proofs.JoinedEdges.{arcs_of_row}
 
 -- a round over the arcs of a graph
 pub round_of_tree : (n : ℕ) (edges : List Edge) (at : List ℕ) (h v : ℕ) (f : Found) (row : List Arc) (nodes : List Reach) → IsGraph n edges → length nodes ≡ n + 1 → IsTree (Joined edges) (Joined edges) at h nodes → get_or nodes v Unreached ≡ Queued f → ((x : ℕ) (g : Found) → get_or nodes x Unreached ≡ Queued g → f.dist ≤ g.dist) → ((t w : ℕ) → Contains row (record { to = t; w = w }) ↔ Joined edges v t w) → IsTree (Joined edges) (Joined edges) at h (relaxed_all at f row (set nodes v (Settled f)))

@@ -11,7 +11,7 @@ use Rattle.walk_laws.specs.declared.graph.Arc.{Arc}
 use Rattle.walk_laws.specs.declared.graph.Edge.{Edge}
 use Rattle.walk_laws.specs.Graph.{IsGraph, greatest_weight}
 use Rattle.walk_laws.specs.Joined.{Joined}
-use Rattle.walk_laws.proofs.JoinedEdges.{IsEdge-joined, Joined-weight}
+use Rattle.walk_laws.proofs.JoinedEdges.{IsArc, arcs_of_row}
 use Rattle.plant_tree.specs.Relaxed.{offer_of, relaxed, relaxed_all}
 use Rattle.plant_tree.proofs.TreeSteps.{better, offered}
 use Rattle.plant_tree.proofs.TreeTypes.{Found, Reach}
@@ -134,12 +134,6 @@ IsBounded-relaxed heaviest total at f a nodes inside room bounded x g is =
           omega (arith, bounded x g (rw now at is))
     ]
 
--- the arcs of a row lead to nodes, and are no heavier than the heaviest edge
-pub record IsArc (n heaviest : ℕ) (a : Arc) : Type 0 where
-  pub from_one : 1 ≤ a.to
-  pub up_to_n : a.to ≤ n
-  pub light : a.w ≤ heaviest
-
 -- what the tree knows of the nodes 1..n: place 0 stands for no node
 pub record IsSized (n heaviest total : ℕ) (nodes : List Reach) : Type 0 where
   pub size : length nodes ≡ n + 1
@@ -231,20 +225,6 @@ node_of_queued n heaviest total nodes v f sized queued =
           absurd cc
     ] in
     (not_zero, omega (arith, sized.size))
-
--- no walk of the tree and an edge after it is as long as 2 ^ 64
-pub fits_64 : (n : ℕ) (edges : List Edge) (dist more : ℕ) → IsGraph n edges → 1 ≤ n → dist + greatest_weight edges + more ≤ (n + 1) * greatest_weight edges → dist + greatest_weight edges < 2 ^ 64
-fits_64 n edges dist more graph some room =
-    let one : 1 * greatest_weight edges ≤ n * greatest_weight edges = mul-le-mul_right (greatest_weight edges) some in
-    omega (arith, graph.fits)
-
--- the arcs of a node of a graph
-pub arcs_of_row : (n : ℕ) (edges : List Edge) (v : ℕ) (row : List Arc) → IsGraph n edges → ((t w : ℕ) → Contains row (record { to = t; w = w }) ↔ Joined edges v t w) → All (IsArc n (greatest_weight edges)) row
-arcs_of_row n edges v row graph joined k d h =
-    let a = get_or row k d in
-    let join : Joined edges v a.to a.w = (joined a.to a.w).0 (Contains-get_or row k d h) in
-    let edge = IsEdge-joined n edges v a.to a.w graph.edge join in
-    record { from_one = edge.to_one; up_to_n = edge.to_n; light = Joined-weight edges v a.to a.w join }
 
 -- a round: the next node is settled, and the arcs of its row are gone along
 pub IsSized-round : (n : ℕ) (edges : List Edge) (at : List ℕ) (nodes : List Reach) (v : ℕ) (f : Found) (row : List Arc) → IsGraph n edges → IsSized n (greatest_weight edges) ((n + 1) * greatest_weight edges) nodes → get_or nodes v Unreached ≡ Queued f → ((t w : ℕ) → Contains row (record { to = t; w = w }) ↔ Joined edges v t w) → IsSized n (greatest_weight edges) ((n + 1) * greatest_weight edges) (relaxed_all at f row (set nodes v (Settled f))) × (unsettled (relaxed_all at f row (set nodes v (Settled f))) + 1 ≡ unsettled nodes)

@@ -61,15 +61,15 @@ offered_longer q o more = elim (better_cases q o) [
   | longer _ is ↦ ap Queued is
 ]
 
--- an offer that isn't heeded changes nothing
-pub offered_unheeded : (r : Reach) (o : Found) → frontier.heeds r o.dist ≡ false → offered r o ≡ r
-offered_unheeded Unreached o unheeded = absurd cc
-offered_unheeded (Queued q) o unheeded = offered_longer q o (leb-false o.dist q.dist unheeded)
-offered_unheeded (Settled s) o unheeded = refl
+-- an offer that isn't improved changes nothing
+pub offered_unimproved : (r : Reach) (o : Found) → frontier.improves r o.dist ≡ false → offered r o ≡ r
+offered_unimproved Unreached o unimproved = absurd cc
+offered_unimproved (Queued q) o unimproved = offered_longer q o (leb-false o.dist q.dist unimproved)
+offered_unimproved (Settled s) o unimproved = refl
 
-pub relaxed_unheeded : (at : List ℕ) (found : Found) (a : Arc) (nodes : List Reach) → frontier.heeds (get_or nodes a.to Unreached) (found.dist + a.w) ≡ false → relaxed at found a nodes ≡ nodes
-relaxed_unheeded at found a nodes unheeded =
-    ap (set nodes a.to) (offered_unheeded (get_or nodes a.to Unreached) (offer_of at found a) unheeded) ∙ set-get_or nodes a.to Unreached
+pub relaxed_unimproved : (at : List ℕ) (found : Found) (a : Arc) (nodes : List Reach) → frontier.improves (get_or nodes a.to Unreached) (found.dist + a.w) ≡ false → relaxed at found a nodes ≡ nodes
+relaxed_unimproved at found a nodes unimproved =
+    ap (set nodes a.to) (offered_unimproved (get_or nodes a.to Unreached) (offer_of at found a) unimproved) ∙ set-get_or nodes a.to Unreached
 
 -- the next arc of a row
 pub relaxed_all-next : (at : List ℕ) (found : Found) (row : List Arc) (i : ℕ) (d : Arc) (nodes : List Reach) → i < length row → relaxed_all at found (drop i row) nodes ≡ relaxed_all at found (drop (i + 1) row) (relaxed at found (get_or row i d) nodes)

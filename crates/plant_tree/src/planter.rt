@@ -156,7 +156,7 @@ fn relax<A: AnyArc>(
         let arc = arc.widened();
         let dist = found.dist + arc.w;
         let before = frontier.reach(arc.to);
-        if !before.heeds(dist) {
+        if !before.improves(dist) {
             continue;
         }
         let carried = Highest {

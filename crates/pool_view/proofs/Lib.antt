@@ -8,3 +8,5 @@ pub mod PutViews
 pub mod SeenChains
 pub mod Walks
 pub mod WholeRows
+pub mod Chained
+pub mod Linked

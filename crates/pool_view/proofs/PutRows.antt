@@ -14,9 +14,9 @@ use Rattle.hub_index.specs.NodeEntries.{entries_of_node, entry_if, entry_of}
 use Rattle.hub_index.specs.Views.{IsNode}
 use Rattle.hub_index.proofs.GatheredRows.{entries_of_node-append, entries_of_node-one, entry_if-same, entry_if-other}
 use Rattle.hub_index.proofs.RowsGathered.{row_gains, row_stays}
-use Rattle.entry_chains.specs.declared.chains.Chains.{Chains}
-use Rattle.entry_chains.specs.Chains.{AreChained, head_of}
-use Rattle.entry_chains.specs.Links.{IsChain}
+use Rattle.pool_view.specs.declared.chains.Chains.{Chains}
+use Rattle.pool_view.specs.Chains.{AreChained, head_of}
+use Rattle.pool_view.specs.Links.{IsChain}
 use Rattle.pool_view.specs.Putting.{AreKept, Putting, listed, own_rows, rows_with}
 
 pub length-rows_with : (rows : List (List Entry)) (es : List NodeEntry) → length (rows_with rows es) ≡ length rows

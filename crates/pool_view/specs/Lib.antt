@@ -2,3 +2,5 @@ pub mod Fitting
 pub mod Putting
 pub mod Seen
 pub mod Viewing
+pub mod Chains
+pub mod Links

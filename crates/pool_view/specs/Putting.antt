@@ -5,8 +5,8 @@ use Rattle.hub_index.specs.declared.node_entry.NodeEntry.{NodeEntry}
 use Rattle.hub_index.specs.HubIndex.{with_entry}
 use Rattle.hub_index.specs.NodeEntries.{entry_of}
 use Rattle.hub_index.specs.Views.{IsNode}
-use Rattle.entry_chains.specs.declared.chains.Chains.{Chains}
-use Rattle.entry_chains.specs.Chains.{AreChained}
+use Rattle.pool_view.specs.declared.chains.Chains.{Chains}
+use Rattle.pool_view.specs.Chains.{AreChained}
 use Rattle.label_pool.specs.declared.rule.Put.{Put}
 use Rattle.label_pool.specs.Seats.{Seated}
 use Rattle.pool_view.specs.Fitting.{Fitting}

@@ -3,13 +3,15 @@
 //!
 //! A [`PoolView`] is a `hub_index::RowView`, so pruned trees grow over it as they do over plain rows. It is made of a pool
 //! whose entries may stand in the rows of a graph's nodes ([`Fits`]), of a seat at it, of the global table, of [`OwnRows`],
-//! which a worker keeps from one superstep to the next, and of a list, which gets all that the worker puts. It stands on
-//! label_pool (the pool and its seats), entry_chains (the own rows) and hub_index (rows, tables, what a view promises). Its
-//! callers' clauses use `specs/Fitting` (`Fitting`, `IsFittingPool`), `specs/Viewing` (`Viewing`, `whole_row`, `seen_row`, `puts_row`).
+//! which a worker keeps from one superstep to the next, chains through the end of a list, which gets all that the worker puts. It
+//! stands on label_pool (the pool and its seats) and hub_index (rows, tables, what a view promises). Its callers' clauses use
+//! `specs/Fitting` (`Fitting`, `IsFittingPool`) and `specs/Viewing` (`Viewing`, `whole_row`, `seen_row`, `puts_row`).
 #![tactic(auto)]
 
 mod chain;
+mod chains;
 mod fits;
+mod node_chain;
 mod puts;
 mod view;
 

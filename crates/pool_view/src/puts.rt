@@ -6,7 +6,7 @@ ghost use Rattle.hub_index.specs.NodeEntries.{entries_of_node};
 ghost use Rattle.hub_index.specs.Views.{IsNode};
 ghost use Rattle.pool_view.specs.Putting.{listed};
 
-use entry_chains::Chains;
+use crate::chains::Chains;
 use hub_index::{NodeEntry, RootTable};
 use std::alloc::{AllocError, Global};
 use std::marker::Model;
@@ -21,7 +21,7 @@ pub struct OwnRows {
 
 impl Model for OwnRows {
     ghost use Rattle.std.specs.Prelude.{ℕ, length};
-    ghost use Rattle.entry_chains.specs.Chains.{AreEmpty};
+    ghost use Rattle.pool_view.specs.Chains.{AreEmpty};
 
     ghost Value = { ℕ };
 

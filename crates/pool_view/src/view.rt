@@ -12,7 +12,7 @@ ghost use Rattle.pool_view.specs.Viewing.{HasGained, HasVisited, IsPast, IsOffer
 use crate::chain::{covered_in_chain, note_chain};
 use crate::fits::Fits;
 use crate::puts::{OwnRows, Puts};
-use hub_index::{NodeEntry, Offer, RootTable, RowView, StripedRows};
+use hub_index::{NodeEntry, Offer, RootTable, RowView, ShardedRows};
 use label_pool::{Pool, PoolPut, PoolSeat};
 use std::alloc::AllocError;
 use std::marker::Model;
@@ -28,7 +28,7 @@ use walk_laws::Entry;
 pub struct PoolView<'a, R: Wait> {
     rt: &'a R,
     pool: &'a Pool<Fits>,
-    global: StripedRows<'a>,
+    global: ShardedRows<'a>,
     seat: PoolSeat<Fits>,
     puts: Puts,
     /// Whether the seat drew past the last cell. Until then its own rows are empty.
@@ -54,7 +54,7 @@ impl<'a, R: Wait> PoolView<'a, R> {
     pub fn new(
         rt: &'a R,
         pool: &'a Pool<Fits>,
-        global: StripedRows<'a>,
+        global: ShardedRows<'a>,
         seat: PoolSeat<Fits>,
         own: OwnRows,
         list: Vec<NodeEntry>,

@@ -8,7 +8,7 @@ use Rattle.walk_laws.specs.Ranking.{position_of}
 use Rattle.frontier.specs.declared.reach.Found.{Found}
 use Rattle.frontier.specs.declared.reach.Reach.{Reach}
 use Rattle.frontier.specs.declared.reach.Reach.TheVariants.{Unreached, Queued, Settled}
-use Rattle.frontier.specs.Reaches.{reach_at, heeds, with_offer}
+use Rattle.frontier.specs.Reaches.{reach_at, improves, with_offer}
 use Rattle.pruned_tree.specs.Relaxed.{HasDistance, IsSettledAt, IsRelaxed}
 use Rattle.pruned_tree.proofs.OfferedNodes.{has_distance, offer_settled, offer_came, offer_kept, offer_lowered, offer_size}
 
@@ -18,10 +18,10 @@ at_here row i d within k a same there =
     cc
 
 -- where no offer at the distance d changes anything, the node is settled or as near
-unheeded : {C : Type 0} (r : Reach C) (d : ℕ) → heeds r d ≡ false → (e : ℕ) × HasDistance r e × ((e ≤ d) ⊎ IsSettledAt r e)
-unheeded Unreached d unchanged = absurd cc
-unheeded (Queued found) d unchanged = (found.dist, refl, inl (omega (arith, leb-false d found.dist unchanged)))
-unheeded (Settled found) d unchanged = (found.dist, refl, inr refl)
+unimproved : {C : Type 0} (r : Reach C) (d : ℕ) → improves r d ≡ false → (e : ℕ) × HasDistance r e × ((e ≤ d) ⊎ IsSettledAt r e)
+unimproved Unreached d unchanged = absurd cc
+unimproved (Queued found) d unchanged = (found.dist, refl, inl (omega (arith, leb-false d found.dist unchanged)))
+unimproved (Settled found) d unchanged = (found.dist, refl, inr refl)
 
 module _ {C : Type 0} (at : List ℕ) (p dist : ℕ) (row : List Arc) where
   pub IsRelaxed-none : (nodes : List (Reach C)) → IsRelaxed at p dist 0 row nodes nodes
@@ -48,8 +48,8 @@ module _ {C : Type 0} (at : List ℕ) (p dist : ℕ) (row : List Arc) where
     }
 
     -- and so is one along which an offer would change nothing
-    pub IsRelaxed-unheeded : (before now : List (Reach C)) → heeds (reach_at now (get_or row i d).to) (dist + (get_or row i d).w) ≡ false → IsRelaxed at p dist i row before now → IsRelaxed at p dist (i + 1) row before now
-    IsRelaxed-unheeded before now unchanged so_far = record {
+    pub IsRelaxed-unimproved : (before now : List (Reach C)) → improves (reach_at now (get_or row i d).to) (dist + (get_or row i d).w) ≡ false → IsRelaxed at p dist i row before now → IsRelaxed at p dist (i + 1) row before now
+    IsRelaxed-unimproved before now unchanged so_far = record {
       size = so_far.size;
       settled = so_far.settled;
       came = so_far.came;
@@ -57,7 +57,7 @@ module _ {C : Type 0} (at : List ℕ) (p dist : ℕ) (row : List Arc) where
       lowered = λ k a lt there low. elim (cases_eq k i) [
         | inl same ↦
             let P : Arc → Type 0 = λ b. (e : ℕ) × HasDistance (reach_at now b.to) e × ((e ≤ dist + b.w) ⊎ IsSettledAt (reach_at now b.to) e) in
-            subst P (sym (at_here row i d within k a same there)) (unheeded (reach_at now (get_or row i d).to) (dist + (get_or row i d).w) unchanged)
+            subst P (sym (at_here row i d within k a same there)) (unimproved (reach_at now (get_or row i d).to) (dist + (get_or row i d).w) unchanged)
         | inr other ↦ so_far.lowered k a (omega (arith, lt, other)) there low
       ];
     }

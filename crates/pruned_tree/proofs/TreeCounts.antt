@@ -17,7 +17,7 @@ use Rattle.walk_laws.specs.declared.entry.Entry.{Entry}
 use Rattle.walk_laws.specs.Graph.{IsGraph, greatest_weight}
 use Rattle.walk_laws.specs.Joined.{Joined}
 use Rattle.walk_laws.specs.Ranking.{IsRanking, position_of}
-use Rattle.walk_laws.proofs.JoinedEdges.{IsEdge-joined, Joined-weight}
+use Rattle.walk_laws.proofs.JoinedEdges.{IsArc}
 use Rattle.walk_laws.proofs.Members.{Contains-first, Contains-next, Contains-cons_cases, Contains-empty}
 use Rattle.walk_laws.proofs.Positions.{position-lt, get_or-position}
 use Rattle.frontier.specs.declared.reach.Found.{Found}
@@ -114,25 +114,6 @@ module _ {C : Type 0} where
   IsBounded-start heaviest n nodes size start x d there =
       let few : unsettled nodes * heaviest ≤ (n + 1) * heaviest = mul-le-mul_right heaviest (omega (arith, unsettled-le nodes, size)) in
       omega (arith, few, start x d there)
-
--- no walk of the tree and an edge after it is as long as 2 ^ 64
-pub fits_64 : (n : ℕ) (edges : List Edge) (dist more : ℕ) → IsGraph n edges → 1 ≤ n → dist + greatest_weight edges + more ≤ (n + 1) * greatest_weight edges → dist + greatest_weight edges < 2 ^ 64
-fits_64 n edges dist more graph some room =
-    let one : 1 * greatest_weight edges ≤ n * greatest_weight edges = mul-le-mul_right (greatest_weight edges) some in
-    omega (arith, graph.fits)
-
--- the arcs of a row lead to nodes, and are no heavier than the heaviest edge
-pub record IsArc (n heaviest : ℕ) (a : Arc) : Type 0 where
-  pub from_one : 1 ≤ a.to
-  pub up_to_n : a.to ≤ n
-  pub light : a.w ≤ heaviest
-
-pub arcs_of_row : (n : ℕ) (edges : List Edge) (v : ℕ) (row : List Arc) → IsGraph n edges → ((t w : ℕ) → Contains row (record { to = t; w = w }) ↔ Joined edges v t w) → All (IsArc n (greatest_weight edges)) row
-arcs_of_row n edges v row graph joined k d h =
-    let a = get_or row k d in
-    let join : Joined edges v a.to a.w = (joined a.to a.w).0 (Contains-get_or row k d h) in
-    let edge = IsEdge-joined n edges v a.to a.w graph.edge join in
-    record { from_one = edge.to_one; up_to_n = edge.to_n; light = Joined-weight edges v a.to a.w join }
 
 -- nodes whose entries stay
 entries-same : (nodes : List ℕ) (rows others : ℕ → List Entry) → ((x : ℕ) → Contains nodes x → others x ≡ rows x) → entries_of nodes others ≡ entries_of nodes rows

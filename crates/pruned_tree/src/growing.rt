@@ -133,7 +133,7 @@ fn relax<A: AnyArc>(
         let arc = arc.widened();
         let reached = dist + arc.w;
         let before = frontier.reach(arc.to);
-        if !before.heeds(reached) {
+        if !before.improves(reached) {
             continue;
         }
         if ranking.pos(arc.to) >= p {

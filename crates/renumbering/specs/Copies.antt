@@ -11,7 +11,7 @@ pub record IsCopyOf (graph : WeightedGraph) (at : List ℕ) (copy : WorkingCopy)
   pub kept : List Edge
   pub lightest : AreLightest graph.edges kept
   pub known : IsGraph graph.n kept
-  pub size : length copy.tour ≡ graph.n
+  pub size : length copy.bfs_order ≡ graph.n
   pub nodes : copy.graph.n ≡ graph.n
-  pub edges : copy.graph.edges ≡ renumbered_edges copy.tour kept
-  pub ranking : copy.ranking ≡ renumbered copy.tour at
+  pub edges : copy.graph.edges ≡ renumbered_edges copy.bfs_order kept
+  pub ranking : copy.ranking ≡ renumbered copy.bfs_order at

@@ -10,8 +10,8 @@ use Rattle.renumbering.specs.Renumbered.{number_in, renumbered, renumbered_edges
 
 -- where rows are the labelling of a graph by the new numbers, each node's row is that which stands under its new number
 abbrev pub LabellingsComeBack : Type 0
-LabellingsComeBack = (n : ℕ) (edges : List Edge) (tour at : List ℕ) (rows back : List (List Entry)) → IsGraph n edges
-    → IsRanking tour → length tour ≡ n → IsRanking at → length at ≡ n
-    → IsChl (Joined (renumbered_edges tour edges)) (renumbered tour at) rows
-    → length back ≡ n → ((v : ℕ) → 1 ≤ v → v ≤ n → label_row back v ≡ label_row rows (number_in tour v))
+LabellingsComeBack = (n : ℕ) (edges : List Edge) (bfs_order at : List ℕ) (rows back : List (List Entry)) → IsGraph n edges
+    → IsRanking bfs_order → length bfs_order ≡ n → IsRanking at → length at ≡ n
+    → IsChl (Joined (renumbered_edges bfs_order edges)) (renumbered bfs_order at) rows
+    → length back ≡ n → ((v : ℕ) → 1 ≤ v → v ≤ n → label_row back v ≡ label_row rows (number_in bfs_order v))
     → IsChl (Joined edges) at back

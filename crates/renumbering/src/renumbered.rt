@@ -6,30 +6,34 @@ use rank_table::Ranking;
 use std::alloc::{AllocError, Global};
 use walk_laws::{Edge, Graph};
 
-/// The graph by the new numbers of its nodes, which are their places in the tour. The only error is that memory ran out.
-pub fn renumbered_graph(alloc: Global, graph: &Graph, tour: &Ranking) -> Result<Graph, AllocError>
-    requires { length tour.now ≡ graph.now.n }
+/// The graph by the new numbers of its nodes, which are their places in the breadth-first order. The only error is that memory ran out.
+pub fn renumbered_graph(
+    alloc: Global,
+    graph: &Graph,
+    bfs_order: &Ranking,
+) -> Result<Graph, AllocError>
+    requires { length bfs_order.now ≡ graph.now.n }
     ensures n { IfOk result (λ g. g.n ≡ graph.now.n) }
-    ensures edges { IfOk result (λ g. g.edges ≡ renumbered_edges tour.now graph.now.edges) }
+    ensures edges { IfOk result (λ g. g.edges ≡ renumbered_edges bfs_order.now graph.now.edges) }
 {
     let n = graph.n();
-    let places = tour.n();
+    let places = bfs_order.n();
     prove!(n == places);
-    let edges = edges_of(alloc, graph, tour)?;
+    let edges = edges_of(alloc, graph, bfs_order)?;
     Graph::new(alloc, n, edges)?.with_narrow_arcs(alloc)
 }
 
 /// The edges between the new numbers. The only error is that memory ran out.
-fn edges_of(alloc: Global, graph: &Graph, tour: &Ranking) -> Result<Vec<Edge>, AllocError>
-    requires { length tour.now ≡ graph.now.n }
-    ensures { IfOk result (λ edges. edges.items ≡ renumbered_edges tour.now graph.now.edges) }
+fn edges_of(alloc: Global, graph: &Graph, bfs_order: &Ranking) -> Result<Vec<Edge>, AllocError>
+    requires { length bfs_order.now ≡ graph.now.n }
+    ensures { IfOk result (λ edges. edges.items ≡ renumbered_edges bfs_order.now graph.now.edges) }
 {
     let old = graph.edges();
     let mut edges = Vec::with_capacity(alloc, old.len())?;
     for e in old {
         edges.push(Edge {
-            u: tour.pos(e.u) + 1,
-            v: tour.pos(e.v) + 1,
+            u: bfs_order.pos(e.u) + 1,
+            v: bfs_order.pos(e.v) + 1,
             w: e.w,
         })?;
     }
@@ -41,27 +45,27 @@ fn edges_of(alloc: Global, graph: &Graph, tour: &Ranking) -> Result<Vec<Edge>, A
 pub fn renumbered_ranking(
     alloc: Global,
     ranking: &Ranking,
-    tour: &Ranking,
+    bfs_order: &Ranking,
 ) -> Result<Ranking, AllocError>
-    requires { length tour.now ≡ length ranking.now }
-    ensures { IfOk result (λ r. r ≡ renumbered_nodes tour.now ranking.now) }
+    requires { length bfs_order.now ≡ length ranking.now }
+    ensures { IfOk result (λ r. r ≡ renumbered_nodes bfs_order.now ranking.now) }
 {
-    let nodes = nodes_of(alloc, ranking, tour)?;
+    let nodes = nodes_of(alloc, ranking, bfs_order)?;
     Ranking::new(alloc, nodes)
 }
 
 /// The new numbers of the nodes, highest rank first. The only error is that memory ran out.
-fn nodes_of(alloc: Global, ranking: &Ranking, tour: &Ranking) -> Result<Vec<u32>, AllocError>
-    requires { length tour.now ≡ length ranking.now }
-    ensures nodes { IfOk result (λ nodes. nodes.items ≡ renumbered_nodes tour.now ranking.now) }
+fn nodes_of(alloc: Global, ranking: &Ranking, bfs_order: &Ranking) -> Result<Vec<u32>, AllocError>
+    requires { length bfs_order.now ≡ length ranking.now }
+    ensures nodes { IfOk result (λ nodes. nodes.items ≡ renumbered_nodes bfs_order.now ranking.now) }
     ensures ranking { IfOk result (λ nodes. IsRanking nodes.items) }
 {
     let n = ranking.n();
-    let places = tour.n();
+    let places = bfs_order.n();
     prove!(n == places);
     let mut nodes = Vec::with_capacity(alloc, n as usize)?;
     for p in 0..n {
-        nodes.push(tour.pos(ranking.at(p)) + 1)?;
+        nodes.push(bfs_order.pos(ranking.at(p)) + 1)?;
     }
     Ok(nodes)
 }

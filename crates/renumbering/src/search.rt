@@ -11,8 +11,8 @@ const UNSEEN: u32 = u32::MAX;
 /// An order of the nodes of a graph in which neighbours stand near one another: by breadth-first search from node 1, and from
 /// the least node that was not seen where a search ends. Whatever the order is, the labelling comes back. It takes
 /// O(n log n + m) for n nodes and m edges; the only error is that memory ran out.
-pub fn tour(alloc: Global, graph: &Graph) -> Result<Ranking, AllocError>
-    ensures { IfOk result (λ tour. length tour ≡ graph.now.n) }
+pub fn bfs_order(alloc: Global, graph: &Graph) -> Result<Ranking, AllocError>
+    ensures { IfOk result (λ bfs_order. length bfs_order ≡ graph.now.n) }
 {
     let seen = search(alloc, graph)?;
     let nodes = nodes_by(alloc, graph.n(), &seen)?;

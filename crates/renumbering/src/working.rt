@@ -5,7 +5,7 @@ ghost use Rattle.renumbering.specs.Copies.{IsCopyOf};
 
 use crate::renumbered::{renumbered_graph, renumbered_ranking};
 use crate::rows::{rows_back, split_rows_back};
-use crate::search::tour;
+use crate::search::bfs_order;
 use hub_index::{Index, RowList, SplitIndex, SplitRows};
 use rank_table::Ranking;
 use std::alloc::{AllocError, Global};
@@ -20,7 +20,7 @@ pub struct WorkingCopy {
     /// The ranking by the new numbers.
     pub ranking: Ranking,
     /// The nodes by their old numbers, in the order of the new ones.
-    pub tour: Ranking,
+    pub bfs_order: Ranking,
 }
 
 impl WorkingCopy {
@@ -35,13 +35,13 @@ impl WorkingCopy {
         let n = lightest.n();
         let ranked = ranking.n();
         prove!(n == ranked);
-        let tour = tour(alloc, &lightest)?;
-        let graph = renumbered_graph(alloc, &lightest, &tour)?;
-        let ranking = renumbered_ranking(alloc, ranking, &tour)?;
+        let bfs_order = bfs_order(alloc, &lightest)?;
+        let graph = renumbered_graph(alloc, &lightest, &bfs_order)?;
+        let ranking = renumbered_ranking(alloc, ranking, &bfs_order)?;
         Ok(WorkingCopy {
             graph,
             ranking,
-            tour,
+            bfs_order,
         })
     }
 
@@ -62,10 +62,10 @@ impl WorkingCopy {
     {
         let n = graph.n();
         let ranked = ranking.n();
-        let toured = self.tour.n();
-        prove!(n == ranked && n == toured);
+        let bfs_ordered = self.bfs_order.n();
+        prove!(n == ranked && n == bfs_ordered);
         let order = ranking.copy(alloc)?;
-        let back = rows_back(alloc, &self.tour, rows)?;
+        let back = rows_back(alloc, &self.bfs_order, rows)?;
         Ok(Index::new(order, back))
     }
 
@@ -85,9 +85,9 @@ impl WorkingCopy {
     {
         let n = graph.n();
         let ranked = ranking.n();
-        let toured = self.tour.n();
-        prove!(n == ranked && n == toured);
-        let back = split_rows_back(alloc, &self.tour, rows)?;
+        let bfs_ordered = self.bfs_order.n();
+        prove!(n == ranked && n == bfs_ordered);
+        let back = split_rows_back(alloc, &self.bfs_order, rows)?;
         Ok(SplitIndex::new(ranking.copy(alloc)?, back))
     }
 }

@@ -14,15 +14,15 @@ use Rattle.root_claims.specs.Lawful.{Table, Sitter, IsLawful, Holds, drew, Drew,
 use Rattle.root_claims.proofs.Steps.{fixed_here, counter_fits, is_one, got_once, draws, draws_once, splits, joins, last_got, over_here}
 
 -- the word becomes f of what it was
-abbrev Goes : Bounds → Table → ℕ → Sitter → (ℕ → ℕ) → (ℕ → Sitter → Type 0) → List ℕ → Type 0
-Goes about s id me f tells words = (w : SeatView View) × (a : Act (Unit {0})) × Valid s.homes me.1 a
+abbrev Conforms : Bounds → Table → ℕ → Sitter → (ℕ → ℕ) → (ℕ → Sitter → Type 0) → List ℕ → Type 0
+Conforms about s id me f tells words = (w : SeatView View) × (a : Act (Unit {0})) × Valid s.homes me.1 a
     × ((counter : ℕ) × (slice_set words 0 (f (slice_index words 0)) ≡ counter ∷ []) × IsLawful about counter (set s.views id w))
     × tells (slice_index words 0) (w, carried_after me.1 a)
 
 module _ (about : Bounds) (slots id : ℕ) (me : Sitter) where
   module _ (live : 1 ≤ me.0.seats) where
     draw_goes : (s : Table) (counter : ℕ) → me.0.knows.over ≡ false → IsLawful about counter s.views → get_elem? s.views id ≡ some me.0
-        → Goes about s id me (λ n. (n + 1) % 2 ^ 64) (Drew (step slots 0 1 0 none) me) (counter ∷ [])
+        → Conforms about s id me (λ n. (n + 1) % 2 ^ 64) (Drew (step slots 0 1 0 none) me) (counter ∷ [])
     draw_goes s counter on law at =
         let first : me.0.knows.of.first ≡ about.first = ap (λ (b : Bounds). b.first) (fixed_here about counter s.views id me.0 law at live) in
         let fits : counter + 1 < 2 ^ 64 = counter_fits about counter s.views id me.0 law at in
@@ -31,10 +31,10 @@ module _ (about : Bounds) (slots id : ℕ) (me : Sitter) where
         (drew me.0 counter, keeps, tt, (counter + 1, ap (λ k. k ∷ []) next, draws about counter s.views id me.0 law at live on), (refl, refl, omega (arith, first, begun), draws_once about counter s.views id me.0 law at live on))
 
     pub draws_one : me.0.knows.over ≡ false → Allows (Holds about) slots id me 0 (λ n. (n + 1) % 2 ^ 64) (Drew (step slots 0 1 0 none) me)
-    draws_one on s h _ at _ = subst (Goes about s id me (λ n. (n + 1) % 2 ^ 64) (Drew (step slots 0 1 0 none) me)) (sym h.1) (draw_goes s h.0 on h.2 at)
+    draws_one on s h _ at _ = subst (Conforms about s id me (λ n. (n + 1) % 2 ^ 64) (Drew (step slots 0 1 0 none) me)) (sym h.1) (draw_goes s h.0 on h.2 at)
 
   pub looks : Allows (Holds about) slots id me 0 (λ n. n) (looked GotOnce (step slots 0 0 0 none) me)
-  looks s h _ at _ = subst (Goes about s id me (λ n. n) (looked GotOnce (step slots 0 0 0 none) me)) (sym h.1)
+  looks s h _ at _ = subst (Conforms about s id me (λ n. n) (looked GotOnce (step slots 0 0 0 none) me)) (sym h.1)
       (me.0, keeps, tt, (h.0, refl, subst (IsLawful about h.0) (sym (set_again s.views id me.0 at)) h.2), (refl, is_one about h.0 s.views id me.0 h.2 at, got_once about h.0 s.views id me.0 h.2 at))
 
 module _ (about : Bounds) (id : ℕ) (v : SeatView View) where

@@ -1,10 +1,11 @@
 -- What a join tells of its nodes and its weight.
-use Rattle.std.specs.Prelude.{ℕ, ◌<◌, ◌≤◌, ◌↔◌, List, [], ◌∷◌, All, Contains, length}
+use Rattle.std.specs.Prelude.{ℕ, ◌+◌, ◌*◌, ◌^◌, ◌<◌, ◌≤◌, ◌↔◌, List, [], ◌∷◌, All, Contains, length}
 use Rattle.std.proofs.Common.{inl, inr, arith, ap, get_or, zero, suc}
 use Rattle.std.proofs.lemmas.List.Elements.{All-contains, All-weaker, Contains-get_or}
 use Rattle.walk_laws.specs.declared.graph.Edge.{Edge}
 use Rattle.walk_laws.specs.declared.graph.Arc.{Arc}
-use Rattle.walk_laws.specs.Graph.{IsEdge, greatest_weight}
+use Rattle.std.proofs.Math.Nat.{mul-le-mul_right}
+use Rattle.walk_laws.specs.Graph.{IsEdge, IsGraph, greatest_weight}
 use Rattle.walk_laws.specs.Joined.{Joined}
 
 pub Joined-sym : (edges : List Edge) (x y w : ℕ) → Joined edges x y w → Joined edges y x w
@@ -54,3 +55,23 @@ Joined-positive edges all x y w h =
 -- edges between nodes weigh at least 1
 pub weights_of_edges : (n : ℕ) (edges : List Edge) → All (IsEdge n) edges → All (λ e. 1 ≤ e.w) edges
 weights_of_edges n edges all = All-weaker (IsEdge n) (λ e. 1 ≤ e.w) (λ e h. h.weight) edges all
+
+-- the arcs of a row lead to nodes, and are no heavier than the heaviest edge
+pub record IsArc (n heaviest : ℕ) (a : Arc) : Type 0 where
+  pub from_one : 1 ≤ a.to
+  pub up_to_n : a.to ≤ n
+  pub light : a.w ≤ heaviest
+
+-- the arcs of a node of a graph
+pub arcs_of_row : (n : ℕ) (edges : List Edge) (v : ℕ) (row : List Arc) → IsGraph n edges → ((t w : ℕ) → Contains row (record { to = t; w = w }) ↔ Joined edges v t w) → All (IsArc n (greatest_weight edges)) row
+arcs_of_row n edges v row graph joined k d h =
+    let a = get_or row k d in
+    let join : Joined edges v a.to a.w = (joined a.to a.w).0 (Contains-get_or row k d h) in
+    let edge = IsEdge-joined n edges v a.to a.w graph.edge join in
+    record { from_one = edge.to_one; up_to_n = edge.to_n; light = Joined-weight edges v a.to a.w join }
+
+-- no walk of a tree and an edge after it is as long as 2 ^ 64
+pub fits_64 : (n : ℕ) (edges : List Edge) (dist more : ℕ) → IsGraph n edges → 1 ≤ n → dist + greatest_weight edges + more ≤ (n + 1) * greatest_weight edges → dist + greatest_weight edges < 2 ^ 64
+fits_64 n edges dist more graph some room =
+    let one : 1 * greatest_weight edges ≤ n * greatest_weight edges = mul-le-mul_right (greatest_weight edges) some in
+    omega (arith, graph.fits)

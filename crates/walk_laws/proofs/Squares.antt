@@ -51,10 +51,10 @@ above_1 at x above = omega arith
 at_position : (at : List ℕ) (x p : ℕ) → p < length at → position_of at x ≡ p → get_or at p 0 ≡ x
 at_position at x p within is = ap (λ q. get_or at q 0) (sym is) ∙ get_or-position at x 0 (omega arith)
 
-above_2 : (x : ℕ) → RanksAbove first_four x 2 → 1 ≡ x
+pub above_2 : (x : ℕ) → RanksAbove first_four x 2 → 1 ≡ x
 above_2 x above = at_position first_four x 0 (omega arith) (omega arith)
 
-above_3 : (x : ℕ) → RanksAbove first_four x 3 → (1 ≡ x) ⊎ (2 ≡ x)
+pub above_3 : (x : ℕ) → RanksAbove first_four x 3 → (1 ≡ x) ⊎ (2 ≡ x)
 above_3 x above =
     elim (cases_lt 0 (position_of first_four x)) [
       | inl second ↦ inr (at_position first_four x 1 (omega arith) (omega arith))

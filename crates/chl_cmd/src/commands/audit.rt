@@ -1,11 +1,12 @@
 ghost use Rattle.std.specs.Prelude.{◌≡◌, ◌⊎◌, length, Err};
 ghost use Rattle.index_audit.specs.declared.answer.Audit.{Audit as AnyAudit};
 ghost use Rattle.index_audit.specs.Audited.{IsAuditOf};
-ghost use Rattle.chl_inputs.specs.Stages.{Goes};
+ghost use Rattle.chl_inputs.specs.Stages.{Conforms};
 ghost use Rattle.chl_inputs.specs.declared.stop.Stop.TheVariants.{NoMemory};
 ghost use Rattle.chl_cmd.specs.Commands.{audit_stage, audit_text};
 
 use chl_inputs::{Stop, read_graph, read_index, read_order};
+use chl_words::Name;
 use desk_io::Desk;
 use hub_index::Index;
 use index_audit::{Audit, audit};
@@ -18,16 +19,16 @@ use walk_laws::Graph;
 /// first thing that is wrong with it.
 pub fn audit_output<D: Desk>(
     alloc: Global,
-    graph: &str,
-    order: &str,
-    index: &str,
+    graph: &Name,
+    order: &Name,
+    index: &Name,
     desk: &mut D,
 ) -> Result<Pieces, Stop>
-    ensures { Goes D.Desk (audit_stage graph.now order.now index.now) result desk.old desk.new }
+    ensures { Conforms D.Desk (audit_stage graph.now order.now index.now) result desk.old desk.new }
 {
-    let graph = read_graph(alloc, graph, desk)?;
-    let ranking = read_order(alloc, order, graph.n(), desk)?;
-    let index = read_index(alloc, index, desk)?;
+    let graph = read_graph(alloc, graph.text(), desk)?;
+    let ranking = read_order(alloc, order.text(), graph.n(), desk)?;
+    let index = read_index(alloc, index.text(), desk)?;
     told(alloc, &graph, &ranking, &index)
 }
 

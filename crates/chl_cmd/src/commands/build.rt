@@ -3,14 +3,13 @@ ghost use Rattle.index_file.specs.Layout.{index_bytes};
 ghost use Rattle.walk_laws.specs.declared.entry.Entry.{Entry as AnyEntry};
 ghost use Rattle.walk_laws.specs.Joined.{Joined};
 ghost use Rattle.walk_laws.specs.Labelling.{IsChl};
-ghost use Rattle.chl_inputs.specs.Stages.{Goes};
+ghost use Rattle.chl_inputs.specs.Stages.{Conforms};
 ghost use Rattle.chl_cmd.specs.Commands.{build_stage};
 ghost use Rattle.chl_words.specs.Asking.{AreWithinLimits};
 
-use crate::construction::Construction;
 use crate::labelling::labelling;
 use chl_inputs::{Stop, read_graph, read_order};
-use chl_words::By;
+use chl_words::{By, Construction, Name};
 use desk_io::{Desk, Gate};
 use gll_build::build_gll_split;
 use index_file::{Pieces, encode_by};
@@ -24,17 +23,17 @@ use walk_laws::Graph;
 pub fn build_output<R: Threads + Wait + Sync, D: Desk, G: Gate + Sync>(
     rt: &R,
     alloc: Global,
-    graph: &str,
-    order: &str,
+    graph: &Name,
+    order: &Name,
     construction: Construction,
     desk: &mut D,
     gate: &G,
 ) -> Result<Pieces, Stop>
     requires { AreWithinLimits construction.workers construction.cut }
-    ensures { Goes D.Desk (build_stage graph.now order.now) result desk.old desk.new }
+    ensures { Conforms D.Desk (build_stage graph.now order.now) result desk.old desk.new }
 {
-    let graph = read_graph(alloc, graph, desk)?;
-    let ranking = read_order(alloc, order, graph.n(), desk)?;
+    let graph = read_graph(alloc, graph.text(), desk)?;
+    let ranking = read_order(alloc, order.text(), graph.n(), desk)?;
     let bytes = file_bytes(rt, alloc, &graph, &ranking, construction, gate)?;
     Ok(bytes)
 }

@@ -7,10 +7,9 @@ ghost use Rattle.walk_laws.specs.Labelling.{IsChl};
 ghost use Rattle.chl_cmd.specs.Commands.{IsGridText};
 ghost use Rattle.chl_words.specs.Asking.{IsGridWithinLimits, most_workers};
 
-use crate::construction::Construction;
 use crate::labelling::labelling;
 use chl_lines::{GridReport, grid_lines};
-use chl_words::By;
+use chl_words::{By, Construction, Grid};
 use desk_io::Gate;
 use grid_work::{Totals, grid_graph, totals_of};
 use rank_table::{Ranking, by_degree};
@@ -28,14 +27,17 @@ const GRID_CUT: u32 = 1024;
 pub fn grid_text<R: Threads + Wait + Sync, G: Gate + Sync>(
     rt: &R,
     alloc: Global,
-    side: u32,
-    seed: u32,
-    workers: u32,
+    grid: Grid,
     gate: &G,
 ) -> Result<Vec<u8>, AllocError>
-    requires { IsGridWithinLimits side seed workers }
-    ensures { IfOk result (λ text. IsGridText side seed text.items) }
+    requires { IsGridWithinLimits grid.side grid.seed grid.workers }
+    ensures { IfOk result (λ text. IsGridText grid.side grid.seed text.items) }
 {
+    let Grid {
+        side,
+        seed,
+        workers,
+    } = grid;
     let graph = grid_graph(alloc, side, seed)?;
     let ranking = by_degree(alloc, &graph)?;
     let plant = totals_by(rt, alloc, &graph, &ranking, By::Plant, workers, gate)?;

@@ -2,16 +2,15 @@ ghost use Rattle.std.specs.Prelude.{◌≡◌, length, List, IfOk};
 ghost use Rattle.walk_laws.specs.declared.entry.Entry.{Entry as AnyEntry};
 ghost use Rattle.walk_laws.specs.Joined.{Joined};
 ghost use Rattle.walk_laws.specs.Labelling.{IsChl};
-ghost use Rattle.chl_inputs.specs.Stages.{Goes};
+ghost use Rattle.chl_inputs.specs.Stages.{Conforms};
 ghost use Rattle.chl_lines.specs.PrintedRows.{lines_from};
 ghost use Rattle.chl_cmd.specs.Commands.{list_stage};
 
 use super::text::text_output;
-use crate::construction::Construction;
 use crate::labelling::labelling;
 use chl_inputs::{Stop, read_graph, read_order};
 use chl_lines::row_lines;
-use chl_words::By;
+use chl_words::{By, Construction, Name};
 use desk_io::{Desk, FreeGate};
 use index_file::Pieces;
 use rank_table::Ranking;
@@ -24,14 +23,14 @@ use walk_laws::Graph;
 pub fn list_output<R: Threads + Wait + Sync, D: Desk>(
     rt: &R,
     alloc: Global,
-    graph: &str,
-    order: &str,
+    graph: &Name,
+    order: &Name,
     desk: &mut D,
 ) -> Result<Pieces, Stop>
-    ensures { Goes D.Desk (list_stage graph.now order.now) result desk.old desk.new }
+    ensures { Conforms D.Desk (list_stage graph.now order.now) result desk.old desk.new }
 {
-    let graph = read_graph(alloc, graph, desk)?;
-    let ranking = read_order(alloc, order, graph.n(), desk)?;
+    let graph = read_graph(alloc, graph.text(), desk)?;
+    let ranking = read_order(alloc, order.text(), graph.n(), desk)?;
     text_output(alloc, rows_text(rt, alloc, &graph, &ranking))
 }
 

@@ -4,13 +4,14 @@ ghost use Rattle.hub_query.specs.Paths.{IsPathOf};
 ghost use Rattle.hub_query.specs.declared.path_answer.Path.{Path as AnyPath};
 ghost use Rattle.walk_laws.specs.Graph.{IsGraph};
 ghost use Rattle.chl_inputs.specs.Inputs.{ArePairsWithin};
-ghost use Rattle.chl_inputs.specs.Stages.{Goes};
+ghost use Rattle.chl_inputs.specs.Stages.{Conforms};
 ghost use Rattle.chl_inputs.specs.declared.stop.Stop.TheVariants.{NoMemory};
 ghost use Rattle.chl_cmd.specs.Commands.{AreAnswers, first_stop, path_stage, paths_stage, stop_at};
 
 use super::text::text_output;
 use chl_inputs::{NotOf, Stop, read_graph, read_index, read_pairs};
 use chl_lines::walk_lines;
+use chl_words::Name;
 use desk_io::Desk;
 use dimacs_text::Pairs;
 use hub_index::Index;
@@ -23,16 +24,16 @@ use walk_laws::Graph;
 /// is the first in lexicographic order, where the index is that of the canonical hub labelling of the graph.
 pub fn path_output<D: Desk>(
     alloc: Global,
-    graph: &str,
-    index: &str,
-    pairs: &str,
+    graph: &Name,
+    index: &Name,
+    pairs: &Name,
     desk: &mut D,
 ) -> Result<Pieces, Stop>
-    ensures { Goes D.Desk (path_stage graph.now index.now pairs.now) result desk.old desk.new }
+    ensures { Conforms D.Desk (path_stage graph.now index.now pairs.now) result desk.old desk.new }
 {
-    let graph = read_graph(alloc, graph, desk)?;
-    let index = read_index(alloc, index, desk)?;
-    paths_output(alloc, &graph, &index, pairs, desk)
+    let graph = read_graph(alloc, graph.text(), desk)?;
+    let index = read_index(alloc, index.text(), desk)?;
+    paths_output(alloc, &graph, &index, pairs.text(), desk)
 }
 
 /// The lines of the walks of the pairs of a text in a graph, by the rows of an index that has as many nodes.
@@ -45,7 +46,7 @@ fn paths_output<D: Desk>(
 ) -> Result<Pieces, Stop>
     requires graph { IsGraph graph.now.n graph.now.edges }
     requires index { IsWellFormed index.now.order index.now.rows }
-    ensures { Goes D.Desk (paths_stage graph.now index.now pairs.now) result desk.old desk.new }
+    ensures { Conforms D.Desk (paths_stage graph.now index.now pairs.now) result desk.old desk.new }
 {
     if graph.n() != index.n() {
         return Err(Stop::NotOfGraph(NotOf::Sizes {

@@ -1,13 +1,14 @@
 ghost use Rattle.std.specs.Prelude.{◌≡◌, ℕ, List, Option, length, IfOk};
 ghost use Rattle.walk_laws.specs.Meet.{IsMeet};
 ghost use Rattle.chl_inputs.specs.Inputs.{ArePairsWithin};
-ghost use Rattle.chl_inputs.specs.Stages.{Goes};
+ghost use Rattle.chl_inputs.specs.Stages.{Conforms};
 ghost use Rattle.chl_lines.specs.PrintedAnswers.{answer_lines as lines_of_answers};
 ghost use Rattle.chl_cmd.specs.Commands.{AreAnswers, query_stage};
 
 use super::text::text_output;
 use chl_inputs::{Stop, read_index, read_pairs};
 use chl_lines::answer_lines;
+use chl_words::Name;
 use desk_io::Desk;
 use dimacs_text::Pairs;
 use hub_index::Index;
@@ -21,14 +22,14 @@ use std::thread::Threads;
 pub fn query_output<R: Threads + Sync, D: Desk>(
     rt: &R,
     alloc: Global,
-    index: &str,
-    pairs: &str,
+    index: &Name,
+    pairs: &Name,
     desk: &mut D,
 ) -> Result<Pieces, Stop>
-    ensures { Goes D.Desk (query_stage index.now pairs.now) result desk.old desk.new }
+    ensures { Conforms D.Desk (query_stage index.now pairs.now) result desk.old desk.new }
 {
-    let index = read_index(alloc, index, desk)?;
-    let pairs = read_pairs(alloc, pairs, index.n(), desk)?;
+    let index = read_index(alloc, index.text(), desk)?;
+    let pairs = read_pairs(alloc, pairs.text(), index.n(), desk)?;
     text_output(alloc, replies_text(rt, alloc, &index, &pairs))
 }
 

@@ -1,11 +1,12 @@
 ghost use Rattle.std.specs.Prelude.{◌≡◌, ℕ, List, IfOk};
-ghost use Rattle.chl_inputs.specs.Stages.{Goes};
+ghost use Rattle.chl_inputs.specs.Stages.{Conforms};
 ghost use Rattle.chl_lines.specs.PrintedOrders.{order_lines as lines_of_nodes};
 ghost use Rattle.chl_cmd.specs.Commands.{IsRankingOf, rank_stage};
 
 use super::text::text_output;
 use chl_inputs::{Stop, read_graph};
 use chl_lines::order_lines;
+use chl_words::Name;
 use desk_io::Desk;
 use index_file::Pieces;
 use node_contraction::contraction_order;
@@ -17,12 +18,12 @@ use walk_laws::Graph;
 pub fn rank_output<R: Threads + Sync, D: Desk>(
     rt: &R,
     alloc: Global,
-    graph: &str,
+    graph: &Name,
     desk: &mut D,
 ) -> Result<Pieces, Stop>
-    ensures { Goes D.Desk (rank_stage graph.now) result desk.old desk.new }
+    ensures { Conforms D.Desk (rank_stage graph.now) result desk.old desk.new }
 {
-    let graph = read_graph(alloc, graph, desk)?;
+    let graph = read_graph(alloc, graph.text(), desk)?;
     text_output(alloc, ranked_text(rt, alloc, &graph))
 }
 

@@ -4,16 +4,16 @@ ghost use Rattle.walk_laws.specs.Graph.{IsGraph};
 ghost use Rattle.walk_laws.specs.Joined.{Joined};
 ghost use Rattle.walk_laws.specs.Ranking.{IsRanking};
 ghost use Rattle.chl_inputs.specs.Inputs.{ArePairsWithin};
-ghost use Rattle.chl_inputs.specs.Stages.{Goes};
+ghost use Rattle.chl_inputs.specs.Stages.{Conforms};
 ghost use Rattle.chl_lines.specs.PrintedAnswers.{answer_lines as lines_of_answers};
 ghost use Rattle.chl_cmd.specs.Commands.{AreAnswers, solve_stage};
 ghost use Rattle.chl_words.specs.Asking.{AreWithinLimits};
 
 use super::query::replies_text;
 use super::text::text_output;
-use crate::construction::Construction;
 use crate::labelling::labelling;
 use chl_inputs::{Stop, read_graph, read_order, read_pairs};
+use chl_words::{Construction, Name};
 use desk_io::{Desk, Gate};
 use dimacs_text::Pairs;
 use index_file::Pieces;
@@ -27,19 +27,19 @@ use walk_laws::Graph;
 pub fn solve_output<R: Threads + Wait + Sync, D: Desk, G: Gate + Sync>(
     rt: &R,
     alloc: Global,
-    graph: &str,
-    order: &str,
-    pairs: &str,
+    graph: &Name,
+    order: &Name,
+    pairs: &Name,
     construction: Construction,
     desk: &mut D,
     gate: &G,
 ) -> Result<Pieces, Stop>
     requires { AreWithinLimits construction.workers construction.cut }
-    ensures { Goes D.Desk (solve_stage graph.now order.now pairs.now) result desk.old desk.new }
+    ensures { Conforms D.Desk (solve_stage graph.now order.now pairs.now) result desk.old desk.new }
 {
-    let graph = read_graph(alloc, graph, desk)?;
-    let ranking = read_order(alloc, order, graph.n(), desk)?;
-    let pairs = read_pairs(alloc, pairs, graph.n(), desk)?;
+    let graph = read_graph(alloc, graph.text(), desk)?;
+    let ranking = read_order(alloc, order.text(), graph.n(), desk)?;
+    let pairs = read_pairs(alloc, pairs.text(), graph.n(), desk)?;
     text_output(
         alloc,
         answers_text(rt, alloc, &graph, &ranking, &pairs, construction, gate),

@@ -5,36 +5,28 @@ use Rattle.chl_cmd.proofs.TextAnswers.{goes_told}
 use Rattle.chl_cmd.proofs.commands.output.Goals as goal
 
 pub returns-in-List : goal.returns-in-List
-returns-in-List g c =
-    rw c.in-List.is (rw (c.text.ensures, c.text-in-List.ensures) at c.list_output.ensures)
+returns-in-List g c = rw c.in-List.is c.list_output.ensures
 
 pub returns-in-Build : goal.returns-in-Build
-returns-in-Build g c =
-    rw c.in-Build.is (rw (c.text-in-Build.ensures, c.text-in-Build-2.ensures) at c.build_output.ensures)
+returns-in-Build g c = rw c.in-Build.is c.build_output.ensures
 
 pub returns-in-Solve : goal.returns-in-Solve
-returns-in-Solve g c =
-    rw c.in-Solve.is (rw (c.text-in-Solve.ensures, c.text-in-Solve-2.ensures, c.text-in-Solve-3.ensures) at c.solve_output.ensures)
+returns-in-Solve g c = rw c.in-Solve.is c.solve_output.ensures
 
 pub returns-in-Query : goal.returns-in-Query
-returns-in-Query g c =
-    rw c.in-Query.is (rw (c.text-in-Query.ensures, c.text-in-Query-2.ensures) at c.query_output.ensures)
+returns-in-Query g c = rw c.in-Query.is c.query_output.ensures
 
 pub returns-in-Path : goal.returns-in-Path
-returns-in-Path g c =
-    rw c.in-Path.is (rw (c.text-in-Path.ensures, c.text-in-Path-2.ensures, c.text-in-Path-3.ensures) at c.path_output.ensures)
+returns-in-Path g c = rw c.in-Path.is c.path_output.ensures
 
 pub returns-in-Audit : goal.returns-in-Audit
-returns-in-Audit g c =
-    rw c.in-Audit.is (rw (c.text-in-Audit.ensures, c.text-in-Audit-2.ensures, c.text-in-Audit-3.ensures) at c.audit_output.ensures)
+returns-in-Audit g c = rw c.in-Audit.is c.audit_output.ensures
 
 pub returns-in-Degree : goal.returns-in-Degree
-returns-in-Degree g c =
-    rw c.in-Degree.is (rw c.text-in-Degree.ensures at c.degree_output.ensures)
+returns-in-Degree g c = rw c.in-Degree.is c.degree_output.ensures
 
 pub returns-in-Rank : goal.returns-in-Rank
-returns-in-Rank g c =
-    rw c.in-Rank.is (rw c.text-in-Rank.ensures at c.rank_output.ensures)
+returns-in-Rank g c = rw c.in-Rank.is c.rank_output.ensures
 
 pub returns-in-Grid : goal.returns-in-Grid
 returns-in-Grid g c =

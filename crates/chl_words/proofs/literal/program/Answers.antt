@@ -3,6 +3,7 @@ use Rattle.clap.specs.Words.{App, Shape, new_app}
 use Rattle.clap.specs.Simple.{app_of_fields, on_top}
 use Rattle.clap.specs.declared.builder.command.Command.{Command}
 use Rattle.clap.specs.declared.builder.command.Command.TheViews.{out-Command as fields_of}
+use Rattle.chl_words.specs.Literal as literal
 use Rattle.chl_words.specs.Literal.{IsProgram}
 use Rattle.chl_words.proofs.literal.program.Goals as goal
 
@@ -21,12 +22,12 @@ returns c =
     let first = without_flag _ _ _ bare c.disable_help_flag.ensures in
     let second = without_subcommand _ _ _ first c.disable_help_subcommand.ensures in
     let third = wants_command _ _ _ second c.subcommand_required-bare.ensures in
-    let one = c.with_command-program.ensures _ _ third c.list.ensures in
-    let two = c.with_command-program-2.ensures _ _ one c.build.ensures in
-    let three = c.with_command-program-3.ensures _ _ two c.solve.ensures in
-    let four = c.with_command-program-4.ensures _ _ three c.query.ensures in
-    let five = c.with_command-program-5.ensures _ _ four c.path.ensures in
-    let six = c.with_command-program-6.ensures _ _ five c.audit.ensures in
-    let seven = c.with_command-program-7.ensures _ _ six c.degree.ensures in
-    let eight = c.with_command-program-8.ensures _ _ seven c.rank.ensures in
-    c.with_command.ensures _ _ eight c.grid.ensures
+    let one = c.with_command-program.ensures _ literal.list third c.files.ensures in
+    let two = c.with_command-program-2.ensures _ literal.build one c.built.ensures in
+    let three = c.with_command-program-3.ensures _ literal.solve two c.built-2.ensures in
+    let four = c.with_command-program-4.ensures _ literal.query three c.files-2.ensures in
+    let five = c.with_command-program-5.ensures _ literal.path four c.files-3.ensures in
+    let six = c.with_command-program-6.ensures _ literal.audit five c.files-4.ensures in
+    let seven = c.with_command-program-7.ensures _ literal.degree six c.files-5.ensures in
+    let eight = c.with_command-program-8.ensures _ literal.rank seven c.files-6.ensures in
+    c.with_command.ensures _ literal.grid eight c.grid.ensures

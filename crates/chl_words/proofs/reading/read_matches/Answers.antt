@@ -23,10 +23,10 @@ no_rows : {Z : Type 0} (sub : Option (Box SubCommand Z)) → None ≡ option_map
 no_rows None named = refl
 no_rows (Some b) named = cc
 
-pub returns-in-Some-clause-read : goal.returns-in-Some-clause-read
-returns-in-Some-clause-read c =
+pub returns-in-Some : goal.returns-in-Some
+returns-in-Some c =
     let found = name_and_rows (out-ArgMatches c.args.matches.now).subcommand _ _ c.in-Some.ensures.name c.in-Some.ensures.rows in
-    subst (λ o. IsRead (asked_in o) c.read_command.result) (sym found) c.read_command.ensures.read
+    subst (λ o. IsRead (asked_in o) c.read_command.result) (sym found) c.read_command.ensures
 
-pub returns-in-None-clause-read : goal.returns-in-None-clause-read
-returns-in-None-clause-read c = ap asked_in (no_rows (out-ArgMatches c.args.matches.now).subcommand c.in-None.ensures.name)
+pub returns-in-None : goal.returns-in-None
+returns-in-None c = ap asked_in (no_rows (out-ArgMatches c.args.matches.now).subcommand c.in-None.ensures.name)

@@ -1,5 +1,6 @@
 use Rattle.std.proofs.Common.{◌≡◌, ◌≢◌, ◌∙◌, ap, sym, refl, List, [], ◌∷◌, Option, Some, None, Result, Ok, Err, true, map, inl, inr, subst, string_bytes}
 use Rattle.std.specs.Prelude.{IfOk, IfErr}
+use Rattle.std.proofs.lemmas.Result.{IfOk-weaker}
 use Rattle.clap.specs.Words.{App, Row, Text, fault_of, is_simple, is_simple_and_free, kind_of, matches_of, subcommand_of, subcommand_rows_of, Kinds, HasKind, IsAmong}
 use Rattle.clap.specs.declared.error.Error.{Error}
 use Rattle.clap.specs.declared.error.kind.ErrorKind.TheVariants.{OutOfMemory}
@@ -10,6 +11,7 @@ use Rattle.chl_words.specs.declared.asked.Asked.{Asked}
 use Rattle.chl_words.specs.Asking.{asked_in, asked_by, unless_refused}
 use Rattle.chl_words.specs.Literal.{program}
 use Rattle.chl_words.specs.Reading.{IsRead}
+use Rattle.chl_words.proofs.Limits.{within_limits}
 use Rattle.chl_words.proofs.reading.read_words.Goals as goal
 
 simple_and_free : is_simple_and_free program ≡ true
@@ -53,13 +55,16 @@ pub returns-in-Ok-clause-ok : goal.returns-in-Ok-clause-ok
 returns-in-Ok-clause-ok c =
     let none = kinds_of _ _ (λ k. k ≡ []) c.in_ok-command.ensures.0 c.in-Ok.ensures.kinds in
     let found = found_is _ _ _ (subcommand_rows_of c.in-Ok.matches) c.in_ok-command.ensures.0 c.in-Ok.ensures.matches in
-    is_ok (map string_bytes c.args.words.now) _ c.read_matches.result (taken_is (map string_bytes c.args.words.now) _ none found) c.read_matches.ensures.read
+    is_ok (map string_bytes c.args.words.now) _ c.read_matches.result (taken_is (map string_bytes c.args.words.now) _ none found) c.read_matches.ensures
+
+pub returns-in-Ok-clause-limits : goal.returns-in-Ok-clause-limits
+returns-in-Ok-clause-limits c = IfOk-weaker c.read_matches.result _ _ (within_limits (map string_bytes c.args.words.now)) (returns-in-Ok-clause-ok c)
 
 pub returns-in-Ok-clause-usage : goal.returns-in-Ok-clause-usage
 returns-in-Ok-clause-usage c =
     let none = kinds_of _ _ (λ k. k ≡ []) c.in_ok-command.ensures.0 c.in-Ok.ensures.kinds in
     let found = found_is _ _ _ (subcommand_rows_of c.in-Ok.matches) c.in_ok-command.ensures.0 c.in-Ok.ensures.matches in
-    is_usage (map string_bytes c.args.words.now) _ c.read_matches.result (taken_is (map string_bytes c.args.words.now) _ none found) c.read_matches.ensures.read
+    is_usage (map string_bytes c.args.words.now) _ c.read_matches.result (taken_is (map string_bytes c.args.words.now) _ none found) c.read_matches.ensures
 
 pub returns-in-Err-clause-usage : goal.returns-in-Err-clause-usage
 returns-in-Err-clause-usage c = λ usage. refused_is (map string_bytes c.args.words.now) c.in-Err.error (c.fault_of.ensures usage) (kinds_of _ _ (λ k. HasKind k c.in-Err.error) c.in_ok-command.ensures.0 c.in-Err.ensures.kinds)

@@ -1,10 +1,14 @@
-use Rattle.std.proofs.Common.{◌≡◌, subst, arith}
-use Rattle.gll_superstep.specs.Tables.{IsStripeBelow}
+use Rattle.std.proofs.Common.{◌≡◌, ap, subst, arith}
+use Rattle.gll_superstep.specs.Tables.{IsShardBelow}
+use Rattle.gll_build.specs.Merging.{OneShard}
 use Rattle.gll_build.proofs.putting_together.rows_at.Goals as goal
 
 pub returns : goal.returns
 returns g c =
-    let number_is : c.stripe.inside.number ≡ c.args.number = omega arith in
-    let first_is : c.stripe.inside.first ≡ c.args.next = omega arith in
-    subst (λ p. IsStripeBelow g.B.Build.edges g.B.Build.order g.B.Build.shift p c.args.number c.stripe.inside.rows) first_is
-    (subst (λ k. IsStripeBelow g.B.Build.edges g.B.Build.order g.B.Build.shift c.stripe.inside.first k c.stripe.inside.rows) number_is c.stripe.invariant.1)
+    let first_is : c.shard.inside.first ≡ c.args.next = omega arith in
+    let number_is = ap (λ (s : OneShard). s.number) c.shard.view_is in (
+      c.in-Some.shard,
+      c.in-Some.is,
+      subst (λ k. IsShardBelow g.B.Build.edges g.B.Build.order g.B.Build.shift c.args.next k c.shard.inside.rows) number_is
+          (subst (λ p. IsShardBelow g.B.Build.edges g.B.Build.order g.B.Build.shift p c.shard.inside.number c.shard.inside.rows) first_is c.shard.invariant.1),
+    )

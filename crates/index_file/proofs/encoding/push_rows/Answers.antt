@@ -1,5 +1,5 @@
 use Rattle.std.proofs.Common.{◌+◌, arith}
-use Rattle.hub_index.specs.NarrowRows.{row_of_parts}
+use Rattle.hub_index.specs.CompactRows.{row_of_parts}
 use Rattle.index_file.proofs.RowRuns.{run-put}
 use Rattle.index_file.proofs.Sizes.{length-row_of}
 use Rattle.index_file.proofs.encoding.push_rows.Goals as goal

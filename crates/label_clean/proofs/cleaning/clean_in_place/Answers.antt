@@ -3,18 +3,18 @@ use Rattle.walk_laws.specs.Labelling.{label_row}
 use Rattle.label_clean.specs.Tested.{AreNearRows}
 use Rattle.label_clean.proofs.Cleaned.{IsChlBelow-surviving, IsSurvivingRow-same}
 use Rattle.label_clean.proofs.KeptRows.{IsSurvivingRow-sorted}
-use Rattle.label_clean.proofs.NearRows.{IsRawRow-near}
+use Rattle.label_clean.proofs.NearRows.{IsRawRow-moved}
 use Rattle.label_clean.proofs.cleaning.clean_in_place.Given as given
 use Rattle.label_clean.proofs.cleaning.clean_in_place.Goals as goal
 use Rattle.label_clean.proofs.cleaning.clean_in_place.Goals.{After-by_distance-near}
 
 -- the rows by rising distance are near rows
-near_rows : (g : given.Over) (c : After-by_distance-near g) → AreNearRows (length c.args.ranking.now) c.by_distance-near.result
+near_rows : (g : given.Over) (c : After-by_distance-near g) → AreNearRows c.args.ranking.now c.by_distance-near.result
 near_rows g c = record {
   size = c.by_distance-near.ensures.size ∙ c.requires.raw_size;
-  nearing = λ v from_one up_to_n. (c.by_distance-near.ensures.rows v from_one (omega (arith, up_to_n, c.requires.raw_size))).nearing;
+  nearing = λ v from_one up_to_n. c.by_distance-near.ensures.nearing v from_one (omega (arith, up_to_n, c.requires.raw_size));
   raw = λ v from_one up_to_n.
-      IsRawRow-near (length c.args.ranking.now) (label_row c.args.raw v) (label_row c.by_distance-near.result v)
+      IsRawRow-moved (length c.args.ranking.now) (label_row c.args.raw v) (label_row c.by_distance-near.result v)
       (c.by_distance-near.ensures.rows v from_one (omega (arith, up_to_n, c.requires.raw_size))) (c.requires.raw_rows v from_one up_to_n).within;
 }
 

@@ -2,7 +2,7 @@ use Rattle.std.proofs.Common.{◌≡◌, ◌+◌, ◌<◌, ◌∷◌, ◌++◌, 
 use Rattle.std.specs.Prelude.{slice_set}
 use Rattle.std.proofs.lemmas.List.{get_or-set_same, get_or-set_other, length-set, map-set}
 use Rattle.label_clean.specs.Kept.{IsKeptRow, HasSurvivors}
-use Rattle.label_clean.proofs.KeptRows.{AreReplaced, AreReplaced-more, last_within, last_kept, last_row, HasSurvivors-all, HasSurvivors-kept}
+use Rattle.label_clean.proofs.KeptRows.{AreReplaced, AreReplaced-more, last_within, last_kept, last_row, HasSurvivors-all}
 use Rattle.label_clean.proofs.RowItems.{items_of}
 use Rattle.label_clean.proofs.cleaning.replaced.Goals as goal
 use Rattle.label_clean.proofs.cleaning.replaced.Goals.{In-Some}
@@ -27,7 +27,7 @@ loop-row-preserved-in-Some-row c =
     subst (AreReplaced at near (length at) left) (sym now)
     (AreReplaced-more at near (length at) left c.in-Some.row rows (so_far up) (set rows (length left) new) (length-set rows (length left) new)
     (λ k other. get_or-set_other rows (length left) k new [] other)
-    (subst (HasSurvivors at near (length left + 1)) (sym (get_or-set_same rows (length left) new [] within)) (HasSurvivors-kept at near (length left + 1) new kept)))
+    (subst (HasSurvivors at near (length left + 1)) (sym (get_or-set_same rows (length left) new [] within)) kept))
 
 pub loop-row-preserved : goal.loop-row-preserved
 loop-row-preserved c =

@@ -13,7 +13,7 @@ nothing = record { pos = 0; dist = 0 }
 pub returns-then-entry-dist : goal.returns-then-entry-dist
 returns-then-entry-dist c = (
   λ t. let none : IsTrue false = t in absurd cc,
-  λ cover. absurd (no_cover_after c.args.table.now c.args.pos c.args.dist c.args.row.now c.loop-entry.entry-index nothing c.requires.nearing c.loop-entry-test.true c.if-entry-dist.true c.loop-entry.invariant cover),
+  λ cover. absurd (no_cover_after c.args.table.now c.args.pos c.args.dist c.args.row.now c.loop-entry.entry-index nothing (c.requires.nearing c.if-is_near.true) c.loop-entry-test.true c.if-entry-dist.true c.loop-entry.invariant cover),
 )
 
 pub loop-entry-preserved : goal.loop-entry-preserved

@@ -23,7 +23,7 @@ returns-clause-rows g c = λ v from_one up_to_n.
     let same : c.as_mut_slice.result.now ≡ before = c.as_mut_slice.ensures.value in
     let size : length after ≡ length before = omega (arith, c.par_for_each_mut.auto.s, ap length same) in
     let long : length before ≡ c.into_rows-rows.result.len = omega (arith, ap length same, c.as_mut_slice.ensures.len) in
-    let all = each_changed IsSortedRow before after size (λ i d lt.
+    let all = each_changed (λ _. IsSortedRow) before after size (λ i d lt.
     let call = (c.par_for_each_mut.ensures i d (omega (arith, lt, ap length same))).1 in
     let was : call.argument.now ≡ get_or before i d = call.argument_is ∙ ap (λ xs. get_or xs i d) same in
     subst (λ y. IsSortedRow (get_or before i d).items y.items) call.left (subst (λ x. IsSortedRow x.items call.after_call.now.items) was call.call)) v from_one (omega (arith, up_to_n, ap length c.into_rows-rows.ensures)) in

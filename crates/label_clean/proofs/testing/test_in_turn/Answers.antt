@@ -8,5 +8,5 @@ loop-place-preserved c = record {
   table = c.kept_row.ensures.size ∙ c.loop-place.invariant.table;
   kept =
       subst (AreKeptRows c.args.ranking.now c.args.near.now c.args.from (c.loop-place.place + 1)) (sym c.in_ok-push.ensures.items)
-      (AreKeptRows-push c.args.ranking.now c.args.near.now c.args.from c.loop-place.place c.loop-place.kept.items c.in_ok-kept_row.field-0 c.loop-place.invariant.kept c.in_ok-kept_row.ensures.kept);
+      (AreKeptRows-push c.args.ranking.now c.args.near.now c.args.from c.loop-place.place c.loop-place.kept.items c.in_ok-row.row c.loop-place.invariant.kept c.in_ok-row.ensures.kept);
 }

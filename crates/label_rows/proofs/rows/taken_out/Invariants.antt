@@ -1,4 +1,4 @@
-use Rattle.std.proofs.Common.{◌≡◌, ℕ, ◌<◌, false, length, get_or, map, take}
+use Rattle.std.proofs.Common.{◌≡◌, ℕ, ◌<◌, false, length, get_or, take}
 use Rattle.std.specs.Slots.{slots_filled, slots_items, slots_len}
 use Rattle.std.specs.Slots.Ownership.{Filled}
 use Rattle.label_rows.proofs.rows.taken_out.Given as goal
@@ -9,7 +9,7 @@ invariant-loop-place l = record {
   size : length l.rows.items ≡ slots_len l.fn.closed.slots;
   len : slots_len l.closed.slots ≡ slots_len l.fn.closed.slots;
   items : slots_items l.closed.slots ≡ slots_items l.fn.closed.slots;
-  taken : take l.place (map (λ row. row.items) l.rows.items) ≡ take l.place (slots_items l.fn.closed.slots);
+  taken : take l.place l.rows.items ≡ take l.place (slots_items l.fn.closed.slots);
   full : Filled (slots_filled l.closed.slots) l.place (slots_len l.closed.slots);
   empty : (k : ℕ) → k < l.place → get_or (slots_filled l.closed.slots) k false ≡ false;
 }

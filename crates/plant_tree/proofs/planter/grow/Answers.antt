@@ -14,7 +14,8 @@ use Rattle.plant_tree.proofs.PlantedExactly.{AreLabels, planted_exactly, labels_
 use Rattle.plant_tree.proofs.TreeEnds.{Starts, starts, first_tree}
 use Rattle.plant_tree.proofs.TreeFacts.{IsTree, reach_of}
 use Rattle.plant_tree.proofs.TreeLabels.{labels-start, labels_kept, labels_more, once_more}
-use Rattle.plant_tree.proofs.TreeSize.{unsettled, unsettled-le, IsSized-start, IsSized-round, unsettled-settled, IsArc, arcs_of_row, room_of_next, node_of_queued, fits_64, none_found, nothing_found}
+use Rattle.walk_laws.proofs.JoinedEdges.{IsArc, arcs_of_row, fits_64}
+use Rattle.plant_tree.proofs.TreeSize.{unsettled, unsettled-le, IsSized-start, IsSized-round, unsettled-settled, room_of_next, node_of_queued, none_found, nothing_found}
 use Rattle.plant_tree.specs.Relaxed.{relaxed_all}
 use Rattle.plant_tree.proofs.TreeSteps.{offered}
 use Rattle.plant_tree.proofs.TreeTypes.{Found, Reach}

@@ -2,12 +2,12 @@ use Rattle.std.proofs.Common.{◌≡◌, ◌+◌, ◌-◌, ◌<◌, ◌≤◌, �
 use Rattle.walk_laws.specs.declared.graph.Arc.{Arc}
 use Rattle.walk_laws.specs.Ranking.{position_of}
 use Rattle.walk_laws.proofs.NarrowRows.{arc_in_row}
-use Rattle.frontier.specs.Reaches.{heeds, with_offer}
+use Rattle.frontier.specs.Reaches.{improves, with_offer}
 use Rattle.plant_tree.specs.Relaxed.{higher, relaxed, relaxed_all}
 use Rattle.plant_tree.specs.Wanted.{wants, wanted}
 use Rattle.plant_tree.proofs.TreeFacts.{reach_of}
 use Rattle.plant_tree.proofs.TreeSize.{length-relaxed}
-use Rattle.plant_tree.proofs.TreeSteps.{relaxed_unheeded, relaxed_all-next}
+use Rattle.plant_tree.proofs.TreeSteps.{relaxed_unimproved, relaxed_all-next}
 use Rattle.plant_tree.proofs.TreeTypes.{Reach}
 use Rattle.plant_tree.proofs.TreeWanted.{wants_one, wanted-le, wanted-relaxed}
 use Rattle.plant_tree.proofs.planter.relax.Given as given
@@ -45,10 +45,10 @@ rest_now g c now is =
     ap (relaxed_all c.args.ranking.now c.args.found (drop (c.loop-arc.arc-index + 1) (row g c))) (is ∙ ap (λ a. relaxed c.args.ranking.now c.args.found a c.loop-arc.frontier) (sym (here g c).1))
     ∙ sym (relaxed_all-next c.args.ranking.now c.args.found (row g c) c.loop-arc.arc-index c.widened-arc.result c.loop-arc.frontier (here g c).0) ∙ c.loop-arc.invariant.rest
 
-pub loop-arc-preserved-then-not-heeds : goal.loop-arc-preserved-then-not-heeds
-loop-arc-preserved-then-not-heeds g c =
-    let up = (goal.at.loop-arc-preserved-then-not-heeds g c).After-widened-arc in
-    let same : relaxed c.args.ranking.now c.args.found c.widened-arc.result c.loop-arc.frontier ≡ c.loop-arc.frontier = relaxed_unheeded c.args.ranking.now c.args.found c.widened-arc.result c.loop-arc.frontier (ap (λ r. heeds r (c.args.found.dist + c.widened-arc.result.w)) (sym c.reach-before.ensures) ∙ sym c.heeds.ensures ∙ c.if-not-heeds.true) in
+pub loop-arc-preserved-then-not-improves : goal.loop-arc-preserved-then-not-improves
+loop-arc-preserved-then-not-improves g c =
+    let up = (goal.at.loop-arc-preserved-then-not-improves g c).After-widened-arc in
+    let same : relaxed c.args.ranking.now c.args.found c.widened-arc.result c.loop-arc.frontier ≡ c.loop-arc.frontier = relaxed_unimproved c.args.ranking.now c.args.found c.widened-arc.result c.loop-arc.frontier (ap (λ r. improves r (c.args.found.dist + c.widened-arc.result.w)) (sym c.reach-before.ensures) ∙ sym c.improves.ensures ∙ c.if-not-improves.true) in
     record {
       size = c.loop-arc.invariant.size;
       rest = rest_now g up c.loop-arc.frontier (sym same);

@@ -21,7 +21,8 @@ use Rattle.pruned_tree.proofs.ApartPuts.{AreApart, AreApart-start, AreApart-same
 use Rattle.pruned_tree.proofs.CompleteTrees.{IsComplete, all_gained}
 use Rattle.pruned_tree.proofs.GrownRows.{IsGrowth, IsPruned-from_growth}
 use Rattle.pruned_tree.proofs.OfferedNodes.{node_inside, queued_distance}
-use Rattle.pruned_tree.proofs.TreeCounts.{unsettled, unsettled-le, unsettled-settled, unsettled-same, IsBounded, IsBounded-start, IsBounded-settled, IsBounded-relaxed, room_of_next, fits_64, arcs_of_row, entries-put, entries-kept}
+use Rattle.walk_laws.proofs.JoinedEdges.{arcs_of_row, fits_64}
+use Rattle.pruned_tree.proofs.TreeCounts.{unsettled, unsettled-le, unsettled-settled, unsettled-same, IsBounded, IsBounded-start, IsBounded-settled, IsBounded-relaxed, room_of_next, entries-put, entries-kept}
 use Rattle.pruned_tree.proofs.TreeRounds.{first_come, started, same_at_all, weights_positive, only_root, IsGrowth-start, IsComplete-start, offer_fits, StillStand-found, fits_by, root_position, none_yet, IsGrowth-round_over, IsComplete-round_over, IsGrowth-round_put, IsGrowth-round, IsComplete-round}
 use Rattle.pruned_tree.proofs.growing.grow_from.Given as given
 use Rattle.pruned_tree.proofs.growing.grow_from.Goals as goal

@@ -2,10 +2,10 @@ use Rattle.std.proofs.Common.{◌≡◌, ◌+◌, ◌^◌, ◌<◌, ◌≤◌, L
 use Rattle.walk_laws.specs.declared.graph.Arc.{Arc}
 use Rattle.walk_laws.proofs.NarrowRows.{arc_in_row}
 use Rattle.frontier.specs.declared.reach.Reach.{Reach}
-use Rattle.frontier.specs.Reaches.{heeds, with_offer}
+use Rattle.frontier.specs.Reaches.{improves, with_offer}
 use Rattle.pruned_tree.specs.declared.bare.Bare.{Bare}
 use Rattle.pruned_tree.specs.Relaxed.{IsRelaxed}
-use Rattle.pruned_tree.proofs.RelaxedArcs.{IsRelaxed-none, IsRelaxed-over, IsRelaxed-unheeded, IsRelaxed-next}
+use Rattle.pruned_tree.proofs.RelaxedArcs.{IsRelaxed-none, IsRelaxed-over, IsRelaxed-unimproved, IsRelaxed-next}
 use Rattle.pruned_tree.proofs.growing.relax.Given as given
 use Rattle.pruned_tree.proofs.growing.relax.Goals as goal
 use Rattle.pruned_tree.proofs.growing.relax.Goals.{After-widened-arc, then-pos-p+in_ok-offer_from, else-pos-p}
@@ -40,11 +40,11 @@ overflow_add-reached g c =
 pub reach-before-requires : goal.reach-before-requires
 reach-before-requires g c = inside g (goal.at.reach-before-requires g c).After-widened-arc
 
-pub loop-arc-preserved-then-not-heeds : goal.loop-arc-preserved-then-not-heeds
-loop-arc-preserved-then-not-heeds g c =
-    let up = (goal.at.loop-arc-preserved-then-not-heeds g c).After-widened-arc in
-    IsRelaxed-unheeded c.args.ranking.now c.args.p c.args.dist (row g up) c.loop-arc.arc-index c.widened-arc.result (here g up).0 c.args.frontier.now c.loop-arc.frontier
-    (rw (here g up).1 (ap (λ r. heeds r (c.args.dist + c.widened-arc.result.w)) (sym c.reach-before.ensures) ∙ sym c.heeds.ensures ∙ c.if-not-heeds.true)) c.loop-arc.invariant
+pub loop-arc-preserved-then-not-improves : goal.loop-arc-preserved-then-not-improves
+loop-arc-preserved-then-not-improves g c =
+    let up = (goal.at.loop-arc-preserved-then-not-improves g c).After-widened-arc in
+    IsRelaxed-unimproved c.args.ranking.now c.args.p c.args.dist (row g up) c.loop-arc.arc-index c.widened-arc.result (here g up).0 c.args.frontier.now c.loop-arc.frontier
+    (rw (here g up).1 (ap (λ r. improves r (c.args.dist + c.widened-arc.result.w)) (sym c.reach-before.ensures) ∙ sym c.improves.ensures ∙ c.if-not-improves.true)) c.loop-arc.invariant
 
 pub pos-requires-clause-node : goal.pos-requires-clause-node
 pos-requires-clause-node g c = (node g (goal.at.pos-requires-clause-node g c).After-widened-arc).0

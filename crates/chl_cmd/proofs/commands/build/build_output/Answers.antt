@@ -1,25 +1,19 @@
 use Rattle.std.specs.Prelude.{Ok}
 use Rattle.std.proofs.Common.{ap, refl}
-use Rattle.std.proofs.lemmas.Result.{err_from_is_err_and}
 use Rattle.chl_inputs.proofs.StagesInTurn.{goes_comes, goes_lost, goes_reads, goes_reads_stop, goes_works}
+use Rattle.chl_cmd.proofs.TextAnswers.{handed_on}
 use Rattle.chl_cmd.proofs.commands.build.build_output.Goals as goal
 
 pub returns-in_err-graph : goal.returns-in_err-graph
-returns-in_err-graph g c =
-    let p = err_from_is_err_and c.from_residual.result c.from_residual.ensures.1 in
-    rw (p.1, p.2) (goes_reads_stop c.in_err-graph.ensures)
+returns-in_err-graph g c = handed_on c.from_residual.ensures.1 (goes_reads_stop (rw c.text.ensures at c.in_err-graph.ensures))
 
 pub returns-in_err-ranking : goal.returns-in_err-ranking
-returns-in_err-ranking g c =
-    let p = err_from_is_err_and c.from_residual-in_err-ranking.result c.from_residual-in_err-ranking.ensures.1 in
-    rw (p.1, p.2) (goes_reads c.in_ok-graph.ensures (goes_reads_stop (rw c.n.ensures.value at c.in_err-ranking.ensures.goes)))
+returns-in_err-ranking g c = handed_on c.from_residual-in_err-ranking.ensures.1 (goes_reads (rw c.text.ensures at c.in_ok-graph.ensures) (goes_reads_stop (rw (c.text-2.ensures, c.n.ensures.value) at c.in_err-ranking.ensures.goes)))
 
 pub returns-in_err-bytes : goal.returns-in_err-bytes
-returns-in_err-bytes g c =
-    let p = err_from_is_err_and c.from_residual-in_err-bytes.result c.from_residual-in_err-bytes.ensures.1 in
-    rw (p.1, p.2) (goes_reads c.in_ok-graph.ensures (goes_reads (rw c.n.ensures.value at c.in_ok-ranking.ensures.goes) (goes_lost _)))
+returns-in_err-bytes g c = handed_on c.from_residual-in_err-bytes.ensures.1 (goes_reads (rw c.text.ensures at c.in_ok-graph.ensures) (goes_reads (rw (c.text-2.ensures, c.n.ensures.value) at c.in_ok-ranking.ensures.goes) (goes_lost _)))
 
 pub returns : goal.returns
 returns g c =
-    goes_reads c.in_ok-graph.ensures (goes_reads (rw c.n.ensures.value at c.in_ok-ranking.ensures.goes)
+    goes_reads (rw c.text.ensures at c.in_ok-graph.ensures) (goes_reads (rw (c.text-2.ensures, c.n.ensures.value) at c.in_ok-ranking.ensures.goes)
     (goes_works c.in_ok-bytes.ensures.0 c.in_ok-bytes.ensures.1 (goes_comes (ap Ok c.in_ok-bytes.ensures.2) tt refl)))

@@ -1,7 +1,6 @@
-use Rattle.std.proofs.lemmas.Result.{err_from_is_err_and}
 use Rattle.std.proofs.lemmas.Slice.Zip.{AllZip-long}
 use Rattle.chl_inputs.proofs.StagesInTurn.{goes_reads, goes_reads_stop}
-use Rattle.chl_cmd.proofs.TextAnswers.{goes_told}
+use Rattle.chl_cmd.proofs.TextAnswers.{goes_told, handed_on}
 use Rattle.chl_cmd.proofs.WalkAnswers.{goes_sized, goes_stuck, goes_unsized, goes_walked}
 use Rattle.chl_cmd.proofs.commands.path.paths_output.Goals as goal
 
@@ -10,15 +9,11 @@ returns-then-n g c =
     rw (c.n-then-n.ensures.value, c.n-then-n-2.ensures.value) (goes_unsized _ _ _ (rw (c.n.ensures.value, c.n-2.ensures.value) at c.if-n.true))
 
 pub returns-in_err-pairs : goal.returns-in_err-pairs
-returns-in_err-pairs g c =
-    let p = err_from_is_err_and c.from_residual.result c.from_residual.ensures.1 in
-    rw (p.1, p.2) (goes_sized _ _ _ (rw (c.n.ensures.value, c.n-2.ensures.value) at c.if-n.false)
+returns-in_err-pairs g c = handed_on c.from_residual.ensures.1 (goes_sized _ _ _ (rw (c.n.ensures.value, c.n-2.ensures.value) at c.if-n.false)
     (goes_reads_stop (rw c.n-3.ensures.value at c.in_err-pairs.ensures.goes)))
 
 pub returns-in_err-walks : goal.returns-in_err-walks
-returns-in_err-walks g c =
-    let p = err_from_is_err_and c.from_residual-in_err-walks.result c.from_residual-in_err-walks.ensures.1 in
-    rw (p.1, p.2) (goes_sized _ _ _ (rw (c.n.ensures.value, c.n-2.ensures.value) at c.if-n.false)
+returns-in_err-walks g c = handed_on c.from_residual-in_err-walks.ensures.1 (goes_sized _ _ _ (rw (c.n.ensures.value, c.n-2.ensures.value) at c.if-n.false)
     (goes_reads (rw c.n-3.ensures.value at c.in_ok-pairs.ensures.goes) (goes_stuck _ _ _ _ c.in_err-walks.ensures.err)))
 
 pub walk_lines-requires : goal.walk_lines-requires

@@ -3,7 +3,7 @@ use Rattle.std.proofs.Math.ListN.{length-set}
 use Rattle.std.proofs.lemmas.List.{get_or_read}
 use Rattle.hub_index.specs.RootDistances.{root_distance}
 use Rattle.hub_index.specs.Touched.{HasTouched}
-use Rattle.hub_index.proofs.TouchedPositions.{last_within, held-but_last, all_none, none_in, HasTouched-none, nearest-set, nearest-length}
+use Rattle.hub_index.proofs.TouchedPositions.{last_within, held-but_last, all_none, none_in, HasTouched-none, clamped-set, clamped-length}
 use Rattle.hub_index.proofs.root_table.RootTable.clear.Goals as goal
 use Rattle.hub_index.proofs.root_table.RootTable.clear.Goals.{In-loop-self, After-loop-self}
 
@@ -38,7 +38,7 @@ loop-self-preserved c =
       room = was.room ∙ sym now;
       few = omega (arith, last.room);
       within = subst (λ n. All (λ x. x < n) (take (c.loop-self.self-inside.count - 1) c.loop-self.self-inside.touched.items)) (sym now) last.before;
-      tested = nearest-set c.loop-self.self-inside.dists.items c.loop-self.self-inside.nearest.items c.index-pos.result.now None was.tested;
+      tested = clamped-set c.loop-self.self-inside.dists.items c.loop-self.self-inside.clamped.items c.index-pos.result.now None was.tested;
       held = subst (λ x. (p : ℕ) → root_distance (set c.loop-self.self-inside.dists.items x None) p ≢ None → Contains (take (c.loop-self.self-inside.count - 1) c.loop-self.self-inside.touched.items) p) (sym (get_or_read c.loop-self.self-inside.touched.items (c.loop-self.self-inside.count - 1) _ last.room c.index-pos.ensures 0)) rest;
     }
 
@@ -64,4 +64,4 @@ index_mut-requires-in-loop-self c =
     let was = c.loop-self.invariant in
     let last = last_of (goal.at.index_mut-requires-in-loop-self c).In-loop-self in
     let inside = subst (λ x. x < length c.loop-self.self-inside.dists.items) (sym (get_or_read c.loop-self.self-inside.touched.items (c.loop-self.self-inside.count - 1) _ last.room c.index-pos.ensures 0)) last.inside in
-    omega (arith, inside, nearest-length c.loop-self.self-inside.dists.items c.loop-self.self-inside.nearest.items was.tested, c.loop-self.self-inside.nearest.ok.0)
+    omega (arith, inside, clamped-length c.loop-self.self-inside.dists.items c.loop-self.self-inside.clamped.items was.tested, c.loop-self.self-inside.clamped.ok.0)

@@ -1,6 +1,6 @@
 use Rattle.std.proofs.Common.{◌≡◌, ◌≢◌, ℕ, ◌<◌, ◌≤◌, None, All, Contains, length, map, take}
 use Rattle.hub_index.specs.RootDistances.{root_distance}
-use Rattle.hub_index.specs.Touched.{nearest_of}
+use Rattle.hub_index.specs.Touched.{clamped_of}
 use Rattle.hub_index.proofs.root_table.RootTable.clear.Given as goal
 
 -- each position that still has a distance is to come
@@ -10,7 +10,7 @@ invariant-loop-self l = record {
   room : length l.self-inside.touched.items ≡ length l.self-inside.dists.items;
   few : l.self-inside.count ≤ length l.self-inside.touched.items;
   within : All (λ x. x < length l.self-inside.dists.items) (take l.self-inside.count l.self-inside.touched.items);
-  tested : l.self-inside.nearest.items ≡ map nearest_of l.self-inside.dists.items;
+  tested : l.self-inside.clamped.items ≡ map clamped_of l.self-inside.dists.items;
   held : (p : ℕ) → root_distance l.self-inside.dists.items p ≢ None → Contains (take l.self-inside.count l.self-inside.touched.items) p;
 }
 

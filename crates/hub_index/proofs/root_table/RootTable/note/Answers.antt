@@ -1,7 +1,7 @@
 use Rattle.std.proofs.Common.{◌≡◌, ◌<◌, Some, None, length, sym, take, ◌∙◌, arith}
 use Rattle.std.proofs.lemmas.List.{get_or_read, length-take-le}
 use Rattle.hub_index.specs.RootDistances.{root_distance}
-use Rattle.hub_index.proofs.TouchedPositions.{room_for_fresh, HasTouched-fresh, HasTouched-known, nearest-set}
+use Rattle.hub_index.proofs.TouchedPositions.{room_for_fresh, HasTouched-fresh, HasTouched-known, clamped-set}
 use Rattle.hub_index.proofs.root_table.RootTable.note.Goals as goal
 use Rattle.hub_index.proofs.root_table.RootTable.note.Goals.{In-None}
 
@@ -24,7 +24,7 @@ pub invariant_of-self : goal.invariant_of-self
 invariant_of-self c =
     let f = fresh_there (goal.at.invariant_of-self c).In-None in (
       HasTouched-fresh c.self.inside.dists.items c.self.inside.touched.items c.self.inside.count c.args.entry.pos c.self.invariant.0 f.inside f.fresh c.args.entry.dist f.room,
-      rw c.nearest.ensures (nearest-set c.self.inside.dists.items c.self.inside.nearest.items c.args.entry.pos (Some c.args.entry.dist) c.self.invariant.1),
+      rw c.clamped.ensures (clamped-set c.self.inside.dists.items c.self.inside.clamped.items c.args.entry.pos (Some c.args.entry.dist) c.self.invariant.1),
     )
 
 pub invariant_of-self-in-Some : goal.invariant_of-self-in-Some
@@ -32,5 +32,5 @@ invariant_of-self-in-Some c =
     let inside : c.args.entry.pos < length c.self.inside.dists.items = rw (← c.self.view_is) at c.requires in
     let was : root_distance c.self.inside.dists.items c.args.entry.pos ≡ Some c.in-Some.known = sym (get_or_read c.self.inside.dists.items _ _ inside c.index.ensures None) ∙ c.in-Some.is in (
       HasTouched-known c.self.inside.dists.items c.self.inside.touched.items c.self.inside.count c.args.entry.pos c.in-Some.known c.min-least.result c.self.invariant.0 was,
-      rw c.nearest-in-Some.ensures (nearest-set c.self.inside.dists.items c.self.inside.nearest.items c.args.entry.pos (Some c.min-least.result) c.self.invariant.1),
+      rw c.clamped-in-Some.ensures (clamped-set c.self.inside.dists.items c.self.inside.clamped.items c.args.entry.pos (Some c.min-least.result) c.self.invariant.1),
     )

@@ -4,13 +4,13 @@ use Rattle.hub_index.proofs.split_rows.SplitRows.from_last.Goals as goal
 
 pub index-requires : goal.index-requires
 index-requires c =
-    let within = within_parts c.self.inside.narrow.items c.self.inside.wide c.args.self.now c.args.v c.self.view_is c.self.invariant.0 c.requires.within in
-    omega (arith, within, c.requires.node, c.self.inside.narrow.ok.0, c.self.invariant.0)
+    let within = within_parts c.self.inside.compact.items c.self.inside.full c.args.self.now c.args.v c.self.view_is c.self.invariant.0 c.requires.within in
+    omega (arith, within, c.requires.node, c.self.inside.compact.ok.0, c.self.invariant.0)
 
 pub row-requires-clause-within : goal.row-requires-clause-within
-row-requires-clause-within c = within_parts c.self.inside.narrow.items c.self.inside.wide c.args.self.now c.args.v c.self.view_is c.self.invariant.0 c.requires.within
+row-requires-clause-within c = within_parts c.self.inside.compact.items c.self.inside.full c.args.self.now c.args.v c.self.view_is c.self.invariant.0 c.requires.within
 
 pub returns : goal.returns
 returns c =
     ap reverse
-    (row_read c.self.inside.narrow.items c.self.inside.wide c.args.self.now c.args.v c.index.result.now c.deref.result.now c.row.result.now c.self.view_is c.self.invariant.0 c.requires.node c.requires.within c.index.ensures c.deref.ensures.value c.row.ensures)
+    (row_read c.self.inside.compact.items c.self.inside.full c.args.self.now c.args.v c.index.result.now c.deref.result.now c.row.result.now c.self.view_is c.self.invariant.0 c.requires.node c.requires.within c.index.ensures c.deref.ensures.value c.row.ensures)

@@ -4,11 +4,11 @@ use Rattle.hub_index.proofs.split_rows.SplitRows.put_row.Goals as goal
 
 pub index_mut-requires : goal.index_mut-requires
 index_mut-requires c =
-    let within = within_parts c.self.inside.narrow.items c.self.inside.wide c.args.self.now c.args.v c.self.view_is c.self.invariant.0 c.requires.within in
-    omega (arith, within, c.requires.node, c.self.inside.narrow.ok.0, c.self.invariant.0)
+    let within = within_parts c.self.inside.compact.items c.self.inside.full c.args.self.now c.args.v c.self.view_is c.self.invariant.0 c.requires.within in
+    omega (arith, within, c.requires.node, c.self.inside.compact.ok.0, c.self.invariant.0)
 
 pub put_row-requires-clause-within : goal.put_row-requires-clause-within
-put_row-requires-clause-within c = within_parts c.self.inside.narrow.items c.self.inside.wide c.args.self.now c.args.v c.self.view_is c.self.invariant.0 c.requires.within
+put_row-requires-clause-within c = within_parts c.self.inside.compact.items c.self.inside.full c.args.self.now c.args.v c.self.view_is c.self.invariant.0 c.requires.within
 
 pub returns : goal.returns
-returns c = both_put c.self.inside.narrow.items c.self.inside.wide c.args.self.now c.put_row.new.self (c.args.v - 1) c.args.narrow c.args.wide.items c.self.view_is c.put_row.ensures
+returns c = both_put c.self.inside.compact.items c.self.inside.full c.args.self.now c.put_row.new.self (c.args.v - 1) c.args.compact c.args.full.items c.self.view_is c.put_row.ensures

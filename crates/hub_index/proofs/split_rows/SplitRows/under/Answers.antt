@@ -1,20 +1,20 @@
 use Rattle.std.proofs.Common.{◌≡◌, sym, ap, subst, ◌∙◌}
 use Rattle.std.proofs.lemmas.List.{length-map}
-use Rattle.hub_index.specs.NarrowRows.{rows_after}
+use Rattle.hub_index.specs.CompactRows.{rows_after}
 use Rattle.hub_index.specs.WellFormed.{IsWellFormed}
 use Rattle.hub_index.proofs.LentRows.{rows_after-parts}
-use Rattle.hub_index.proofs.PartedRows.{narrow_lists}
+use Rattle.hub_index.proofs.PartedRows.{compact_lists}
 use Rattle.hub_index.proofs.split_rows.SplitRows.under.Goals as goal
 use Rattle.hub_index.proofs.split_rows.SplitRows.under.Goals.{After-list}
 
 -- the rows that are lent are those of both parts
-lent : (c : After-list) → rows_after (narrow_lists c.deref.result.now) c.list.result.now ≡ c.args.self.now
+lent : (c : After-list) → rows_after (compact_lists c.deref.result.now) c.list.result.now ≡ c.args.self.now
 lent c =
-    let narrow = c.self.inside.narrow.items in
-    let wide = c.self.inside.wide in
-    ap (λ rows. rows_after (narrow_lists rows) c.list.result.now) c.deref.ensures.value
-    ∙ ap (rows_after (narrow_lists narrow)) c.list.ensures
-    ∙ rows_after-parts (narrow_lists narrow) wide (length-map narrow (λ row. row.items) ∙ c.self.invariant.0)
+    let compact = c.self.inside.compact.items in
+    let full = c.self.inside.full in
+    ap (λ rows. rows_after (compact_lists rows) c.list.result.now) c.deref.ensures.value
+    ∙ ap (rows_after (compact_lists compact)) c.list.ensures
+    ∙ rows_after-parts (compact_lists compact) full (length-map compact (λ row. row.items) ∙ c.self.invariant.0)
     ∙ c.self.view_is
 
 pub invariant_of-result : goal.invariant_of-result

@@ -1,7 +1,6 @@
-use Rattle.std.proofs.Common.{sym, ap, subst, ◌∙◌}
+use Rattle.std.proofs.Common.{sym, ap, ◌∙◌}
 use Rattle.std.specs.Prelude.{None}
 use Rattle.std.proofs.lemmas.List.{append-nil}
-use Rattle.hub_index.specs.RootDistances.{HoldsRow}
 use Rattle.label_rows.specs.Lawful.{Sitter}
 use Rattle.label_rows.proofs.HandVisits.{seated, one_visit, row_found, seen_after}
 use Rattle.label_rows.proofs.hand.RowHandRowView.load_root.Goals as goal
@@ -16,7 +15,7 @@ returns-clause-visit g c =
     let now = one_visit _ _ _ c.take-row.new.seat.me.0 _ c.args.h row row None c.args.self.now taken (ap (λ view. view.knows.hold) took) (c.give.ensures.same.0 ∙ c.take-row.ensures.same.0) (ap (λ (me : Sitter). me.0) c.give.ensures.gave) (sym (append-nil row)) in (
       row,
       found,
-      subst (HoldsRow c.load.new.self) (c.as_slice.ensures.value ∙ c.row.view_is) c.load.ensures.held,
+      c.load.ensures.held,
       now,
       seen_after c.args.self.now _ c.args.h row None now found.goes_on ∙ append-nil row,
     )

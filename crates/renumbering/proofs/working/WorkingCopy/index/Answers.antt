@@ -8,7 +8,7 @@ use Rattle.renumbering.proofs.working.WorkingCopy.index.Goals as goal
 use Rattle.renumbering.proofs.working.WorkingCopy.index.Goals.{In_ok-back}
 
 labelled : (c : In_ok-back) → IsChl (Joined c.args.graph.now.edges) c.args.ranking.now c.in_ok-back.back
-labelled c = labelling_back c.args.graph.now c.args.ranking.now c.args.self c.args.rows c.in_ok-back.back c.requires.copy c.n-toured.ensures.ranking c.n-ranked.ensures.ranking c.requires.nodes c.requires.labelling c.in_ok-back.ensures.size c.in_ok-back.ensures.rows
+labelled c = labelling_back c.args.graph.now c.args.ranking.now c.args.self c.args.rows c.in_ok-back.back c.requires.copy c.n-bfs_ordered.ensures.ranking c.n-ranked.ensures.ranking c.requires.nodes c.requires.labelling c.in_ok-back.ensures.size c.in_ok-back.ensures.rows
 
 pub new-requires : goal.new-requires
 new-requires c =

@@ -1,0 +1,7 @@
+use Rattle.chl_words.proofs.literal.built.Goals as goal
+
+pub returns : goal.returns
+returns c =
+    let one = c.with_option-command.ensures _ _ c.files.ensures c.construction.ensures in
+    let two = c.with_option-command-2.ensures _ _ one c.workers.ensures in
+    c.with_option.ensures _ _ two c.cut.ensures

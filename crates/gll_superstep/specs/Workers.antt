@@ -1,0 +1,82 @@
+-- The workers of a superstep: what each takes, and what each hands back.
+use Rattle.std.specs.Prelude.{◌≡◌, ◌⊎◌, ℕ, ◌+◌, ◌*◌, ◌≤◌, true, false, List, Result, [], None, All, Contains, IfOk, length, map, nat_eq}
+use Rattle.std.specs.List.{IsDistinct}
+use Rattle.std.specs.declared.alloc.AllocError.{AllocError}
+use Rattle.walk_laws.specs.declared.graph.Edge.{Edge}
+use Rattle.walk_laws.specs.declared.entry.Entry.{Entry}
+use Rattle.walk_laws.specs.Joined.{Joined}
+use Rattle.walk_laws.specs.Labelling.{EntryFits, IsHubEntry}
+use Rattle.hub_index.specs.declared.node_entry.NodeEntry.{NodeEntry}
+use Rattle.hub_index.specs.NodeEntries.{entries_of_node}
+use Rattle.hub_index.specs.Views.{IsNode}
+use Rattle.root_claims.specs.Seats.{Claimed, ClaimsId, IsSeatOf as IsClaimSeatOf}
+use Rattle.label_pool.specs.Seats.{PoolId, IsSeatOf, Seated}
+use Rattle.label_clean.specs.Needless.{IsNeedless}
+use Rattle.pool_view.specs.Fitting.{Fitting, IsFittingPool, edges_of, order_of}
+use Rattle.pool_view.specs.Putting.{IsListOf}
+use Rattle.gll_superstep.specs.declared.growing.Seats.{Seats}
+
+-- the seats are of these claims and this pool, and so many may still be split from each
+pub record AreSeatsOf (claims : ClaimsId) (pool : PoolId Fitting) (left : ℕ) (seats : Seats) : Type 0 where
+  pub claim_seat : IsClaimSeatOf claims seats.claims
+  pub pool_seat : IsSeatOf pool seats.pool
+  pub claim_left : seats.claims.left ≡ left
+  pub pool_left : seats.pool.left ≡ left
+
+-- nothing was done with the seats yet
+pub record AreNew (seats : Seats) : Type 0 where
+  pub over : seats.claims.over ≡ false
+  pub got : seats.claims.got ≡ []
+  pub puts : seats.pool.puts ≡ []
+  pub past : seats.pool.past ≡ None
+  pub seen : (seats.pool.looks ≡ []) × (seats.pool.marks ≡ [])
+
+-- the pool is of the nodes of this graph under this ranking, its entries may stand in their rows, and each seat can draw a block
+pub record IsPoolOf (edges : List Edge) (order : List ℕ) (pool : PoolId Fitting) : Type 0 where
+  pub fitting : IsFittingPool pool
+  pub edges_are : edges_of pool.fact ≡ edges
+  pub order_is : order_of pool.fact ≡ order
+  pub each : pool.seats * pool.block ≤ pool.cells
+
+-- such a pool, and its first seat, with which nothing was done, and from which those of all workers may be split
+pub record IsNextPool (edges : List Edge) (order : List ℕ) (workers : ℕ) (pool : PoolId Fitting) (seat : Seated Fitting) : Type 0 where
+  pub pool_is : IsPoolOf edges order pool
+  pub seat_is : IsSeatOf pool seat
+  pub left : seat.left + 1 ≡ workers
+  pub puts : seat.puts ≡ []
+  pub past : seat.past ≡ None
+  pub seen : (seat.looks ≡ []) × (seat.marks ≡ [])
+
+-- the global rows of the hub of each entry and of the node v cover none
+abbrev pub AreUncovered : List ℕ → List (List Entry) → ℕ → List Entry → Type 0
+AreUncovered at global v entries = All (λ e. ¬ IsNeedless at global v e) entries
+
+-- where they cover nothing that was put before, they cover nothing that was put by then
+abbrev pub StayUncovered : List ℕ → List (List Entry) → (ℕ → List Entry) → (ℕ → List Entry) → Type 0
+StayUncovered at global before after = (v : ℕ) → IsNode (length at) v → AreUncovered at global v (before v) → AreUncovered at global v (after v)
+
+-- some root was claimed with the seat, or none was left
+abbrev pub HasBegun : Claimed → Type 0
+HasBegun seat = (seat.over ≡ true) ⊎ (1 ≤ length seat.got)
+
+-- the entries, in any order, are what the trees of these roots put at v: such as may stand in its row, at most one for each root and none for another, and each root that is a hub of v
+pub record IsPutBy (edges : List Edge) (at roots : List ℕ) (v : ℕ) (entries : List Entry) : Type 0 where
+  pub fit : All (EntryFits (Joined edges) at v) entries
+  pub once : IsDistinct nat_eq (map (λ e. e.pos) entries)
+  pub of_roots : All (λ e. Contains roots e.pos) entries
+  pub hubs : (e : Entry) → IsHubEntry (Joined edges) at v e → Contains roots e.pos → Contains entries e
+
+-- the list is what the trees of these roots put, and this global table covers none of it
+pub record HavePut (edges : List Edge) (at : List ℕ) (global : List (List Entry)) (roots : List ℕ) (list : List NodeEntry) : Type 0 where
+  pub nodes : All (λ e. IsNode (length at) e.node) list
+  pub put : (v : ℕ) → IsNode (length at) v → IsPutBy edges at roots v (entries_of_node list v)
+  pub apart : (v : ℕ) → IsNode (length at) v → AreUncovered at global v (entries_of_node list v)
+
+-- some root was claimed with the seats, or none was left; the list is of the ranking's nodes, and is what its seat put in the superstep's pool, where all workers see it, and after that what there was no cell for; and where memory sufficed the trees of all roots that were claimed are grown over the global table, the list is what they put, and the roots are listed
+pub record IsDone (edges : List Edge) (at : List ℕ) (pool : PoolId Fitting) (global : List (List Entry)) (seats : Seats) (list : List NodeEntry) (listed : List ℕ) (memory : Result (Unit {0}) AllocError) : Type 0 where
+  pub begun : HasBegun seats.claims
+  pub nodes : All (λ e. IsNode (length at) e.node) list
+  pub seat : IsSeatOf pool seats.pool
+  pub puts : IsListOf seats.pool list
+  pub sufficed : IfOk memory (λ _. HavePut edges at global seats.claims.got list)
+  pub roots : IfOk memory (λ _. listed ≡ seats.claims.got)

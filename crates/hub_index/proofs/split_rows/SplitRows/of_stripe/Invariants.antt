@@ -1,7 +1,0 @@
-use Rattle.std.proofs.Common.{◌≡◌, ◌-◌, [], ◌++◌, length, replicate, take}
-use Rattle.hub_index.specs.Stripes.{stripe_of, stripe_size}
-use Rattle.hub_index.proofs.split_rows.SplitRows.of_stripe.Given as goal
-
--- so many rows are copied, and the others are empty
-abbrev pub invariant-loop-k : goal.invariant-loop-k
-invariant-loop-k l = l.rows ≡ take l.k (stripe_of l.fn.dealt.shift l.fn.number l.fn.list) ++ replicate (stripe_size l.fn.dealt.shift (length l.fn.list) l.fn.number - l.k) []
