@@ -13,6 +13,7 @@ use desk_io::{FreeGate, Gate};
 use gll_build::build_gll;
 use grid_work::grid_graph;
 use hub_index::Index;
+use hybrid_build::build_hybrid;
 use index_file::encode;
 use lcc_build::build_lcc;
 use plant_build::build_plant;
@@ -35,12 +36,13 @@ fn grid<R: Abort>(rt: &R, alloc: Global, side: u32) -> Result<(Graph, Ranking), 
     Ok((graph, ranking))
 }
 
-/// A construction with its number of workers, from 1 to 64, and its cut.
+/// A construction with its number of workers, from 1 to 64, its cut, and how many roots a hybrid one plants.
 #[derive(Clone, Copy, Debug)]
 struct Built {
     by: By,
     workers: u32,
     cut: u32,
+    eta: u32,
 }
 
 /// The index that a construction gives, watched by a gate.
@@ -53,7 +55,12 @@ fn build<R: Abort + AllocGlobal + Threads + Wait + Sync, G: Gate + Sync>(
 ) -> Result<Index, Fail>
     requires { length ranking.now ≡ graph.now.n }
 {
-    let Built { by, workers, cut } = built;
+    let Built {
+        by,
+        workers,
+        cut,
+        eta,
+    } = built;
     assert!(rt; 1 <= workers && workers <= 64);
     assert!(rt; 1 <= cut && cut <= 1 << 30);
     let alloc = rt.alloc();
@@ -61,6 +68,7 @@ fn build<R: Abort + AllocGlobal + Threads + Wait + Sync, G: Gate + Sync>(
         By::Plant => build_plant(rt, alloc, graph, ranking, workers, cut, gate),
         By::Lcc => build_lcc(rt, alloc, graph, ranking, workers, gate),
         By::Gll => build_gll(rt, alloc, graph, ranking, workers, cut, gate),
+        By::Hybrid => build_hybrid(rt, alloc, graph, ranking, workers, cut, eta, gate),
     };
     Ok(made?)
 }

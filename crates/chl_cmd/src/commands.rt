@@ -69,7 +69,7 @@ pub fn output<R: Threads + Wait + Sync, D: Desk, G: Gate + Sync>(
             graph,
             order,
             index,
-        } => audit_output(alloc, graph, order, index, desk),
+        } => audit_output(rt, alloc, graph, order, index, desk),
         Asked::Degree { graph } => degree_output(alloc, graph, desk),
         Asked::Rank { graph } => rank_output(rt, alloc, graph, desk),
         Asked::Grid(grid) => text_output(alloc, grid_text(rt, alloc, *grid, gate)),

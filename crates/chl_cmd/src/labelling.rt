@@ -7,6 +7,7 @@ use chl_words::{By, Construction};
 use desk_io::Gate;
 use gll_build::build_gll;
 use hub_index::Index;
+use hybrid_build::build_hybrid;
 use lcc_build::build_lcc;
 use plant_build::build_plant;
 use rank_table::Ranking;
@@ -47,6 +48,16 @@ pub fn labelling<R: Threads + Wait + Sync, G: Gate + Sync>(
             ranking,
             construction.workers,
             construction.cut,
+            gate,
+        ),
+        By::Hybrid => build_hybrid(
+            rt,
+            alloc,
+            graph,
+            ranking,
+            construction.workers,
+            construction.cut,
+            construction.eta,
             gate,
         ),
     }

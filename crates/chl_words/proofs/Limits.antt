@@ -5,7 +5,7 @@ use Rattle.std.specs.Option.{option_zip}
 use Rattle.std.specs.Str.{bytes_eq}
 use Rattle.std.proofs.lemmas.Bool.{leb-true}
 use Rattle.clap.specs.Words.{Kinds, Row, Text, fault_of, subcommand_of}
-use Rattle.chl_words.specs.Asking.{◌&◌, AreWithinLimits, IsWithinLimits, Values, any_number_of, asked_by, asked_in, asked_of, audit_of, build_of, construction_of, degree_of, greatest_seed, grid_of, list_of, longest_side, most_roots, most_workers, number_in, path_of, query_of, rank_of, solve_of, unless_refused, values_in, within}
+use Rattle.chl_words.specs.Asking.{◌&◌, AreWithinLimits, IsWithinLimits, Values, any_number_of, asked_by, asked_in, asked_of, audit_of, build_of, construction_of, degree_of, greatest_seed, grid_of, list_of, longest_side, most_planted, most_roots, most_workers, number_in, path_of, query_of, rank_of, solve_of, unless_refused, values_in, within}
 use Rattle.chl_words.specs.Literal.{program}
 use Rattle.chl_words.specs.declared.asked.Asked.{Asked}
 use Rattle.chl_words.specs.declared.asked.Asked.TheVariants.{List as ListRows, Build, Solve, Query, Path, Audit, Degree, Rank, Grid}
@@ -46,9 +46,9 @@ between least most (Some word) =
 
 pub construction_within : (value : Values) → IfSome (construction_of value) (λ built. AreWithinLimits built.workers built.cut)
 construction_within value =
-    mapped (λ p. (Unit {0} × IsBetween 1 most_workers p.0.1) × IsBetween 1 most_roots p.1) (λ built. AreWithinLimits built.workers built.cut) _ _
-    (zipped _ _ _ _ (zipped _ _ _ _ (anything _) (between 1 most_workers (value (codes "workers")))) (between 1 most_roots (value (codes "cut"))))
-    (λ p is. (is.0.1.0, is.0.1.1, is.1.0, is.1.1))
+    mapped (λ p. ((Unit {0} × IsBetween 1 most_workers p.0.0.1) × IsBetween 1 most_roots p.0.1) × IsBetween 0 most_planted p.1) (λ built. AreWithinLimits built.workers built.cut) _ _
+    (zipped _ _ _ _ (zipped _ _ _ _ (zipped _ _ _ _ (anything _) (between 1 most_workers (value (codes "workers")))) (between 1 most_roots (value (codes "cut")))) (between 0 most_planted (value (codes "eta"))))
+    (λ p is. (is.0.0.1.0, is.0.0.1.1, is.0.1.0, is.0.1.1))
 
 -- a command of files alone has no number, and one with a construction those of it
 free : {A : Type 0} (f : A → Asked) (a : Option A) → ((x : A) → IsWithinLimits (f x)) → IfSome (option_map f a) IsWithinLimits

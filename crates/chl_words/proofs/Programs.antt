@@ -101,11 +101,11 @@ list_is = record { enters = record { walks = refl; turns = refl; found = refl };
 
 build_is : IsJudged literal.build
 unfolding clap_on_literals
-build_is = record { enters = record { walks = refl; turns = refl; found = refl }; distinct = (refl, (refl, (refl, (refl, (refl, (refl, tt)))))); pass = (refl, (refl, (refl, (refl, (refl, (refl, tt)))))) }
+build_is = record { enters = record { walks = refl; turns = refl; found = refl }; distinct = (refl, (refl, (refl, (refl, (refl, (refl, (refl, tt))))))); pass = (refl, (refl, (refl, (refl, (refl, (refl, (refl, tt))))))) }
 
 solve_is : IsJudged literal.solve
 unfolding clap_on_literals
-solve_is = record { enters = record { walks = refl; turns = refl; found = refl }; distinct = (refl, (refl, (refl, (refl, (refl, (refl, tt)))))); pass = (refl, (refl, (refl, (refl, (refl, (refl, tt)))))) }
+solve_is = record { enters = record { walks = refl; turns = refl; found = refl }; distinct = (refl, (refl, (refl, (refl, (refl, (refl, (refl, tt))))))); pass = (refl, (refl, (refl, (refl, (refl, (refl, (refl, tt))))))) }
 
 query_is : IsJudged literal.query
 unfolding clap_on_literals

@@ -8,7 +8,7 @@ use Rattle.clap.specs.ValueTests.{is_numeral}
 use Rattle.chl_words.specs.Literal.{program}
 use Rattle.chl_words.specs.declared.asked.By.{By}
 use Rattle.chl_words.specs.declared.asked.Construction.{Construction}
-use Rattle.chl_words.specs.declared.asked.By.TheVariants.{Plant, Lcc, Gll}
+use Rattle.chl_words.specs.declared.asked.By.TheVariants.{Plant, Lcc, Gll, Hybrid}
 use Rattle.chl_words.specs.declared.asked.Asked.{Asked}
 use Rattle.chl_words.specs.declared.asked.Asked.TheVariants.{List as ListRows, Build, Solve, Query, Path, Audit, Degree, Rank, Grid}
 
@@ -26,7 +26,8 @@ abbrev pub by_of : Text → Option By
 by_of word =
     if bytes_eq word (codes "plant") then Some Plant
     else (if bytes_eq word (codes "lcc") then Some Lcc
-    else (if bytes_eq word (codes "gll") then Some Gll else None))
+    else (if bytes_eq word (codes "gll") then Some Gll
+    else (if bytes_eq word (codes "hybrid") then Some Hybrid else None)))
 
 -- the number below 2^32 that a word is: digits, which may have zeros or one plus before them
 abbrev pub any_number_of : Text → Option ℕ
@@ -42,12 +43,15 @@ within least most n = if nat_le least n && nat_le n most then Some n else None
 abbrev pub number_of : ℕ → ℕ → Text → Option ℕ
 number_of least most word = option_and_then (within least most) (any_number_of word)
 
--- how many workers there may be, and how great the cut may be
+-- how many workers there may be, how great the cut may be, and how many roots may be planted
 abbrev pub most_workers : ℕ
 most_workers = 64
 
 abbrev pub most_roots : ℕ
 most_roots = 2 ^ 30
+
+abbrev pub most_planted : ℕ
+most_planted = 2 ^ 30
 
 -- how long the side of a grid may be, and how great the seed of its weights
 abbrev pub longest_side : ℕ
@@ -66,8 +70,8 @@ workers_of value = number_in 1 most_workers (value (codes "workers"))
 -- how an index is to be built, by the options that may be left out
 abbrev pub construction_of : Values → Option Construction
 construction_of value =
-    option_map (λ p. record { by = p.0.0; workers = p.0.1; cut = p.1 })
-    (option_and_then by_of (value (codes "by")) & workers_of value & number_in 1 most_roots (value (codes "cut")))
+    option_map (λ p. record { by = p.0.0.0; workers = p.0.0.1; cut = p.0.1; eta = p.1 })
+    (option_and_then by_of (value (codes "by")) & workers_of value & number_in 1 most_roots (value (codes "cut")) & number_in 0 most_planted (value (codes "eta")))
 
 -- what each command asks for, by the values of its options
 abbrev pub list_of : Values → Option Asked

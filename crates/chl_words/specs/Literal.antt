@@ -25,17 +25,21 @@ construction = record (option_named (codes "by")) { defaults = codes "plant" ∷
 abbrev pub number_needed : Text → ℕ → ℕ → Rule
 number_needed name least most = record (option_named name) { parser = Some (Unsigned least most); required = true }
 
--- one with a number from 1 to a limit, and this number where it is left out
-abbrev pub number : Text → ℕ → Text → Rule
-number name most default = record (option_named name) { parser = Some (Unsigned 1 most); defaults = default ∷ [] }
+-- one with a number between two limits, and this number where it is left out
+abbrev pub number : Text → ℕ → ℕ → Text → Rule
+number name least most default = record (option_named name) { parser = Some (Unsigned least most); defaults = default ∷ [] }
 
 -- how many workers there are, one where it is left out
 abbrev pub workers : Rule
-workers = number (codes "workers") 64 (codes "1")
+workers = number (codes "workers") 1 64 (codes "1")
 
 -- how work is cut, 1024 where it is left out: how many roots a batch may have, or how many entries a worker puts at least in a superstep
 abbrev pub cut : Rule
-cut = number (codes "cut") (2 ^ 30) (codes "1024")
+cut = number (codes "cut") 1 (2 ^ 30) (codes "1024")
+
+-- how many of the first roots a hybrid construction plants, 16 where it is left out
+abbrev pub eta : Rule
+eta = number (codes "eta") 0 (2 ^ 30) (codes "16")
 
 -- ---- commands
 
@@ -48,7 +52,7 @@ files name options = command name (map file options)
 
 -- the same, with the options of a build that may be left out
 abbrev pub built : Text → List Text → Shape
-built name options = command name (map file options ++ construction ∷ [] ++ workers ∷ [] ++ cut ∷ [])
+built name options = command name (map file options ++ construction ∷ [] ++ workers ∷ [] ++ cut ∷ [] ++ eta ∷ [])
 
 abbrev pub list : Shape
 list = files (codes "list") (codes "graph" ∷ codes "order" ∷ [])

@@ -44,6 +44,8 @@ pub enum By {
     Lcc,
     /// Pruned trees in supersteps: each superstep cleans its own entries, and the next one reads what is clean.
     Gll,
+    /// Planted trees of the first roots, and then pruned trees in supersteps that begin with their rows.
+    Hybrid,
 }
 
 /// How an index is to be built.
@@ -54,6 +56,8 @@ pub struct Construction {
     pub workers: u32,
     /// How many roots a worker takes at a time: 1..2^30.
     pub cut: u32,
+    /// How many of the first roots are planted: 0..2^30. Only [`By::Hybrid`] has a use for it.
+    pub eta: u32,
 }
 
 /// A square grid, and how its index is to be built.
@@ -115,7 +119,7 @@ pub enum Asked {
     Rank {
         graph: Name,
     },
-    /// Print what the index of a square grid comes to by each construction, under the order by falling degree.
+    /// Print what the index of a square grid comes to by three constructions, under the order by falling degree.
     Grid(Grid),
 }
 

@@ -15,6 +15,9 @@ pub const MOST_WORKERS: u32 = 64;
 /// The most roots that a worker may take at a time.
 pub const MOST_ROOTS: u32 = 1 << 30;
 
+/// The most roots of which a hybrid construction may be asked to plant the trees.
+pub const MOST_PLANTED: u32 = 1 << 30;
+
 /// The longest side of a grid.
 pub const LONGEST_SIDE: u32 = 256;
 
@@ -23,6 +26,9 @@ pub const GREATEST_SEED: u32 = (1 << 31) - 1;
 
 /// How many roots a worker takes at a time, where the command line doesn't say.
 const USUAL_ROOTS: &str = "1024";
+
+/// How many roots a hybrid construction plants, where the command line doesn't say.
+const USUAL_PLANTED: &str = "16";
 
 /// The program, with a subcommand for each of its commands.
 pub fn program<'a>(alloc: Global) -> Result<Command<'a>, AllocError>
@@ -60,7 +66,8 @@ fn built<'a>(alloc: Global, name: &'a str, options: &[&'a str]) -> Result<Comman
 {
     let command = with_option(files(alloc, name, options), construction(alloc));
     let command = with_option(command, workers(alloc));
-    with_option(command, cut(alloc))
+    let command = with_option(command, cut(alloc));
+    with_option(command, eta(alloc))
 }
 
 fn grid<'a>(alloc: Global) -> Result<Command<'a>, AllocError>
@@ -118,7 +125,7 @@ fn construction<'a>(alloc: Global) -> Arg<'a>
 fn workers<'a>(alloc: Global) -> Arg<'a>
     ensures { IsOption literal.workers result }
 {
-    number(alloc, "workers", MOST_WORKERS, "1")
+    number(alloc, "workers", 1, MOST_WORKERS, "1")
 }
 
 /// The option that says how work is cut: how many roots a batch may have, or how many entries a worker puts at least in a
@@ -126,7 +133,14 @@ fn workers<'a>(alloc: Global) -> Arg<'a>
 fn cut<'a>(alloc: Global) -> Arg<'a>
     ensures { IsOption literal.cut result }
 {
-    number(alloc, "cut", MOST_ROOTS, USUAL_ROOTS)
+    number(alloc, "cut", 1, MOST_ROOTS, USUAL_ROOTS)
+}
+
+/// The option that says how many of the first roots a hybrid construction plants.
+fn eta<'a>(alloc: Global) -> Arg<'a>
+    ensures { IsOption literal.eta result }
+{
+    number(alloc, "eta", 0, MOST_PLANTED, USUAL_PLANTED)
 }
 
 /// An option that must be there, with a number between two limits.
@@ -138,11 +152,11 @@ fn number_needed<'a>(alloc: Global, name: &'a str, least: u32, most: u32) -> Arg
         .value_parser(ValueParser::unsigned(u64::from(least), u64::from(most)))
 }
 
-/// An option with a number from 1 to a limit, and this number where it is left out.
-fn number<'a>(alloc: Global, name: &'a str, most: u32, default: &'a str) -> Arg<'a>
-    ensures { IsOption (literal.number name.entry.now most default.entry.now) result }
+/// An option with a number between two limits, and this number where it is left out.
+fn number<'a>(alloc: Global, name: &'a str, least: u32, most: u32, default: &'a str) -> Arg<'a>
+    ensures { IsOption (literal.number name.entry.now least most default.entry.now) result }
 {
     option(alloc, name)
-        .value_parser(ValueParser::unsigned(1, u64::from(most)))
+        .value_parser(ValueParser::unsigned(u64::from(least), u64::from(most)))
         .default_value(default)
 }

@@ -8,7 +8,9 @@ ghost use Rattle.chl_words.specs.Reading.{IsRead};
 ghost use Rattle.chl_words.specs.declared.asked.AskFault.TheVariants.{Usage};
 
 use crate::asked::{AskFault, Asked, By, Construction, Grid, Name};
-use crate::literal::{GREATEST_SEED, LONGEST_SIDE, MOST_ROOTS, MOST_WORKERS, program};
+use crate::literal::{
+    GREATEST_SEED, LONGEST_SIDE, MOST_PLANTED, MOST_ROOTS, MOST_WORKERS, program,
+};
 use clap::error::ErrorKind;
 use clap::{ArgMatches, Error};
 use std::alloc::Global;
@@ -169,6 +171,7 @@ fn construction(found: &ArgMatches<'_>) -> Result<Construction, AskFault>
         by: by(found)?,
         workers: workers(found)?,
         cut: number(found, "cut", 1, MOST_ROOTS)?,
+        eta: number(found, "eta", 0, MOST_PLANTED)?,
     })
 }
 
@@ -210,6 +213,7 @@ fn by_of(word: &str) -> Option<By>
         "plant" => Some(By::Plant),
         "lcc" => Some(By::Lcc),
         "gll" => Some(By::Gll),
+        "hybrid" => Some(By::Hybrid),
         _ => None,
     }
 }

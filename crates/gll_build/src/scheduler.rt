@@ -1,13 +1,9 @@
 //! What is to be done in a build, and what is done.
 ghost use Rattle.std.specs.Prelude.{◌≤◌};
 
-use crate::merge_tasks::{Merging, begin_merging};
-use crate::merging::{MergeTask, Merged};
-use crate::putting_together::merged_table;
-use gll_superstep::{
-    Build, BuildContext, GrowTask, NextPool, Superstep, Table, WorkerOutput, Workspace,
-    begin_superstep,
-};
+use gll_merge::{MergeTask, Merged, Merging, begin_merging, merged_table};
+use gll_superstep::{GrowTask, NextPool, Superstep, begin_superstep};
+use gll_table::{Build, BuildContext, Table, WorkerOutput, Workspace};
 use std::alloc::{AllocError, Global};
 use std::hint::spin_loop;
 use std::mem::replace;

@@ -4,7 +4,7 @@ ghost use Rattle.std.specs.Thread.{IsSend, IsSync};
 
 use crate::scheduler::{LastTable, Scheduler, Task};
 use desk_io::Gate;
-use gll_superstep::{Build, BuildContext, Table};
+use gll_table::{Build, BuildContext, Table};
 use label_clean::Cleaner;
 use std::alloc::AllocError;
 use std::sync::Wait;

@@ -13,7 +13,7 @@ use Rattle.label_pool.specs.Seats.{PoolId}
 use Rattle.pool_view.specs.Fitting.{Fitting}
 use Rattle.gll_superstep.specs.declared.growing.Seats.{Seats}
 use Rattle.gll_superstep.specs.Workers.{AreUncovered, HavePut, IsDone}
-use Rattle.gll_superstep.proofs.PutBy.{IsPutBy-from_grown}
+use Rattle.gll_table.proofs.PutBy.{IsPutBy-from_grown}
 
 pub grown_from_nothing : (edges : List Edge) (at : List ℕ) (whole : Type 0) (old now : List ℕ) (before after entries : ℕ → List Entry) → HasGrown edges at whole old now before after → old ≡ [] → ((v : ℕ) → IsNode (length at) v → before v ≡ []) → ((v : ℕ) → after v ≡ entries v)
     → (v : ℕ) → IsNode (length at) v → IsGrownBy edges at now whole v [] (entries v)

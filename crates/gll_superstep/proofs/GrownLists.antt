@@ -14,7 +14,7 @@ use Rattle.label_clean.specs.Joining.{IsCoveredBelow}
 use Rattle.label_clean.specs.Needless.{IsNeedless}
 use Rattle.label_clean.proofs.Cleaned.{hub_node}
 use Rattle.label_clean.proofs.Covering.{covered, entry}
-use Rattle.gll_superstep.specs.Growing.{HavePutOver}
+use Rattle.gll_table.specs.Outputs.{HavePutOver}
 use Rattle.gll_superstep.specs.Workers.{HavePut}
 
 module _ (edges : List Edge) (at : List ℕ) (ranking : IsRanking at) (first : ℕ) (global : List (List Entry)) (chl : IsChlBelow edges at first global) where

@@ -1,10 +1,3 @@
-pub mod PartEntries
-pub mod ListedHubs
-pub mod PartLists
-pub mod PutBy
 pub mod DoneWorkers
 pub mod UncoveredPuts
-pub mod ShardedTables
-pub mod PlacedShards
 pub mod GrownLists
-pub mod OutputHubs

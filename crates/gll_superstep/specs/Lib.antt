@@ -1,4 +1,1 @@
 pub mod Workers
-pub mod Partition
-pub mod Growing
-pub mod Tables

@@ -1,11 +1,8 @@
 -- The workers of a superstep: what each takes, and what each hands back.
-use Rattle.std.specs.Prelude.{◌≡◌, ◌⊎◌, ℕ, ◌+◌, ◌*◌, ◌≤◌, true, false, List, Result, [], None, All, Contains, IfOk, length, map, nat_eq}
-use Rattle.std.specs.List.{IsDistinct}
+use Rattle.std.specs.Prelude.{◌≡◌, ◌⊎◌, ℕ, ◌+◌, ◌*◌, ◌≤◌, true, false, List, Result, [], None, All, IfOk, length}
 use Rattle.std.specs.declared.alloc.AllocError.{AllocError}
 use Rattle.walk_laws.specs.declared.graph.Edge.{Edge}
 use Rattle.walk_laws.specs.declared.entry.Entry.{Entry}
-use Rattle.walk_laws.specs.Joined.{Joined}
-use Rattle.walk_laws.specs.Labelling.{EntryFits, IsHubEntry}
 use Rattle.hub_index.specs.declared.node_entry.NodeEntry.{NodeEntry}
 use Rattle.hub_index.specs.NodeEntries.{entries_of_node}
 use Rattle.hub_index.specs.Views.{IsNode}
@@ -14,7 +11,15 @@ use Rattle.label_pool.specs.Seats.{PoolId, IsSeatOf, Seated}
 use Rattle.label_clean.specs.Needless.{IsNeedless}
 use Rattle.pool_view.specs.Fitting.{Fitting, IsFittingPool, edges_of, order_of}
 use Rattle.pool_view.specs.Putting.{IsListOf}
+use Rattle.gll_table.specs.Outputs.{IsPutBy}
+use Rattle.gll_table.specs.Tables.{ShardedTable}
 use Rattle.gll_superstep.specs.declared.growing.Seats.{Seats}
+
+-- what contracts see of a superstep
+pub record SuperstepView : Type 0 where
+  pub table : ShardedTable
+  pub claims : ClaimsId
+  pub pool : PoolId Fitting
 
 -- the seats are of these claims and this pool, and so many may still be split from each
 pub record AreSeatsOf (claims : ClaimsId) (pool : PoolId Fitting) (left : ℕ) (seats : Seats) : Type 0 where
@@ -58,13 +63,6 @@ StayUncovered at global before after = (v : ℕ) → IsNode (length at) v → Ar
 -- some root was claimed with the seat, or none was left
 abbrev pub HasBegun : Claimed → Type 0
 HasBegun seat = (seat.over ≡ true) ⊎ (1 ≤ length seat.got)
-
--- the entries, in any order, are what the trees of these roots put at v: such as may stand in its row, at most one for each root and none for another, and each root that is a hub of v
-pub record IsPutBy (edges : List Edge) (at roots : List ℕ) (v : ℕ) (entries : List Entry) : Type 0 where
-  pub fit : All (EntryFits (Joined edges) at v) entries
-  pub once : IsDistinct nat_eq (map (λ e. e.pos) entries)
-  pub of_roots : All (λ e. Contains roots e.pos) entries
-  pub hubs : (e : Entry) → IsHubEntry (Joined edges) at v e → Contains roots e.pos → Contains entries e
 
 -- the list is what the trees of these roots put, and this global table covers none of it
 pub record HavePut (edges : List Edge) (at : List ℕ) (global : List (List Entry)) (roots : List ℕ) (list : List NodeEntry) : Type 0 where

@@ -1,20 +1,12 @@
 //! What a worker is to do in a superstep.
 
-use crate::context::BuildContext;
 use crate::growing::{Seats, grow_share};
-use crate::named::Build;
-use crate::outputs::WorkerOutput;
-use crate::partitioning::{list_hubs, partition};
 use crate::superstep::Superstep;
-use crate::workspace::Workspace;
 use desk_io::Gate;
+use gll_table::{Build, BuildContext, WorkerOutput, Workspace};
 use std::alloc::{AllocError, Global};
 use std::marker::Model;
 use std::sync::{Arc, Wait};
-
-/// Of how many positions from the first root's on a worker lists what it put at the nodes there, before anyone knows which
-/// root comes next.
-const NEXT_ROOTS: u32 = 1024;
 
 /// To grow trees in a superstep, with seats there and in a workspace. Contracts see the superstep.
 #[derive(Drop)]
@@ -25,7 +17,7 @@ pub struct GrowTask<B: Build> {
 }
 
 impl<B: Build> Model for GrowTask<B> {
-    ghost use Rattle.gll_superstep.specs.Growing.{SuperstepView};
+    ghost use Rattle.gll_superstep.specs.Workers.{SuperstepView};
     ghost use Rattle.gll_superstep.specs.Workers.{AreNew, AreSeatsOf};
 
     ghost Value = { SuperstepView };
@@ -50,25 +42,8 @@ impl<B: Build> GrowTask<B> {
             seats,
             workspace,
         } = self;
-        let (_, mut workspace, memory) = grow_share(
-            rt, context, &superstep, seats, workspace, gate,
-        );
+        let (_, workspace, memory) = grow_share(rt, context, &superstep, seats, workspace, gate);
         memory?;
-        let room = &mut workspace;
-        let first = superstep.table.first;
-        let far = first.saturating_add(NEXT_ROOTS);
-        partition(
-            context.alloc,
-            context.plan,
-            context.count,
-            &room.list,
-            &mut room.parts,
-        )?;
-        list_hubs(context.ranking, far, &room.list, &mut room.hubs)?;
-        Ok(WorkerOutput {
-            workspace,
-            first,
-            far,
-        })
+        WorkerOutput::new(context, workspace, superstep.table.first())
     }
 }

@@ -6,14 +6,12 @@ ghost use Rattle.pruned_tree.specs.GrownBy.{HasGrown};
 ghost use Rattle.hub_index.specs.Shards.{sharded_rows};
 ghost use Rattle.pool_view.specs.Fitting.{edges_of, order_of};
 ghost use Rattle.pool_view.specs.Viewing.{puts_row, view_kept};
-ghost use Rattle.gll_superstep.specs.Growing.{HavePutOver};
+ghost use Rattle.gll_table.specs.Outputs.{HavePutOver};
 ghost use Rattle.gll_superstep.specs.Workers.{AreSeatsOf, AreNew, IsDone, StayUncovered};
 
-use crate::context::BuildContext;
-use crate::named::Build;
 use crate::superstep::Superstep;
-use crate::workspace::Workspace;
 use desk_io::Gate;
+use gll_table::{Build, BuildContext, Workspace};
 use label_pool::PoolSeat;
 use pool_view::{Fits, PoolView};
 use pruned_tree::{Work, grow};

@@ -1,8 +1,7 @@
 //! The pool of a superstep before it begins.
 ghost use Rattle.std.specs.Prelude.{◌≡◌, ◌*◌, ◌/◌, ◌^◌, ◌≤◌, min};
 
-use crate::context::BuildContext;
-use crate::named::Build;
+use gll_table::{Build, BuildContext};
 use label_pool::{Pool, PoolSeat};
 use pool_view::Fits;
 use std::alloc::AllocError;

@@ -2,13 +2,10 @@
 ghost use Rattle.std.specs.Prelude.{◌≡◌, ℕ, ◌+◌, ◌-◌, ◌<◌, ◌≤◌, IfOk};
 ghost use Rattle.gll_superstep.specs.Workers.{AreNew, AreSeatsOf};
 
-use crate::context::BuildContext;
 use crate::grow_task::GrowTask;
 use crate::growing::Seats;
-use crate::named::Build;
 use crate::next_pool::NextPool;
-use crate::table::Table;
-use crate::workspace::Workspace;
+use gll_table::{Build, BuildContext, Table, Workspace};
 use label_pool::Pool;
 use pool_view::Fits;
 use root_claims::Claims;
@@ -29,7 +26,7 @@ pub struct Superstep<B: Build> {
 
 impl<B: Build> Model for Superstep<B> {
     ghost use Rattle.std.specs.Prelude.{◌≡◌, length};
-    ghost use Rattle.gll_superstep.specs.Growing.{SuperstepView};
+    ghost use Rattle.gll_superstep.specs.Workers.{SuperstepView};
     ghost use Rattle.gll_superstep.specs.Workers.{IsPoolOf};
 
     ghost Value = { SuperstepView };
@@ -84,7 +81,7 @@ fn superstep_over<B: Build>(
     } = next_pool;
     let (claims, claim_seat) = Claims::new(
         context.alloc,
-        table.first,
+        table.first(),
         context.graph.n(),
         context.workers,
     )?;

@@ -1,6 +1,7 @@
 pub mod OneEntry
 pub mod Searched
 pub mod Meets
+pub mod Prefix
 pub mod Around
 pub mod Verdicts
 pub mod Sound
@@ -8,3 +9,4 @@ pub mod Labelled
 pub mod Faults
 pub mod Decided
 pub mod Decisive
+pub mod JoinedRanges

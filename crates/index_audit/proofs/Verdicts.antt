@@ -1,14 +1,12 @@
 -- What the checks of an entry, one after the other, say of it.
-use Rattle.std.proofs.Common.{◌≡◌, ◌↔◌, ℕ, ◌+◌, ◌<◌, ◌≤◌, List, All, Contains, get_or, slice_get, Some, refl, sym, ap, subst, ◌∙◌, inl, inr, arith}
-use Rattle.std.proofs.lemmas.Bool.{cases_eq}
+use Rattle.std.proofs.Common.{◌≡◌, ℕ, ◌<◌, ◌≤◌, List, Contains, get_or, slice_get, Some, ap, subst, ◌∙◌, arith}
 use Rattle.std.proofs.lemmas.Option.{get_or_from_slice_get}
 use Rattle.walk_laws.specs.declared.entry.Entry.{Entry}
-use Rattle.walk_laws.specs.Ranking.{position_of}
 use Rattle.walk_laws.specs.Labelling.{label_row}
 use Rattle.hub_index.specs.WellFormed.{IsWellFormed}
 use Rattle.hub_query.proofs.RowFacts.{row_own}
-use Rattle.index_audit.specs.Checks.{MeetAt, IsFirstMeet, IsWalked, IsCoveredAt, IsCovered, IsRedundantBy, IsSoundEntry}
-use Rattle.index_audit.specs.Audited.{IsNeedless, AreSoundBefore}
+use Rattle.index_audit.specs.Checks.{MeetAt, IsFirstMeet, IsWalked, IsCoveredAt, IsCovered, IsSoundEntry}
+use Rattle.index_audit.specs.Audited.{IsNeedless}
 use Rattle.index_audit.proofs.Searched.{nothing}
 use Rattle.index_audit.proofs.Sound.{place_of, node_at}
 
@@ -63,10 +61,3 @@ module _ (J : ℕ → ℕ → ℕ → Type 0) (at : List ℕ) (rows : List (List
     redundant = record { above = above; meet = MeetAt-swap (label_row rows v) (label_row rows h) e.dist q first.here };
     highest = λ r redundant. first.least r (MeetAt-swap (label_row rows h) (label_row rows v) e.dist r redundant.meet);
   }
-
--- one row more
-pub one_row_more : (J : ℕ → ℕ → ℕ → Type 0) (at : List ℕ) (rows : List (List Entry)) (v end : ℕ) → end ≡ v + 1 → AreSoundBefore J at rows v → All (IsSoundEntry J at rows v) (label_row rows v) → AreSoundBefore J at rows end
-one_row_more J at rows v end is before last x from_one below = elim (cases_eq x v) [
-  | inl same ↦ subst (λ y. All (IsSoundEntry J at rows y) (label_row rows y)) (sym same) last
-  | inr other ↦ before x from_one (omega (arith, is, below, other))
-]

@@ -4,6 +4,7 @@ ghost use Rattle.walk_laws.specs.Worked.{first_four, square as square_edges};
 
 mod claims;
 mod cleaning;
+mod first_roots;
 mod pools;
 mod shared_rows;
 mod tours;

@@ -13,14 +13,14 @@ use Rattle.walk_laws.specs.declared.graph.Edge.{Edge}
 use Rattle.walk_laws.specs.declared.entry.Entry.{Entry}
 use Rattle.walk_laws.specs.Joined.{Joined}
 use Rattle.walk_laws.specs.Canonical.{IsCanonical}
-use Rattle.walk_laws.specs.Labelling.{IsHubEntry, IsChl, label_row}
+use Rattle.walk_laws.specs.Labelling.{IsHubEntry, IsChl, IsPartChl, label_row}
 use Rattle.hub_index.specs.NodeEntries.{IsGatheredRow}
 use Rattle.entry_sinks.specs.Sunk.{Sunk, sunk_at, all_sunk, HoldsPart}
 use Rattle.entry_sinks.proofs.PartsOfLabellings.{IsPartChl-gathered}
 use Rattle.plant_tree.specs.Planted.{NamesEachOnce}
 use Rattle.plant_build.specs.TreeEntries.{entries_of}
-use Rattle.plant_build.specs.Gains.{GainsPart, HoldsBatches}
-use Rattle.plant_build.specs.Marks.{mark, Adds, HasCome, IsMissing}
+use Rattle.plant_build.specs.Gains.{GainsPart, HoldsBatches, IsOfBatch, IsOfBatches}
+use Rattle.plant_build.specs.Marks.{mark, Adds, HasCome, IsMarked, IsMissing}
 use Rattle.plant_build.proofs.PlantedRows.{entry_from, entry_to, one_at_most}
 
 abbrev pos_of : Entry → ℕ
@@ -143,23 +143,23 @@ module _ (edges : List Edge) (at : List ℕ) where
       (HoldsPart-same (λ p. P p ⊎ Q p) R (λ v. sunk_at a v ++ gains.gained v) there back (HoldsPart-append P Q (sunk_at a) gains.gained holds gains.part apart))
 
   -- one batch more
-  pub HoldsBatches-more : (batches b : ℕ) (numbers : List ℕ) (old new : Sunk) → HoldsBatches edges at batches numbers old → GainsPart edges at (λ p. p % batches ≡ b) old new → HoldsBatches edges at batches (numbers ++ b ∷ []) new
-  HoldsBatches-more batches b numbers old new holds gains once =
-      HoldsPart-gains (λ p. Contains numbers (p % batches)) (λ p. p % batches ≡ b) (λ p. Contains (numbers ++ b ∷ []) (p % batches)) old new (holds (differ_prefix numbers b once)) gains
-      (λ p there here. differ_last numbers b once (subst (Contains numbers) here there))
+  pub HoldsBatches-more : (roots batches b : ℕ) (numbers : List ℕ) (old new : Sunk) → HoldsBatches edges at roots batches numbers old → GainsPart edges at (IsOfBatch roots batches b) old new → HoldsBatches edges at roots batches (numbers ++ b ∷ []) new
+  HoldsBatches-more roots batches b numbers old new holds gains once =
+      HoldsPart-gains (IsOfBatches roots batches numbers) (IsOfBatch roots batches b) (IsOfBatches roots batches (numbers ++ b ∷ [])) old new (holds (differ_prefix numbers b once)) gains
+      (λ p there here. differ_last numbers b once (subst (Contains numbers) here.1 there.1))
       (λ p _ either. elim either [
-        | inl there ↦ Contains-append_left numbers (b ∷ []) (p % batches) there
-        | inr here ↦ Contains-append_right numbers (b ∷ []) (p % batches) (subst (Contains (b ∷ [])) (sym here) (Contains-first b []))
+        | inl there ↦ (there.0, Contains-append_left numbers (b ∷ []) (p % batches) there.1)
+        | inr here ↦ (here.0, Contains-append_right numbers (b ∷ []) (p % batches) (subst (Contains (b ∷ [])) (sym here.1) (Contains-first b [])))
       ])
-      (λ p _ there. elim (Contains-append_cases numbers (b ∷ []) (p % batches) there) [
-        | inl before ↦ inl before
-        | inr now ↦ inr (sym (elim (Contains-cons_cases b (p % batches) [] now) [ inl is ↦ is | inr none ↦ absurd (Contains-empty (p % batches) none) ]))
+      (λ p _ there. elim (Contains-append_cases numbers (b ∷ []) (p % batches) there.1) [
+        | inl before ↦ inl (there.0, before)
+        | inr now ↦ inr (there.0, sym (elim (Contains-cons_cases b (p % batches) [] now) [ inl is ↦ is | inr none ↦ absurd (Contains-empty (p % batches) none) ]))
       ])
 
-  pub HoldsBatches-none : (batches : ℕ) (numbers : List ℕ) (sink : Sunk) → numbers ≡ [] → ((v : ℕ) → sunk_at sink v ≡ []) → HoldsBatches edges at batches numbers sink
-  HoldsBatches-none batches numbers sink none empty once =
-      HoldsPart-rows (λ p. Contains numbers (p % batches)) (λ v. []) (sunk_at sink) (λ v. sym (empty v))
-      (HoldsPart-same (λ p. ⊥) (λ p. Contains numbers (p % batches)) (λ v. []) (λ p _ never. absurd never) (λ p _ there. Contains-empty (p % batches) (subst (λ ns. Contains ns (p % batches)) none there)) HoldsPart-none)
+  pub HoldsBatches-none : (roots batches : ℕ) (numbers : List ℕ) (sink : Sunk) → numbers ≡ [] → ((v : ℕ) → sunk_at sink v ≡ []) → HoldsBatches edges at roots batches numbers sink
+  HoldsBatches-none roots batches numbers sink none empty once =
+      HoldsPart-rows (IsOfBatches roots batches numbers) (λ v. []) (sunk_at sink) (λ v. sym (empty v))
+      (HoldsPart-same (λ p. ⊥) (IsOfBatches roots batches numbers) (λ v. []) (λ p _ never. absurd never) (λ p _ there. Contains-empty (p % batches) (subst (λ ns. Contains ns (p % batches)) none there.1)) HoldsPart-none)
 
 -- the positions of a batch: the next one is so many further
 pub next_of_batch : (batches b p q : ℕ) → p % batches ≡ b → q % batches ≡ b → p ≤ q → q < p + batches → q ≡ p
@@ -229,66 +229,72 @@ pub all_sunk-push : (sinks : List Sunk) (s : Sunk) (v : ℕ) → all_sunk (sinks
 all_sunk-push [] s v = append-nil (sunk_at s v)
 all_sunk-push (t ∷ sinks) s v = ap (λ es. sunk_at t v ++ es) (all_sunk-push sinks s v) ∙ sym (append_assoc (sunk_at t v) (all_sunk sinks v) (sunk_at s v))
 
-module _ (edges : List Edge) (at : List ℕ) (n : ℕ) where
-  pub HasCome-none : (marks : List Bool) → ((b : ℕ) → mark marks b ≡ false) → HasCome edges at n marks []
+module _ (edges : List Edge) (at : List ℕ) (roots n : ℕ) where
+  pub HasCome-none : (marks : List Bool) → ((b : ℕ) → mark marks b ≡ false) → HasCome edges at roots n marks []
   HasCome-none marks none = record {
     sizes = λ k d lt. absurd (omega (arith, lt));
-    holds = HoldsPart-same edges at (λ p. ⊥) (λ p. mark marks (p % length marks) ≡ true) (λ v. []) (λ p _ never. absurd never) (λ p _ marked. both_false (mark marks (p % length marks)) marked (none (p % length marks))) (HoldsPart-none edges at);
+    holds = HoldsPart-same edges at (λ p. ⊥) (IsMarked roots marks) (λ v. []) (λ p _ never. absurd never) (λ p _ marked. both_false (mark marks (p % length marks)) marked.1 (none (p % length marks))) (HoldsPart-none edges at);
   }
 
   -- one worker more
-  pub HasCome-more : (old new : List Bool) (numbers : List ℕ) (sinks : List Sunk) (sink : Sunk) → sink.n ≡ n → HoldsBatches edges at (length old) numbers sink → Adds old numbers new → HasCome edges at n old sinks → HasCome edges at n new (sinks ++ sink ∷ [])
+  pub HasCome-more : (old new : List Bool) (numbers : List ℕ) (sinks : List Sunk) (sink : Sunk) → sink.n ≡ n → HoldsBatches edges at roots (length old) numbers sink → Adds old numbers new → HasCome edges at roots n old sinks → HasCome edges at roots n new (sinks ++ sink ∷ [])
   HasCome-more old new numbers sinks sink size holds adds come = record {
     sizes = All-push (λ s. s.n ≡ n) sinks sink come.sizes size;
-    holds = subst (λ len. HoldsPart edges at (λ p. mark new (p % len) ≡ true) (all_sunk (sinks ++ sink ∷ []))) (sym adds.size)
-        (HoldsPart-rows edges at (λ p. mark new (p % length old) ≡ true) (λ v. all_sunk sinks v ++ sunk_at sink v) (all_sunk (sinks ++ sink ∷ [])) (λ v. sym (all_sunk-push sinks sink v))
-        (HoldsPart-same edges at (λ p. (mark old (p % length old) ≡ true) ⊎ Contains numbers (p % length old)) (λ p. mark new (p % length old) ≡ true) (λ v. all_sunk sinks v ++ sunk_at sink v)
-        (λ p _. (adds.now (p % length old)).1) (λ p _. (adds.now (p % length old)).0)
-        (HoldsPart-append edges at (λ p. mark old (p % length old) ≡ true) (λ p. Contains numbers (p % length old)) (all_sunk sinks) (sunk_at sink) come.holds (holds adds.once)
-        (λ p marked there. both_false (mark old (p % length old)) marked (adds.fresh (p % length old) there)))));
+    holds = subst (λ len. HoldsPart edges at (λ p. (p < roots) × (mark new (p % len) ≡ true)) (all_sunk (sinks ++ sink ∷ []))) (sym adds.size)
+        (HoldsPart-rows edges at (λ p. (p < roots) × (mark new (p % length old) ≡ true)) (λ v. all_sunk sinks v ++ sunk_at sink v) (all_sunk (sinks ++ sink ∷ [])) (λ v. sym (all_sunk-push sinks sink v))
+        (HoldsPart-same edges at (λ p. IsMarked roots old p ⊎ IsOfBatches roots (length old) numbers p) (λ p. (p < roots) × (mark new (p % length old) ≡ true)) (λ v. all_sunk sinks v ++ sunk_at sink v)
+        (λ p _ either. elim either [ inl was ↦ (was.0, (adds.now (p % length old)).1 (inl was.1)) | inr there ↦ (there.0, (adds.now (p % length old)).1 (inr there.1)) ])
+        (λ p _ marked. elim ((adds.now (p % length old)).0 marked.1) [ inl was ↦ inl (marked.0, was) | inr there ↦ inr (marked.0, there) ])
+        (HoldsPart-append edges at (IsMarked roots old) (IsOfBatches roots (length old) numbers) (all_sunk sinks) (sunk_at sink) come.holds (holds adds.once)
+        (λ p marked there. both_false (mark old (p % length old)) marked.1 (adds.fresh (p % length old) there.1)))));
   }
 
   bool_cases : (b : Bool) → (b ≡ true) ⊎ (b ≡ false)
   bool_cases true = inl refl
   bool_cases false = inr refl
 
-  -- with what came from nobody it is the labelling
-  pub IsChl-whole : (marks : List Bool) (sinks : List Sunk) (own : Sunk) (rows : List (List Entry)) → n ≡ length at → HasCome edges at n marks sinks → own.n ≡ n → HoldsPart edges at (IsMissing marks) (sunk_at own) → length rows ≡ n → ((v : ℕ) → 1 ≤ v → v ≤ n → IsGatheredRow (all_sunk (sinks ++ own ∷ []) v) (label_row rows v)) → IsChl (Joined edges) at rows
-  IsChl-whole marks sinks own rows nodes come size missing long gathered =
-      let InPart : ℕ → Type 0 = λ p. (mark marks (p % length marks) ≡ true) ⊎ IsMissing marks p in
-      let holds : HoldsPart edges at (λ p. (mark marks (p % length marks) ≡ true) ⊎ IsMissing marks p) (all_sunk (sinks ++ own ∷ [])) =
-      HoldsPart-rows edges at (λ p. (mark marks (p % length marks) ≡ true) ⊎ IsMissing marks p) (λ v. all_sunk sinks v ++ sunk_at own v) (all_sunk (sinks ++ own ∷ [])) (λ v. sym (all_sunk-push sinks own v))
-      (HoldsPart-append edges at (λ p. mark marks (p % length marks) ≡ true) (IsMissing marks) (all_sunk sinks) (sunk_at own) come.holds missing (λ p marked missed. both_false (mark marks (p % length marks)) marked missed)) in
-      let part = IsPartChl-gathered edges at (λ p. (mark marks (p % length marks) ≡ true) ⊎ IsMissing marks p) (all_sunk (sinks ++ own ∷ [])) rows (long ∙ nodes) (λ v low high. gathered v low (omega (arith, nodes))) holds in
-      record {
-        size = part.size;
-        row = λ v low high. let row = part.row v low high in record {
-          rising = row.rising;
-          each = λ e. (λ there. ((row.each e).0 there).0, λ hub. (row.each e).1 (hub, bool_cases (mark marks (e.pos % length marks))));
-        };
-      }
+  -- with what came from nobody it is the labelling at the first so many positions
+  pub IsPartChl-whole : (marks : List Bool) (sinks : List Sunk) (own : Sunk) (rows : List (List Entry)) → n ≡ length at → HasCome edges at roots n marks sinks → own.n ≡ n → HoldsPart edges at (IsMissing roots marks) (sunk_at own) → length rows ≡ n → ((v : ℕ) → 1 ≤ v → v ≤ n → IsGatheredRow (all_sunk (sinks ++ own ∷ []) v) (label_row rows v)) → IsPartChl (Joined edges) at (λ p. p < roots) rows
+  IsPartChl-whole marks sinks own rows nodes come size missing long gathered =
+      let holds : HoldsPart edges at (λ p. p < roots) (all_sunk (sinks ++ own ∷ [])) =
+      HoldsPart-rows edges at (λ p. p < roots) (λ v. all_sunk sinks v ++ sunk_at own v) (all_sunk (sinks ++ own ∷ [])) (λ v. sym (all_sunk-push sinks own v))
+      (HoldsPart-same edges at (λ p. IsMarked roots marks p ⊎ IsMissing roots marks p) (λ p. p < roots) (λ v. all_sunk sinks v ++ sunk_at own v)
+      (λ p _ either. elim either [ inl marked ↦ marked.0 | inr missed ↦ missed.0 ])
+      (λ p _ low. elim (bool_cases (mark marks (p % length marks))) [ inl marked ↦ inl (low, marked) | inr missed ↦ inr (low, missed) ])
+      (HoldsPart-append edges at (IsMarked roots marks) (IsMissing roots marks) (all_sunk sinks) (sunk_at own) come.holds missing (λ p marked missed. both_false (mark marks (p % length marks)) marked.1 missed.1))) in
+      IsPartChl-gathered edges at (λ p. p < roots) (all_sunk (sinks ++ own ∷ [])) rows (long ∙ nodes) (λ v low high. gathered v low (omega (arith, nodes))) holds
+
+-- all positions are the whole labelling
+pub IsChl-from_part : (edges : List Edge) (at : List ℕ) (n : ℕ) (rows : List (List Entry)) → length at ≡ n → IsPartChl (Joined edges) at (λ p. p < n) rows → IsChl (Joined edges) at rows
+IsChl-from_part edges at n rows is part = record {
+  size = part.size;
+  row = λ v low high. let row = part.row v low high in record {
+    rising = row.rising;
+    each = λ e. (λ there. ((row.each e).0 there).0, λ hub. (row.each e).1 (hub, let within = slice_get_within at e.pos hub.0 hub.1 in omega (arith, within, is)));
+  };
+}
 
 -- of the batches that are missing those before b are planted
-abbrev pub IsMissingBelow : List Bool → ℕ → ℕ → Type 0
-IsMissingBelow marks b p = IsMissing marks p × (p % length marks < b)
+abbrev pub IsMissingBelow : ℕ → List Bool → ℕ → ℕ → Type 0
+IsMissingBelow roots marks b p = IsMissing roots marks p × (p % length marks < b)
 
 -- the positions of a batch so far
-abbrev pub IsBatchBelow : ℕ → ℕ → ℕ → ℕ → Type 0
-IsBatchBelow batches b p q = (q % batches ≡ b) × (q < p)
+abbrev pub IsBatchBelow : ℕ → ℕ → ℕ → ℕ → ℕ → Type 0
+IsBatchBelow roots batches b p q = IsOfBatch roots batches b q × (q < p)
 
-module _ (edges : List Edge) (at : List ℕ) where
-  pub missing_none : (marks : List Bool) (sink : Sunk) → ((v : ℕ) → sunk_at sink v ≡ []) → HoldsPart edges at (IsMissingBelow marks 0) (sunk_at sink)
+module _ (edges : List Edge) (at : List ℕ) (roots : ℕ) where
+  pub missing_none : (marks : List Bool) (sink : Sunk) → ((v : ℕ) → sunk_at sink v ≡ []) → HoldsPart edges at (IsMissingBelow roots marks 0) (sunk_at sink)
   missing_none marks sink empty =
-      HoldsPart-rows edges at (IsMissingBelow marks 0) (λ v. []) (sunk_at sink) (λ v. sym (empty v))
-      (HoldsPart-same edges at (λ p. ⊥) (IsMissingBelow marks 0) (λ v. []) (λ p _ never. absurd never) (λ p _ below. omega (arith, below.1)) (HoldsPart-none edges at))
+      HoldsPart-rows edges at (IsMissingBelow roots marks 0) (λ v. []) (sunk_at sink) (λ v. sym (empty v))
+      (HoldsPart-same edges at (λ p. ⊥) (IsMissingBelow roots marks 0) (λ v. []) (λ p _ never. absurd never) (λ p _ below. omega (arith, below.1)) (HoldsPart-none edges at))
 
-  pub missing_skip : (marks : List Bool) (b : ℕ) (sink : Sunk) → mark marks b ≡ true → HoldsPart edges at (IsMissingBelow marks b) (sunk_at sink) → HoldsPart edges at (IsMissingBelow marks (b + 1)) (sunk_at sink)
+  pub missing_skip : (marks : List Bool) (b : ℕ) (sink : Sunk) → mark marks b ≡ true → HoldsPart edges at (IsMissingBelow roots marks b) (sunk_at sink) → HoldsPart edges at (IsMissingBelow roots marks (b + 1)) (sunk_at sink)
   missing_skip marks b sink marked =
-      HoldsPart-same edges at (IsMissingBelow marks b) (IsMissingBelow marks (b + 1)) (sunk_at sink) (λ p _ h. (h.0, omega (arith, h.1)))
+      HoldsPart-same edges at (IsMissingBelow roots marks b) (IsMissingBelow roots marks (b + 1)) (sunk_at sink) (λ p _ h. (h.0, omega (arith, h.1)))
       (λ p _ h. (
         h.0,
         elim (cases_eq (p % length marks) b) [
-          | inl same ↦ absurd (both_false (mark marks b) marked (subst (λ k. mark marks k ≡ false) same h.0))
+          | inl same ↦ absurd (both_false (mark marks b) marked (subst (λ k. mark marks k ≡ false) same h.0.1))
           | inr other ↦ lesser (p % length marks) b h.1 other
         ],
       ))
@@ -296,36 +302,36 @@ module _ (edges : List Edge) (at : List ℕ) where
       lesser : (x y : ℕ) → x < y + 1 → x ≢ y → x < y
       lesser x y le other = elim (cases_lt x y) [ inl lt ↦ lt | inr ge ↦ absurd (other (omega arith)) ]
 
-  pub missing_planted : (marks : List Bool) (b : ℕ) (old new : Sunk) → mark marks b ≡ false → HoldsPart edges at (IsMissingBelow marks b) (sunk_at old) → GainsPart edges at (λ p. p % length marks ≡ b) old new → HoldsPart edges at (IsMissingBelow marks (b + 1)) (sunk_at new)
+  pub missing_planted : (marks : List Bool) (b : ℕ) (old new : Sunk) → mark marks b ≡ false → HoldsPart edges at (IsMissingBelow roots marks b) (sunk_at old) → GainsPart edges at (IsOfBatch roots (length marks) b) old new → HoldsPart edges at (IsMissingBelow roots marks (b + 1)) (sunk_at new)
   missing_planted marks b old new missed holds gains =
-      HoldsPart-gains edges at (IsMissingBelow marks b) (λ p. p % length marks ≡ b) (IsMissingBelow marks (b + 1)) old new holds gains
-      (λ p below here. omega (arith, below.1, here))
+      HoldsPart-gains edges at (IsMissingBelow roots marks b) (IsOfBatch roots (length marks) b) (IsMissingBelow roots marks (b + 1)) old new holds gains
+      (λ p below here. omega (arith, below.1, here.1))
       (λ p _ either. elim either [
         | inl below ↦ (below.0, omega (arith, below.1))
-        | inr here ↦ (subst (λ k. mark marks k ≡ false) (sym here) missed, omega (arith, here))
+        | inr here ↦ ((here.0, subst (λ k. mark marks k ≡ false) (sym here.1) missed), omega (arith, here.1))
       ])
-      (λ p _ below. elim (cases_lt (p % length marks) b) [ inl less ↦ inl (below.0, less) | inr more ↦ inr (omega (arith, more, below.1)) ])
+      (λ p _ below. elim (cases_lt (p % length marks) b) [ inl less ↦ inl (below.0, less) | inr more ↦ inr (below.0.0, omega (arith, more, below.1)) ])
 
-  pub missing_all : (marks : List Bool) (b : ℕ) (sink : Sunk) → 1 ≤ length marks → length marks ≤ b → HoldsPart edges at (IsMissingBelow marks b) (sunk_at sink) → HoldsPart edges at (IsMissing marks) (sunk_at sink)
+  pub missing_all : (marks : List Bool) (b : ℕ) (sink : Sunk) → 1 ≤ length marks → length marks ≤ b → HoldsPart edges at (IsMissingBelow roots marks b) (sunk_at sink) → HoldsPart edges at (IsMissing roots marks) (sunk_at sink)
   missing_all marks b sink some past =
-      HoldsPart-same edges at (IsMissingBelow marks b) (IsMissing marks) (sunk_at sink) (λ p _ h. h.0) (λ p _ h. (h, omega (arith, mod-lt p some)))
+      HoldsPart-same edges at (IsMissingBelow roots marks b) (IsMissing roots marks) (sunk_at sink) (λ p _ h. h.0) (λ p _ h. (h, omega (arith, mod-lt p some)))
 
-  pub batch_none : (batches b : ℕ) (sink : Sunk) → b < batches → GainsPart edges at (IsBatchBelow batches b b) sink sink
-  batch_none batches b sink lt = GainsPart-same edges at (λ p. ⊥) (IsBatchBelow batches b b) sink sink (GainsPart-none edges at sink) (λ p _ never. absurd never)
-      (λ p _ h. omega (arith, h.0, h.1, mod-eq_of_lt {n = p} {m = batches} (omega (arith, h.1, lt))))
+  pub batch_none : (batches b : ℕ) (sink : Sunk) → b < batches → GainsPart edges at (IsBatchBelow roots batches b b) sink sink
+  batch_none batches b sink lt = GainsPart-same edges at (λ p. ⊥) (IsBatchBelow roots batches b b) sink sink (GainsPart-none edges at sink) (λ p _ never. absurd never)
+      (λ p _ h. omega (arith, h.0.1, h.1, mod-eq_of_lt {n = p} {m = batches} (omega (arith, h.1, lt))))
 
-  pub batch_more : (batches b p : ℕ) (first old new : Sunk) → 1 ≤ batches → p % batches ≡ b → GainsPart edges at (IsBatchBelow batches b p) first old → GainsPart edges at (λ q. q ≡ p) old new → GainsPart edges at (IsBatchBelow batches b (p + batches)) first new
-  batch_more batches b p first old new some p_is so_far now =
-      GainsPart-then edges at (IsBatchBelow batches b p) (λ q. q ≡ p) (IsBatchBelow batches b (p + batches)) first old new so_far now
+  pub batch_more : (batches b p : ℕ) (first old new : Sunk) → 1 ≤ batches → p < roots → p % batches ≡ b → GainsPart edges at (IsBatchBelow roots batches b p) first old → GainsPart edges at (λ q. q ≡ p) old new → GainsPart edges at (IsBatchBelow roots batches b (p + batches)) first new
+  batch_more batches b p first old new some low p_is so_far now =
+      GainsPart-then edges at (IsBatchBelow roots batches b p) (λ q. q ≡ p) (IsBatchBelow roots batches b (p + batches)) first old new so_far now
       (λ q below here. omega (arith, below.1, here))
       (λ q _ either. elim either [
         | inl below ↦ (below.0, omega (arith, below.1))
-        | inr here ↦ (ap (λ x. x % batches) here ∙ p_is, omega (arith, here, some))
+        | inr here ↦ ((omega (arith, here, low), ap (λ x. x % batches) here ∙ p_is), omega (arith, here, some))
       ])
-      (λ q _ h. elim (cases_lt q p) [ inl less ↦ inl (h.0, less) | inr more ↦ inr (next_of_batch batches b p q p_is h.0 more h.1) ])
+      (λ q _ h. elim (cases_lt q p) [ inl less ↦ inl (h.0, less) | inr more ↦ inr (next_of_batch batches b p q p_is h.0.1 more h.1) ])
 
-  pub batch_all : (batches b p : ℕ) (first new : Sunk) → length at ≤ p → GainsPart edges at (IsBatchBelow batches b p) first new → GainsPart edges at (λ q. q % batches ≡ b) first new
-  batch_all batches b p first new past gains = GainsPart-same edges at (IsBatchBelow batches b p) (λ q. q % batches ≡ b) first new gains (λ q _ h. h.0) (λ q inside h. (h, omega arith))
+  pub batch_all : (batches b p : ℕ) (first new : Sunk) → roots ≤ p → GainsPart edges at (IsBatchBelow roots batches b p) first new → GainsPart edges at (IsOfBatch roots batches b) first new
+  batch_all batches b p first new past gains = GainsPart-same edges at (IsBatchBelow roots batches b p) (IsOfBatch roots batches b) first new gains (λ q _ h. h.0) (λ q _ h. (h, omega (arith, h.0, past)))
 
 -- what holds of rows where they were made
 pub both_ok : {E : Type 0} (r : Result (List (List Entry)) E) (P Q R : List (List Entry) → Type 0) → ((rows : List (List Entry)) → P rows → Q rows → R rows) → IfOk r P → IfOk r Q → IfOk r R

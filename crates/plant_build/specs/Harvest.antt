@@ -10,8 +10,8 @@ abbrev pub harvest_of : PlantWorker → Harvest
 harvest_of w = record { numbers = w.numbers; sink = w.sink }
 
 -- the trees of its batches are in its sink
-abbrev pub IsHeld : List Edge → List ℕ → ℕ → ℕ → Harvest → Type 0
-IsHeld edges at batches n h = (h.sink.n ≡ n) × HoldsBatches edges at batches h.numbers.items h.sink
+abbrev pub IsHeld : List Edge → List ℕ → ℕ → ℕ → ℕ → Harvest → Type 0
+IsHeld edges at roots batches n h = (h.sink.n ≡ n) × HoldsBatches edges at roots batches h.numbers.items h.sink
 
 abbrev pub IsBelow : ℕ → List ℕ → Type 0
 IsBelow batches numbers = All (λ b. b < batches) numbers

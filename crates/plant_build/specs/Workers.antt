@@ -21,10 +21,10 @@ pub record TookItsBatches (batches : ℕ) (w : PlantWorker) : Type 0 where
   pub below : All (λ b. b < batches) w.numbers.items
   pub took : (x : ℕ) → times x w.numbers.items ≤ got_from x (reaches w.hand)
 
--- where memory has sufficed it has put the trees of its batches, which it took
-pub record HasWorked (edges : List Edge) (at : List ℕ) (batches n : ℕ) (w : PlantWorker) : Type 0 where
+-- where memory has sufficed it has put the trees that its batches have of the first so many roots, and it took these batches
+pub record HasWorked (edges : List Edge) (at : List ℕ) (roots batches n : ℕ) (w : PlantWorker) : Type 0 where
   pub sink : w.sink.n ≡ n
-  pub holds : w.memory ≡ true → HoldsBatches edges at batches w.numbers.items w.sink
+  pub holds : w.memory ≡ true → HoldsBatches edges at roots batches w.numbers.items w.sink
   pub took : TookItsBatches batches w
 
 abbrev pub hands_of : List PlantWorker → List Hand

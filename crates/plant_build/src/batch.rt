@@ -1,8 +1,8 @@
-ghost use Rattle.std.specs.Prelude.{◌≡◌, ℕ, ◌%◌, ◌^◌, ◌<◌, ◌≤◌, ◌++◌, length, OnOk};
+ghost use Rattle.std.specs.Prelude.{◌≡◌, ℕ, ◌^◌, ◌<◌, ◌≤◌, ◌++◌, length, OnOk};
 ghost use Rattle.entry_sinks.specs.Sunk.{sunk_at};
 ghost use Rattle.plant_tree.specs.Planted.{AreOfNodes};
 ghost use Rattle.plant_build.specs.TreeEntries.{entries_of};
-ghost use Rattle.plant_build.specs.Gains.{GainsPart};
+ghost use Rattle.plant_build.specs.Gains.{GainsPart, IsOfBatch};
 
 use desk_io::Gate;
 use entry_sinks::EntrySink;
@@ -11,13 +11,14 @@ use rank_table::Ranking;
 use std::alloc::{AllocError, Global};
 use walk_laws::{Entry, Graph};
 
-/// Plants the trees of a batch: of so many batches that with number `batch` has the positions `batch`,
-/// `batch + batches`, and so on. So batches are of even work, though the first roots have the greatest trees. The only
+/// Plants the trees that a batch has of the first so many roots: of so many batches that with number `batch` has the positions
+/// `batch`, `batch + batches`, and so on. So batches are of even work, though the first roots have the greatest trees. The only
 /// error is that memory ran out.
 pub fn plant_batch<G: Gate>(
     alloc: Global,
     graph: &Graph,
     ranking: &Ranking,
+    roots: u32,
     batches: u32,
     batch: u32,
     gate: &G,
@@ -27,15 +28,16 @@ pub fn plant_batch<G: Gate>(
     requires planter { planter.old ≡ graph.now.n }
     requires sink { sink.old.n ≡ graph.now.n }
     requires ranked { length ranking.now ≡ graph.now.n }
+    requires roots { roots ≤ length ranking.now }
     requires batches { batches ≤ 2 ^ 30 }
     requires batch { batch < batches }
     ensures planter { planter.new ≡ planter.old }
     ensures sink { sink.new.n ≡ sink.old.n }
-    ensures gains { OnOk result (GainsPart graph.now.edges ranking.now (λ p. p % batches ≡ batch) sink.old sink.new) }
+    ensures gains { OnOk result (GainsPart graph.now.edges ranking.now (IsOfBatch roots batches batch) sink.old sink.new) }
 {
-    let n = graph.n();
+    let _n = graph.n();
     let mut p = batch;
-    while p < n {
+    while p < roots {
         plant_root(alloc, graph, ranking, p, gate, planter, sink)?;
         p += batches;
     }

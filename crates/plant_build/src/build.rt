@@ -1,6 +1,6 @@
-ghost use Rattle.std.specs.Prelude.{◌≡◌, ◌*◌, ◌^◌, ◌≤◌, All, length, IfOk};
+ghost use Rattle.std.specs.Prelude.{◌≡◌, ◌*◌, ◌^◌, ◌<◌, ◌≤◌, All, length, IfOk};
 ghost use Rattle.walk_laws.specs.Joined.{Joined};
-ghost use Rattle.walk_laws.specs.Labelling.{IsChl};
+ghost use Rattle.walk_laws.specs.Labelling.{IsChl, IsPartChl};
 ghost use Rattle.entry_sinks.specs.Sunk.{sunk_at, HoldsPart};
 ghost use Rattle.plant_build.specs.Marks.{IsMissing};
 ghost use Rattle.plant_build.specs.Rounds.{share_of};
@@ -44,42 +44,63 @@ pub fn build_plant<R: Threads + Wait + Sync, G: Gate + Sync>(
     ensures labelling { IfOk result (λ index. IsChl (Joined graph.now.edges) ranking.now index.rows) }
 {
     let copy = WorkingCopy::new(alloc, graph, ranking)?;
-    let rows = planted_rows(rt, alloc, &copy.graph, &copy.ranking, workers, cut, gate)?;
+    let all = copy.graph.n();
+    let rows = plant_first(
+        rt,
+        alloc,
+        &copy.graph,
+        &copy.ranking,
+        all,
+        workers,
+        cut,
+        gate,
+    )?;
     copy.index(alloc, graph, ranking, rows)
 }
 
-/// The rows of the labelling: the trees of all roots are planted by the workers, and what they put is gathered.
-fn planted_rows<R: Threads + Wait + Sync, G: Gate + Sync>(
+/// The canonical hub labelling up to the position `eta`, from 0: the rows of the hubs that are the first `eta` nodes of a ranking.
+/// The workers plant the trees of these roots, as in [`build_plant`], and what they put is gathered. The rows are by the numbers
+/// that the nodes have in this graph: who wants neighbours near in memory hands it a [`WorkingCopy`]'s. The gate sees each of
+/// these roots begin, and end with the number of its entries. The only error is that memory ran out.
+///
+/// In the square 1-2-3-4-1 of weights 1, of which a smaller number ranks higher, the first two roots leave these entries, each a
+/// position and a distance: node 1 has (0, 0), node 2 has (0, 1) and (1, 0), node 3 has (0, 2) and (1, 1), and node 4 has (0, 1).
+pub fn plant_first<R: Threads + Wait + Sync, G: Gate + Sync>(
     rt: &R,
     alloc: Global,
     graph: &Graph,
     ranking: &Ranking,
+    eta: u32,
     workers: u32,
     cut: u32,
     gate: &G,
 ) -> Result<RowList, AllocError>
     requires nodes { length ranking.now ≡ graph.now.n }
+    requires roots { eta ≤ graph.now.n }
     requires workers_from { 1 ≤ workers }
     requires workers_to { workers ≤ 64 }
     requires cut_from { 1 ≤ cut }
-    ensures labelling { IfOk result (λ rows. IsChl (Joined graph.now.edges) ranking.now rows) }
+    requires cut_to { cut ≤ 2 ^ 30 }
+    ensures labelling { IfOk result (IsPartChl (Joined graph.now.edges) ranking.now (λ p. p < eta)) }
 {
     let n = graph.n();
-    let roots = ranking.n();
-    let batches = batches_for(roots, workers, cut);
+    let batches = batches_for(eta, workers, cut);
+    let workers = workers.min(batches);
     let mut crew = crew_of(alloc, n, batches, workers)?;
     work(
         rt,
         alloc,
         graph,
         ranking,
+        eta,
         batches,
         gate,
         &mut crew.members,
         workers,
     );
     let (come, mut sinks) = collect(alloc, batches, crew)?;
-    sinks.push(plant_missing(alloc, graph, ranking, batches, gate, &come)?)?;
+    let missing = plant_missing(alloc, graph, ranking, eta, batches, gate, &come)?;
+    sinks.push(missing)?;
     gather(rt, alloc, n, sinks)
 }
 
@@ -99,12 +120,13 @@ fn batches_for(roots: u32, workers: u32, cut: u32) -> u32
     enough.max(even).max(1).min(1 << 30)
 }
 
-/// The workers plant, side by side.
+/// The workers plant the first so many roots, side by side.
 fn work<R: Threads + Wait + Sync, G: Gate + Sync>(
     rt: &R,
     alloc: Global,
     graph: &Graph,
     ranking: &Ranking,
+    roots: u32,
     batches: u32,
     gate: &G,
     crew: &mut [PlantWorker],
@@ -112,9 +134,10 @@ fn work<R: Threads + Wait + Sync, G: Gate + Sync>(
 )
     requires ready { All (IsReady graph.now.n) crew.old }
     requires ranked { length ranking.now ≡ graph.now.n }
+    requires roots { roots ≤ length ranking.now }
     requires few { batches ≤ 2 ^ 30 }
     requires workers { 1 ≤ workers }
-    ensures worked { All (HasWorked graph.now.edges ranking.now batches graph.now.n) crew.new }
+    ensures worked { All (HasWorked graph.now.edges ranking.now roots batches graph.now.n) crew.new }
     ensures shares { shares_of crew.new ≡ shares_of crew.old }
 {
     thread::for_each_mut(
@@ -122,27 +145,30 @@ fn work<R: Threads + Wait + Sync, G: Gate + Sync>(
         crew,
         workers as usize,
         &|_place: usize, worker: &mut PlantWorker|
-            requires { IsReady graph.now.n worker.now × (length ranking.now ≡ graph.now.n) × (batches ≤ 2 ^ 30) }
-            ensures { HasWorked graph.entry.now.edges ranking.entry.now batches graph.entry.now.n worker.exit.now × (share_of worker.exit.now.hand ≡ share_of worker.entry.now.hand) }
-        { worker.plant(rt, alloc, graph, ranking, batches, gate) },
+            requires { IsReady graph.now.n worker.now × (length ranking.now ≡ graph.now.n) × (roots ≤ length ranking.now) × (batches ≤ 2 ^ 30) }
+            ensures { HasWorked graph.entry.now.edges ranking.entry.now roots batches graph.entry.now.n worker.exit.now × (share_of worker.exit.now.hand ≡ share_of worker.entry.now.hand) }
+        { worker.plant(rt, alloc, graph, ranking, roots, batches, gate) },
     );
 }
 
-/// What the caller itself plants: the batches that came from nobody. The only error is that memory ran out.
+/// What the caller itself plants of the first so many roots: those of the batches that came from nobody. The only error is that
+/// memory ran out.
 fn plant_missing<G: Gate>(
     alloc: Global,
     graph: &Graph,
     ranking: &Ranking,
+    roots: u32,
     batches: u32,
     gate: &G,
     come: &[bool],
 ) -> Result<EntrySink, AllocError>
     requires ranked { length ranking.now ≡ graph.now.n }
+    requires roots { roots ≤ length ranking.now }
     requires some { 1 ≤ batches }
     requires few { batches ≤ 2 ^ 30 }
     requires marks { length come.now ≡ batches }
     ensures sink { IfOk result (λ sink. sink.n ≡ graph.now.n) }
-    ensures missing { IfOk result (λ sink. HoldsPart graph.now.edges ranking.now (IsMissing come.now) (sunk_at sink)) }
+    ensures missing { IfOk result (λ sink. HoldsPart graph.now.edges ranking.now (IsMissing roots come.now) (sunk_at sink)) }
 {
     let n = graph.n();
     let mut planter = Planter::new(alloc, n)?;
@@ -155,6 +181,7 @@ fn plant_missing<G: Gate>(
             alloc,
             graph,
             ranking,
+            roots,
             batches,
             batch,
             gate,

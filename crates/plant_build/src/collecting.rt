@@ -32,7 +32,7 @@ pub fn collect(
     requires dealt { AreDealt batches crew }
     requires took { All (TookItsBatches batches) crew.members.items }
     ensures size { IfOk result (λ got. length got.0.items ≡ batches) }
-    ensures come { IfOk result (λ got. (edges : List AnEdge) (at : List ℕ) (n : ℕ) → All (HasWorked edges at batches n) crew.members.items → HasCome edges at n got.0.items got.1.items) }
+    ensures come { IfOk result (λ got. (edges : List AnEdge) (at : List ℕ) (roots n : ℕ) → All (HasWorked edges at roots batches n) crew.members.items → HasCome edges at roots n got.0.items got.1.items) }
 {
     let Crew { members, left: _ } = crew;
     let (hands, harvests) = apart(alloc, members)?;
@@ -74,7 +74,7 @@ fn bring_in(
     requires below { All (λ h. IsBelow batches h.numbers.items) harvests.items }
     requires once { (b : ℕ) → sum_by (λ h. times b h.numbers.items) harvests.items ≤ 1 }
     ensures size { IfOk result (λ got. length got.0.items ≡ batches) }
-    ensures come { IfOk result (λ got. (edges : List AnEdge) (at : List ℕ) (n : ℕ) → All (IsHeld edges at batches n) harvests.items → HasCome edges at n got.0.items got.1.items) }
+    ensures come { IfOk result (λ got. (edges : List AnEdge) (at : List ℕ) (roots n : ℕ) → All (IsHeld edges at roots batches n) harvests.items → HasCome edges at roots n got.0.items got.1.items) }
 {
     let mut come = vec![in alloc; false; batches as usize]?;
     let mut sinks = Vec::with_capacity(alloc, harvests.len())?;

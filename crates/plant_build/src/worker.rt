@@ -39,20 +39,22 @@ impl PlantWorker {
         })
     }
 
-    /// Takes batches and plants them, until every deque is found empty or memory runs out.
+    /// Takes batches and plants what they have of the first so many roots, until every deque is found empty or memory runs out.
     pub fn plant<R: Wait, G: Gate>(
         &mut self,
         rt: &R,
         alloc: Global,
         graph: &Graph,
         ranking: &Ranking,
+        roots: u32,
         batches: u32,
         gate: &G,
     )
         requires ready { IsReady graph.now.n self.old }
         requires ranked { length ranking.now ≡ graph.now.n }
+        requires roots { roots ≤ length ranking.now }
         requires batches { batches ≤ 2 ^ 30 }
-        ensures worked { HasWorked graph.now.edges ranking.now batches graph.now.n self.new }
+        ensures worked { HasWorked graph.now.edges ranking.now roots batches graph.now.n self.new }
         ensures share { share_of self.new.hand ≡ share_of self.old.hand }
     {
         for _ in rt.forever() {
@@ -63,7 +65,7 @@ impl PlantWorker {
                 continue;
             }
             if self
-                .plant_one(alloc, graph, ranking, batches, batch, gate)
+                .plant_one(alloc, graph, ranking, roots, batches, batch, gate)
                 .is_err()
             {
                 self.memory = false;
@@ -72,20 +74,22 @@ impl PlantWorker {
         }
     }
 
-    /// Plants a batch, and notes its number. The only error is that memory ran out.
+    /// Plants what a batch has of the first so many roots, and notes its number. The only error is that memory ran out.
     fn plant_one<G: Gate>(
         &mut self,
         alloc: Global,
         graph: &Graph,
         ranking: &Ranking,
+        roots: u32,
         batches: u32,
         batch: u32,
         gate: &G,
     ) -> Result<(), AllocError>
         requires planter { self.old.planter ≡ graph.now.n }
-        requires worked { HasWorked graph.now.edges ranking.now batches graph.now.n self.old }
+        requires worked { HasWorked graph.now.edges ranking.now roots batches graph.now.n self.old }
         requires memory { self.old.memory ≡ true }
         requires ranked { length ranking.now ≡ graph.now.n }
+        requires roots { roots ≤ length ranking.now }
         requires batches { batches ≤ 2 ^ 30 }
         requires batch { batch < batches }
         requires took { (x : ℕ) → times x self.old.numbers.items + (if batch == x then 1 else 0) ≤ got_from x (reaches self.old.hand) }
@@ -93,13 +97,14 @@ impl PlantWorker {
         ensures planter { self.new.planter ≡ self.old.planter }
         ensures memory { self.new.memory ≡ self.old.memory }
         ensures sink { self.new.sink.n ≡ self.old.sink.n }
-        ensures worked { OnOk result (HasWorked graph.now.edges ranking.now batches graph.now.n self.new) }
+        ensures worked { OnOk result (HasWorked graph.now.edges ranking.now roots batches graph.now.n self.new) }
         ensures numbers { OnErr result (self.new.numbers.items ≡ self.old.numbers.items) }
     {
         plant_batch(
             alloc,
             graph,
             ranking,
+            roots,
             batches,
             batch,
             gate,

@@ -38,6 +38,7 @@ fn workers_plant_more_than_a_thousand_batches(rt: HostRuntime) -> Result<(), Fai
         by: By::Plant,
         workers: 3,
         cut: 1,
+        eta: 0,
     };
     let index = build(&rt, &made.0, &made.1, built, &watch)?;
     assert!(rt; watch.all_came());

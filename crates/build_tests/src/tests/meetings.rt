@@ -106,7 +106,13 @@ const COMMANDS: [&str; 2] = [
 ];
 
 /// The constructions, each with what the tree of root 1 puts before and after that of root 0.
-const PUTS: [(&str, (u32, u32)); 3] = [("plant", (2, 2)), ("lcc", (3, 2)), ("gll", (3, 2))];
+const PUTS: [(&str, (u32, u32)); 5] = [
+    ("plant", (2, 2)),
+    ("lcc", (3, 2)),
+    ("gll", (3, 2)),
+    ("hybrid --eta 0", (3, 2)),
+    ("hybrid --eta 2", (2, 2)),
+];
 
 /// Two workers have roots 0 and 1 at the same time, whatever the construction and the number of workers. A pruned tree of root 1
 /// puts three entries where it grows before that of root 0, and two after it: it finds then that node 1 covers the way to
@@ -127,6 +133,18 @@ fn two_roots_at_once(rt: HostRuntime) -> Result<(), Fail> {
 fn a_worker_goes_on_while_another_is_late(rt: HostRuntime) -> Result<(), Fail> {
     let line = "chl build --graph g --order o --out x --by gll --workers 2 --cut 3";
     assert_eq!(rt; puts_at(&rt, line, Order::ThirdBeforeSecond, 2)?, 2);
+    Ok(())
+}
+
+/// Where as many roots are to be planted as there are, or more, all are, and none is left for a superstep: the tree of root 0 begins
+/// when those of all others have ended, while another worker plants them.
+#[test]
+fn all_roots_are_planted(rt: HostRuntime) -> Result<(), Fail> {
+    let command = "chl build --graph g --order o --out x --by hybrid --workers 2 --cut 1";
+    for eta in &[4u32, 5] {
+        let line = format!(in rt.alloc(); "{command} --eta {eta}")?;
+        run_square(&rt, line.as_str(), Order::FirstAfterAll)?;
+    }
     Ok(())
 }
 

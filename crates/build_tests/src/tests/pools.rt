@@ -57,6 +57,7 @@ fn what_is_put_is_found(rt: HostRuntime) -> Result<(), Fail> {
             by: *by,
             workers: 4,
             cut: *cut,
+            eta: 0,
         };
         let (_entries, more) = in_turn(&rt, &made.0, &made.1, built)?;
         assert_eq!(rt; more, 0, "{built:?}");
@@ -73,6 +74,7 @@ fn most_puts_find_a_cell(rt: HostRuntime) -> Result<(), Fail> {
         by: By::Gll,
         workers: 4,
         cut: 16384,
+        eta: 0,
     };
     let (entries, more) = in_turn(&rt, &made.0, &made.1, built)?;
     assert!(rt; more < entries / 10, "{more} of {entries}");

@@ -45,16 +45,18 @@ fn expect_roots<R: Abort + AllocGlobal + Threads + Wait + Sync>(
 }
 
 /// Whatever the number of workers, each root of the grid begins once and ends once, and the file is the same. Planted trees
-/// put the entries of the index, and so do pruned ones of one worker; those of many put maybe more, which cleaning deletes.
+/// put the entries of the index, and so do pruned ones of one worker; those of many put maybe more, which cleaning deletes. Of the
+/// 36 roots a hybrid construction plants 16.
 #[test]
 fn each_root_grows_once(rt: HostRuntime) -> Result<(), Fail> {
     let made = grid(&rt, rt.alloc(), 6)?;
-    for by in &[By::Plant, By::Lcc, By::Gll] {
+    for by in &[By::Plant, By::Lcc, By::Gll, By::Hybrid] {
         for workers in &[1, 2, 4] {
             let built = Built {
                 by: *by,
                 workers: *workers,
                 cut: 16,
+                eta: 16,
             };
             let exact = *by == By::Plant || *workers == 1;
             expect_roots(&rt, &made.0, &made.1, built, exact)?;

@@ -3,7 +3,7 @@ ghost use Rattle.std.specs.Prelude.{◌≡◌, ◌<◌, length, IfOk};
 ghost use Rattle.label_clean.specs.Below.{IsChlBelow};
 
 use super::*;
-use gll_build::superstep;
+use gll_build::{build_gll_from, superstep};
 use hub_index::RowList;
 
 /// One superstep of one worker: it begins with the root `first`, and the next one is `next`.
@@ -64,4 +64,33 @@ fn supersteps_come_to_the_last_root(rt: HostRuntime) -> Result<(), Fail> {
     let rows = step(&rt, &made.0, &made.1, rows, 1, 1, 2)?;
     step(&rt, &made.0, &made.1, rows, 1024, 2, 4)?;
     Ok(())
+}
+
+/// A build goes on with the rows of the first superstep, and so with those of all supersteps.
+#[test]
+fn a_build_goes_on_with_the_rows_of_the_first_roots(rt: HostRuntime) -> Result<(), Fail> {
+    let made = grid(&rt, rt.alloc(), 2)?;
+    for (cut, next) in &[(1, 1), (10, 4)] {
+        let rows = first_step(&rt, &made.0, &made.1, *cut, *next)?;
+        let index = go_on(&rt, &made.0, &made.1, rows, *next)?;
+        expect_file(&rt, &made.0, &made.1, &index)?;
+    }
+    Ok(())
+}
+
+/// The index that two workers come to by rows up to the root `first`.
+fn go_on<R: Abort + AllocGlobal + Threads + Wait + Sync>(
+    rt: &R,
+    graph: &Graph,
+    ranking: &Ranking,
+    global: RowList,
+    first: u32,
+) -> Result<Index, Fail>
+    requires nodes { length ranking.now ≡ graph.now.n }
+    requires global { IsChlBelow graph.now.edges ranking.now first global }
+{
+    assert!(rt; first <= ranking.n());
+    let alloc = rt.alloc();
+    let index = build_gll_from(rt, alloc, graph, ranking, global, first, 2, 1, &FreeGate)?;
+    Ok(index)
 }

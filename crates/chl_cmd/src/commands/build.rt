@@ -12,6 +12,7 @@ use chl_inputs::{Stop, read_graph, read_order};
 use chl_words::{By, Construction, Name};
 use desk_io::{Desk, Gate};
 use gll_build::build_gll_split;
+use hybrid_build::build_hybrid_split;
 use index_file::{Pieces, encode_by};
 use rank_table::Ranking;
 use std::alloc::{AllocError, Global};
@@ -38,7 +39,7 @@ pub fn build_output<R: Threads + Wait + Sync, D: Desk, G: Gate + Sync>(
     Ok(bytes)
 }
 
-/// The bytes of the file. An index by supersteps is written out of the rows that the build worked with.
+/// The bytes of the file. An index by supersteps, whatever they begin with, is written out of the rows that the build worked with.
 fn file_bytes<R: Threads + Wait + Sync, G: Gate + Sync>(
     rt: &R,
     alloc: Global,
@@ -60,6 +61,19 @@ fn file_bytes<R: Threads + Wait + Sync, G: Gate + Sync>(
             ranking,
             construction.workers,
             construction.cut,
+            gate,
+        )?;
+        return encode_by(rt, alloc, &split, construction.workers);
+    }
+    if let By::Hybrid = construction.by {
+        let split = build_hybrid_split(
+            rt,
+            alloc,
+            graph,
+            ranking,
+            construction.workers,
+            construction.cut,
+            construction.eta,
             gate,
         )?;
         return encode_by(rt, alloc, &split, construction.workers);

@@ -75,6 +75,7 @@ fn totals_by<R: Threads + Wait + Sync, G: Gate + Sync>(
         by,
         workers,
         cut: GRID_CUT,
+        eta: 0,
     };
     let index = labelling(rt, alloc, graph, ranking, construction, gate)?;
     Ok(totals_of(&index))

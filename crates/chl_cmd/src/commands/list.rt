@@ -49,6 +49,7 @@ fn rows_text<R: Threads + Wait + Sync>(
         by: By::Plant,
         workers: 1,
         cut: 1,
+        eta: 0,
     };
     let index = labelling(rt, alloc, graph, ranking, alone, &FreeGate)?;
     row_lines(alloc, &index)

@@ -11,11 +11,11 @@ use Rattle.label_pool.specs.Seats.{Seated}
 use Rattle.pool_view.specs.Fitting.{Fitting, order_of}
 use Rattle.pool_view.specs.Putting.{IsListOf}
 use Rattle.pool_view.specs.Viewing.{ViewKept, puts_row}
-use Rattle.gll_superstep.specs.Growing.{SuperstepView}
+use Rattle.gll_superstep.specs.Workers.{SuperstepView}
 use Rattle.gll_superstep.specs.Workers.{AreUncovered}
 use Rattle.gll_superstep.proofs.DoneWorkers.{IsDone-there, grown_from_nothing, listed_by, sufficed_by}
 use Rattle.gll_superstep.proofs.GrownLists.{HavePutOver-where}
-use Rattle.gll_superstep.proofs.ShardedTables.{IsGathered-below}
+use Rattle.gll_table.proofs.ShardedTables.{IsGathered-below}
 use Rattle.gll_superstep.proofs.UncoveredPuts.{AreUncovered-from_nothing}
 use Rattle.gll_superstep.proofs.growing.grow_share.Goals as goal
 

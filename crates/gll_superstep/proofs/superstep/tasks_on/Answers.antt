@@ -1,5 +1,5 @@
 use Rattle.std.proofs.Common.{◌≡◌, ◌+◌, ◌-◌, sym, subst, arith}
-use Rattle.gll_superstep.specs.Growing.{SuperstepView}
+use Rattle.gll_superstep.specs.Workers.{SuperstepView}
 use Rattle.gll_superstep.specs.Workers.{AreSeatsOf}
 use Rattle.gll_superstep.proofs.superstep.tasks_on.Goals as goal
 

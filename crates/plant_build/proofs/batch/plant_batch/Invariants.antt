@@ -9,8 +9,8 @@ invariant-loop-p g l = record {
   planter : l.planter ≡ l.fn.planter;
   sink : l.sink.n ≡ l.fn.sink.n;
   position : l.p % l.batches ≡ l.batch;
-  gains : GainsPart l.graph.edges l.ranking (IsBatchBelow l.batches l.batch l.p) l.fn.sink l.sink;
+  gains : GainsPart l.graph.edges l.ranking (IsBatchBelow l.roots l.batches l.batch l.p) l.fn.sink l.sink;
 }
 
 abbrev pub decreases-loop-p : goal.decreases-loop-p
-decreases-loop-p g l = l.n - l.p
+decreases-loop-p g l = l.roots - l.p

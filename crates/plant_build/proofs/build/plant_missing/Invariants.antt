@@ -8,5 +8,5 @@ abbrev pub invariant-loop-batch : goal.invariant-loop-batch
 invariant-loop-batch g l = record {
   planter : l.planter ≡ l.graph.n;
   sink : l.sink.n ≡ l.graph.n;
-  holds : HoldsPart l.graph.edges l.ranking (IsMissingBelow l.come l.batch) (sunk_at l.sink);
+  holds : HoldsPart l.graph.edges l.ranking (IsMissingBelow l.roots l.come l.batch) (sunk_at l.sink);
 }

@@ -22,9 +22,9 @@ loop-harvest-init c =
       size = ap length come_is ∙ length-replicate c.args.batches false;
       below = subst (All (λ h. IsBelow c.args.batches h.numbers.items)) all c.requires.below;
       once = λ b. let rest = ap (sum_by (λ (h : Harvest). times b h.numbers.items)) all in omega (arith, c.requires.once b, marked_none c.in_ok-come.come.items b (none b), rest);
-      come = λ edges at n held.
-          let begun : HasCome edges at n c.in_ok-come.come.items [] = HasCome-none edges at n c.in_ok-come.come.items none in
-          (subst (λ sinks. HasCome edges at n c.in_ok-come.come.items sinks) (sym c.in_ok-sinks.ensures.items) begun, subst (All (IsHeld edges at c.args.batches n)) all held);
+      come = λ edges at roots n held.
+          let begun : HasCome edges at roots n c.in_ok-come.come.items [] = HasCome-none edges at roots n c.in_ok-come.come.items none in
+          (subst (λ sinks. HasCome edges at roots n c.in_ok-come.come.items sinks) (sym c.in_ok-sinks.ensures.items) begun, subst (All (IsHeld edges at roots c.args.batches n)) all held);
     }
 
 abbrev numbers_of : Harvest → List ℕ
@@ -70,16 +70,16 @@ loop-harvest-preserved c =
       once = λ b.
           let next = next_once old harvest rest c.loop-harvest.harvest-iterator.rest.items b seen (so_far.once b) in
           omega (arith, next, marked_more old new harvest.numbers.items b adds, ap (λ marks. marked marks b) kept);
-      come = λ edges at n held.
-          let before = so_far.come edges at n held in
-          let all = subst (All (IsHeld edges at c.args.batches n)) seen before.1 in
-          let first = All-head (IsHeld edges at c.args.batches n) harvest rest all in
-          let holds = subst (λ (batches : ℕ). HoldsBatches edges at batches harvest.numbers.items harvest.sink) (sym so_far.size) first.1 in
-          let come = HasCome-more edges at n old new harvest.numbers.items c.loop-harvest.sinks.items harvest.sink first.0 holds adds before.0 in (
-            subst (λ (t : List Bool × List Sunk). HasCome edges at n t.0 t.1) (λ j. (sym kept j, sym c.in_ok-push.ensures.items j)) come,
-            All-tail (IsHeld edges at c.args.batches n) harvest rest all,
+      come = λ edges at roots n held.
+          let before = so_far.come edges at roots n held in
+          let all = subst (All (IsHeld edges at roots c.args.batches n)) seen before.1 in
+          let first = All-head (IsHeld edges at roots c.args.batches n) harvest rest all in
+          let holds = subst (λ (batches : ℕ). HoldsBatches edges at roots batches harvest.numbers.items harvest.sink) (sym so_far.size) first.1 in
+          let come = HasCome-more edges at roots n old new harvest.numbers.items c.loop-harvest.sinks.items harvest.sink first.0 holds adds before.0 in (
+            subst (λ (t : List Bool × List Sunk). HasCome edges at roots n t.0 t.1) (λ j. (sym kept j, sym c.in_ok-push.ensures.items j)) come,
+            All-tail (IsHeld edges at roots c.args.batches n) harvest rest all,
           );
     }
 
 pub returns-clause-come : goal.returns-clause-come
-returns-clause-come c edges at n held = (c.loop-harvest.invariant.come edges at n held).0
+returns-clause-come c edges at roots n held = (c.loop-harvest.invariant.come edges at roots n held).0

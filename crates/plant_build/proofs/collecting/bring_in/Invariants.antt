@@ -13,5 +13,5 @@ invariant-loop-harvest l = record {
   size : length l.come.items ≡ l.batches;
   below : All (λ h. IsBelow l.batches h.numbers.items) l.harvest-iterator.rest.items;
   once : (b : ℕ) → marked l.come.items b + sum_by (λ h. times b h.numbers.items) l.harvest-iterator.rest.items ≤ 1;
-  come : (edges : List Edge) (at : List ℕ) (n : ℕ) → All (IsHeld edges at l.batches n) l.fn.harvests.items → HasCome edges at n l.come.items l.sinks.items × All (IsHeld edges at l.batches n) l.harvest-iterator.rest.items;
+  come : (edges : List Edge) (at : List ℕ) (roots n : ℕ) → All (IsHeld edges at roots l.batches n) l.fn.harvests.items → HasCome edges at roots n l.come.items l.sinks.items × All (IsHeld edges at roots l.batches n) l.harvest-iterator.rest.items;
 }

@@ -34,6 +34,6 @@ bring_in-requires-clause-once c b =
 pub returns-clause-come : goal.returns-clause-come
 returns-clause-come c =
     IfOk-weaker c.bring_in.result _ _
-    (λ got come edges at n worked.
-    come edges at n (subst (All (IsHeld edges at c.args.batches n)) (sym c.in_ok-hands.ensures.harvests)
-    (All-map (IsHeld edges at c.args.batches n) harvest_of c.args.crew.members.items (λ k d within. let w = worked k d within in (w.sink, w.holds (c.in_ok-hands.ensures.memory k d within)))))) c.bring_in.ensures.come
+    (λ got come edges at roots n worked.
+    come edges at roots n (subst (All (IsHeld edges at roots c.args.batches n)) (sym c.in_ok-hands.ensures.harvests)
+    (All-map (IsHeld edges at roots c.args.batches n) harvest_of c.args.crew.members.items (λ k d within. let w = worked k d within in (w.sink, w.holds (c.in_ok-hands.ensures.memory k d within)))))) c.bring_in.ensures.come

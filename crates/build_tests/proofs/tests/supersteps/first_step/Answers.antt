@@ -1,6 +1,6 @@
 use Rattle.std.proofs.Common.{◌∙◌, sym, subst}
 use Rattle.label_clean.specs.Below.{IsChlBelow}
-use Rattle.build_tests.proofs.EmptyTables.{IsChlBelow-none}
+use Rattle.gll_build.proofs.EmptyTables.{IsChlBelow-none}
 use Rattle.build_tests.proofs.tests.supersteps.first_step.Goals as goal
 
 pub step-requires-clause-global : goal.step-requires-clause-global

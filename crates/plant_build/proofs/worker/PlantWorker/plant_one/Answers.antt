@@ -13,8 +13,8 @@ returns-clause-worked g c =
     let old = c.args.self.now in
     record {
       sink = c.in_ok-plant_batch.ensures.sink ∙ c.requires.worked.sink;
-      holds = λ memory. subst (λ numbers. HoldsBatches edges at c.args.batches numbers c.plant_batch.new.sink) (sym c.in_ok-push.ensures.items)
-          (HoldsBatches-more edges at c.args.batches c.args.batch old.numbers.items old.sink c.plant_batch.new.sink (c.requires.worked.holds c.requires.memory) c.in_ok-plant_batch.ensures.gains);
+      holds = λ memory. subst (λ numbers. HoldsBatches edges at c.args.roots c.args.batches numbers c.plant_batch.new.sink) (sym c.in_ok-push.ensures.items)
+          (HoldsBatches-more edges at c.args.roots c.args.batches c.args.batch old.numbers.items old.sink c.plant_batch.new.sink (c.requires.worked.holds c.requires.memory) c.in_ok-plant_batch.ensures.gains);
       took = record {
         below = subst (All (λ b. b < c.args.batches)) (sym c.in_ok-push.ensures.items) (All-push (λ b. b < c.args.batches) old.numbers.items c.args.batch c.requires.worked.took.below c.requires.batch);
         took = λ x. omega (arith, ap (times x) c.in_ok-push.ensures.items, times_push x old.numbers.items c.args.batch, c.requires.took x);

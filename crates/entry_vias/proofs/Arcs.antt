@@ -1,0 +1,106 @@
+-- What the arcs of a node tell of the entries of its row, as they are gone along by rising neighbour.
+use Rattle.std.proofs.Common.{◌≡◌, ◌↔◌, ◌⊎◌, ℕ, ◌+◌, ◌*◌, ◌^◌, ◌<◌, ◌≤◌, List, All, Contains, length, map, get_or, take, refl, sym, ap, subst, inl, inr, arith}
+use Rattle.std.specs.List.Sorted.{IsNonDecreasing}
+use Rattle.std.proofs.Math.Nat.{mul-le-mul_right}
+use Rattle.std.proofs.lemmas.Bool.{cases_lt}
+use Rattle.std.proofs.lemmas.List.{get_or-map, get_or_default, get_or-take, length-map, length-take}
+use Rattle.std.proofs.lemmas.List.Elements.{All-contains, All-nil, Contains-get_or}
+use Rattle.walk_laws.specs.declared.graph.Edge.{Edge}
+use Rattle.walk_laws.specs.declared.graph.Arc.{Arc}
+use Rattle.walk_laws.specs.declared.entry.Entry.{Entry}
+use Rattle.walk_laws.specs.Graph.{IsGraph, greatest_weight}
+use Rattle.walk_laws.specs.Joined.{Joined}
+use Rattle.walk_laws.specs.Labelling.{label_row}
+use Rattle.walk_laws.proofs.JoinedEdges.{arcs_of_row}
+use Rattle.hub_index.proofs.CoveredEntries.{All-one_more, All-whole}
+use Rattle.entry_vias.specs.declared.sought.Sought.{Sought}
+use Rattle.entry_vias.specs.declared.sought.Sought.TheVariants.{NoEntry, Unknown, Known}
+use Rattle.entry_vias.specs.RowVias.{IsNearer, IsFirstNearer}
+use Rattle.entry_vias.specs.Sought.{entry_at, LeadsNearer, IsAfterLook, IsAfterAll}
+
+-- an arc for a read past the end, where none is made
+abbrev pub no_arc : Arc
+no_arc = record { to = 0; w = 0 }
+
+-- an arc of a graph leads to one of its nodes, by a short weight
+pub record IsShortArc (n : ℕ) (a : Arc) : Type 0 where
+  pub from_one : 1 ≤ a.to
+  pub up_to_n : a.to ≤ n
+  pub light : a.w < 2 ^ 62
+
+pub arc_facts : (n : ℕ) (edges : List Edge) (v : ℕ) (arcs : List Arc) (k : ℕ) → IsGraph n edges → 1 ≤ n → ((t w : ℕ) → Contains arcs (record { to = t; w = w }) ↔ Joined edges v t w) → k < length arcs → IsShortArc n (get_or arcs k no_arc)
+arc_facts n edges v arcs k graph some joined lt =
+    let arc = arcs_of_row n edges v arcs graph joined k no_arc lt in
+    let one : 1 * greatest_weight edges ≤ n * greatest_weight edges = mul-le-mul_right (greatest_weight edges) some in
+    record { from_one = arc.from_one; up_to_n = arc.up_to_n; light = omega (arith, arc.light, one, graph.fits) }
+
+module _ (J : ℕ → ℕ → ℕ → Type 0) (rows : List (List Entry)) (v : ℕ) (arcs : List Arc) where
+  -- what is known at the position p after the first k arcs
+  abbrev pub IsAfterArcs : ℕ → ℕ → Sought → Sought → Type 0
+  IsAfterArcs k p NoEntry now = now ≡ NoEntry
+  IsAfterArcs k p (Known via) now = now ≡ Known via
+  IsAfterArcs k p (Unknown d) now = ((now ≡ Unknown d) × All (λ a. ¬ LeadsNearer (label_row rows a.to) a p d) (take k arcs)) ⊎ ((y : ℕ) × (now ≡ Known y) × IsFirstNearer J rows v (entry_at p d) y)
+
+module _ (J : ℕ → ℕ → ℕ → Type 0) (rows : List (List Entry)) (v : ℕ) (arcs : List Arc) (joined : (t w : ℕ) → Contains arcs (record { to = t; w = w }) ↔ J v t w) where
+  nearer_by : (p d : ℕ) (a : Arc) → Contains arcs a → LeadsNearer (label_row rows a.to) a p d → IsNearer J rows v (entry_at p d) a.to
+  nearer_by p d a there leads = record { weight = a.w; dist = leads.0; arc = (joined a.to a.w).0 there; there = leads.1; long = leads.2 }
+
+  pub IsAfterArcs-none : (p : ℕ) (before : Sought) → IsAfterArcs J rows v arcs 0 p before before
+  IsAfterArcs-none p NoEntry = refl
+  IsAfterArcs-none p (Known via) = refl
+  IsAfterArcs-none p (Unknown d) = inl (refl, All-nil (λ a. ¬ LeadsNearer (label_row rows a.to) a p d))
+
+  module _ (rising : IsNonDecreasing (map (λ a. a.to) arcs)) (k : ℕ) (within : k < length arcs) where
+    to_of : Arc → ℕ
+    to_of a = a.to
+
+    rises_to : (i : ℕ) → k ≤ i → i < length arcs → (get_or arcs k no_arc).to ≤ (get_or arcs i no_arc).to
+    unfolding to_of
+    rises_to i le lt =
+        let r : get_or (map (λ a. a.to) arcs) k 0 ≤ get_or (map (λ a. a.to) arcs) i 0 = rising k i 0 le (omega (arith, length-map arcs to_of, lt)) in
+        omega (arith, r, get_or-map to_of arcs k no_arc 0 within, get_or-map to_of arcs i no_arc 0 lt)
+
+    -- where none of the arcs before it leads nearer, each arc that does leads to no lesser node
+    no_lesser : (p d : ℕ) → All (λ a. ¬ LeadsNearer (label_row rows a.to) a p d) (take k arcs) → (z : ℕ) → IsNearer J rows v (entry_at p d) z → (get_or arcs k no_arc).to ≤ z
+    no_lesser p d none z n =
+        let a : Arc = record { to = z; w = n.weight } in
+        let there = (joined z n.weight).1 n.arc in
+        let leads : LeadsNearer (label_row rows z) a p d = (n.dist, n.there, n.long) in
+        let here : get_or arcs there.0 no_arc ≡ a = subst (λ x. x ≡ a) (get_or_default arcs there.0 a no_arc there.1) there.2 in
+        elim (cases_lt there.0 k) [
+          | inr after ↦ omega (arith, rises_to there.0 after there.1, ap (λ (x : Arc). x.to) here)
+          | inl before ↦
+              let taken : get_or (take k arcs) there.0 no_arc ≡ a = subst (λ x. x ≡ a) (sym (get_or-take k arcs there.0 no_arc before)) here in
+              absurd (none there.0 no_arc (omega (arith, length-take k arcs, before, there.1)) (subst (λ x. LeadsNearer (label_row rows x.to) x p d) (sym taken) leads))
+        ]
+
+    -- one arc more
+    pub IsAfterArcs-next : (p : ℕ) (before now next : Sought) → IsAfterArcs J rows v arcs k p before now → IsAfterLook (label_row rows (get_or arcs k no_arc).to) (get_or arcs k no_arc) p now next → IsAfterArcs J rows v arcs (k + 1) p before next
+    IsAfterArcs-next p NoEntry now next was look = subst (λ s. IsAfterLook (label_row rows (get_or arcs k no_arc).to) (get_or arcs k no_arc) p s next) was look
+    IsAfterArcs-next p (Known via) now next was look = subst (λ s. IsAfterLook (label_row rows (get_or arcs k no_arc).to) (get_or arcs k no_arc) p s next) was look
+    IsAfterArcs-next p (Unknown d) now next was look =
+        let a : Arc = get_or arcs k no_arc in
+        elim was [
+          | inr found ↦ inr (found.0, subst (λ s. IsAfterLook (label_row rows a.to) a p s next) found.1 look, found.2)
+          | inl still ↦
+              let told : IsAfterLook (label_row rows a.to) a p (Unknown d) next = subst (λ s. IsAfterLook (label_row rows a.to) a p s next) still.0 look in
+              elim told [
+                | inl misses ↦ inl (misses.0, All-one_more (λ a. ¬ LeadsNearer (label_row rows a.to) a p d) arcs k no_arc within still.1 misses.1)
+                | inr hits ↦ inr (a.to, hits.0, record { nearer = nearer_by p d a (Contains-get_or arcs k no_arc within) hits.1; least = no_lesser p d still.1 })
+              ]
+        ]
+
+  -- after all arcs
+  pub IsAfterAll-arcs : (k p : ℕ) (before now : Sought) → length arcs ≤ k → IsAfterArcs J rows v arcs k p before now → IsAfterAll J rows v p before now
+  IsAfterAll-arcs k p NoEntry now over was = was
+  IsAfterAll-arcs k p (Known via) now over was = was
+  IsAfterAll-arcs k p (Unknown d) now over was = elim was [
+    | inr found ↦ inr found
+    | inl still ↦ inl (
+      still.0,
+      λ z n.
+          All-contains (λ a. ¬ LeadsNearer (label_row rows a.to) a p d) arcs (record { to = z; w = n.weight })
+          (All-whole (λ a. ¬ LeadsNearer (label_row rows a.to) a p d) arcs k over still.1)
+          ((joined z n.weight).1 n.arc) (n.dist, n.there, n.long),
+    )
+  ]

@@ -1,0 +1,9 @@
+pub mod RowFacts
+pub mod LaidOut
+pub mod Looks
+pub mod Arcs
+pub mod Found
+pub mod Lists
+pub mod OneList
+pub mod Labelled
+pub mod Existing

@@ -1,0 +1,13 @@
+//! What all workers have put in a superstep is cleaned and merged in the global table, shard by shard.
+//!
+//! [`begin_merging`] makes a [`MergeTask`] for each shard of a table, [`MergeTask::merge`] does it, and [`merged_table`] makes a table
+//! of the shards again. It stands on gll_table (the table, and what workers hand in), label_clean and hub_index.
+#![tactic(auto)]
+
+mod merge_tasks;
+mod merging;
+mod putting_together;
+
+pub use merge_tasks::{Merging, begin_merging};
+pub use merging::{MergeTask, Merged};
+pub use putting_together::merged_table;

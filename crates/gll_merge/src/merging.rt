@@ -1,0 +1,91 @@
+//! What all workers put in a superstep is merged in the table, shard by shard.
+
+use gll_table::Build;
+use hub_index::SplitRows;
+use label_clean::{Cleaner, HubRows, RunList};
+use std::alloc::{AllocError, Global};
+use std::marker::{Model, PhantomData};
+use std::sync::Arc;
+
+/// A shard of the table by itself, which is the labelling up to the position `first`. Contracts see its number, from 0, that
+/// position and its rows.
+#[derive(Drop)]
+pub struct Shard<B: Build> {
+    pub rows: SplitRows,
+    pub number: u32,
+    pub first: u32,
+    pub of: PhantomData<B>,
+}
+
+impl<B: Build> Model for Shard<B> {
+    ghost use Rattle.std.specs.Prelude.{◌≤◌, length};
+    ghost use Rattle.gll_table.specs.Tables.{IsShardBelow};
+    ghost use Rattle.gll_merge.specs.Merging.{OneShard};
+
+    ghost Value = { OneShard };
+
+    ghost view = { λ s. record { number = s.number; first = s.first; rows = s.rows } };
+
+    ghost invariant = { λ s. (s.first ≤ length B.order) × IsShardBelow B.edges B.order B.shift s.first s.number s.rows };
+}
+
+/// A shard of the table, and what is to be merged in it: a list of each worker. It is the labelling up to the position `next`
+/// then. Contracts see the shard.
+#[derive(Drop)]
+pub struct MergeTask<B: Build> {
+    pub shard: Shard<B>,
+    pub next: u32,
+    pub lists: Vec<RunList>,
+    pub hub_rows: Arc<HubRows, Global>,
+}
+
+impl<B: Build> Model for MergeTask<B> {
+    ghost use Rattle.gll_merge.specs.Merging.{IsMerge};
+    ghost use Rattle.gll_merge.specs.Merging.{OneShard};
+
+    ghost Value = { OneShard };
+
+    ghost view = { λ t. t.shard };
+
+    ghost invariant = { λ t. IsMerge B.edges B.order B.shift t.shard.number t.shard.first t.next t.lists.items t.hub_rows.value };
+}
+
+/// A shard in which lists were merged, and the lists, which are of no more use. Where memory ran out the shard is given up.
+#[derive(Drop)]
+pub struct Merged<B: Build> {
+    pub shard: Result<Shard<B>, AllocError>,
+    pub lists: Vec<RunList>,
+}
+
+impl<B: Build> MergeTask<B> {
+    /// Merges the lists in the shard.
+    pub fn merge(self, cleaner: &mut Cleaner) -> Merged<B> {
+        let MergeTask {
+            shard,
+            next,
+            lists,
+            hub_rows,
+        } = self;
+        let Shard {
+            mut rows,
+            number,
+            first: _,
+            of,
+        } = shard;
+        match cleaner.join(&hub_rows, &lists, &mut rows) {
+            Ok(()) => Merged {
+                shard: Ok(Shard {
+                    rows,
+                    number,
+                    first: next,
+                    of,
+                }),
+                lists,
+            },
+            Err(fault) => Merged {
+                shard: Err(fault),
+                lists,
+            },
+        }
+    }
+}

@@ -1,8 +1,0 @@
-use Rattle.std.proofs.Common.{take}
-use Rattle.gll_superstep.specs.Partition.{ListsHubs}
-use Rattle.gll_superstep.specs.Growing.{all_put}
-use Rattle.gll_superstep.proofs.outputs.hubs_below.Given as goal
-
--- what the first workers put at those nodes is listed
-abbrev pub invariant-loop-output : goal.invariant-loop-output
-invariant-loop-output g l = ListsHubs g.B.Build.order l.next (all_put (take l.output-index l.outputs)) l.hubs.items

@@ -1,7 +1,0 @@
-use Rattle.std.proofs.Common.{◌≡◌, take}
-use Rattle.gll_superstep.specs.Partition.{hub_entries}
-use Rattle.gll_superstep.proofs.partitioning.list_hubs.Given as goal
-
--- the entries so far are listed
-abbrev pub invariant-loop-entry : goal.invariant-loop-entry
-invariant-loop-entry l = l.hubs.items ≡ hub_entries l.ranking l.below (take l.entry-index l.entries)

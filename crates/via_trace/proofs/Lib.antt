@@ -1,0 +1,5 @@
+pub mod RowFacts
+pub mod Searched
+pub mod Ways
+pub mod Walked
+pub mod Told
