@@ -191,14 +191,14 @@ fn plan_for(n: u32, workers: u32) -> Shards
     if workers == 1 {
         return Shards { shift: 30 };
     }
-    let size = (n / workers / 4).max(LEAST_STRIPE);
+    let size = (n / workers / 4).max(LEAST_SHARD);
     Shards {
         shift: size.ilog2().min(30),
     }
 }
 
 /// The fewest nodes that are worth a shard.
-const LEAST_STRIPE: u32 = 16;
+const LEAST_SHARD: u32 = 16;
 
 /// One superstep: of a table that is the canonical hub labelling up to the position `first`, the one up to the position of
 /// the next root, and that position.

@@ -6,3 +6,4 @@ pub mod MergedShards
 pub mod LastParts
 pub mod PartsLong
 pub mod PlacedShards
+pub mod NewTasks

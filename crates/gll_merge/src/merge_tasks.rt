@@ -5,7 +5,7 @@ ghost use Rattle.label_clean.specs.declared.hub_rows.HubEntry.{HubEntry};
 ghost use Rattle.label_clean.specs.HubRows.{AreGathered};
 ghost use Rattle.gll_table.specs.Partition.{ListsHubs};
 ghost use Rattle.gll_table.specs.Outputs.{all_put};
-ghost use Rattle.gll_merge.specs.Merging.{IsMerge, lists_at};
+ghost use Rattle.gll_merge.specs.Merging.{AreTasksFrom, IsMerge, IsMergingOf, lists_at};
 ghost use Rattle.gll_table.specs.Tables.{AreShardsBelow, IsShardBelow};
 
 use crate::merging::{MergeTask, Merged, Shard};
@@ -30,12 +30,17 @@ pub struct Merging<B: Build> {
 }
 
 /// For each shard of the table the task to merge what all workers put there. The error is that memory ran out, for one of them
-/// or here, or that the roots whose trees were grown aren't those that come next, each once.
+/// or here, that one of them grew trees over another table, or that the roots whose trees were grown aren't those that come next, each
+/// once.
 pub fn begin_merging<B: Build>(
     context: &BuildContext<'_, B>,
     table: Table<B>,
     outputs: Vec<Result<WorkerOutput<B>, AllocError>>,
-) -> Result<Merging<B>, AllocError> {
+) -> Result<Merging<B>, AllocError>
+    ensures tasks { IfOk result (λ merging. IsMergingOf table outputs.items merging.next merging.tasks.items) }
+    ensures none_yet { IfOk result (λ merging. merging.merged.items ≡ []) }
+    ensures workspaces { IfOk result (λ merging. vec_len merging.workspaces ≡ vec_len outputs) }
+{
     let n = context.graph.n();
     let ranked = context.ranking.n();
     prove!(n == ranked);
@@ -79,7 +84,8 @@ fn taken_apart<B: Build>(
     alloc: Global,
     outputs: Vec<WorkerOutput<B>>,
 ) -> Result<(Vec<Workspace<B>>, Vec<Vec<RunList>>), AllocError>
-    ensures { IfOk result (λ parts. map (λ d. d.items) parts.1.items ≡ map (λ o. o.parts) outputs.items) }
+    ensures workspaces { IfOk result (λ parts. vec_len parts.0 ≡ vec_len outputs) }
+    ensures parts { IfOk result (λ parts. map (λ d. d.items) parts.1.items ≡ map (λ o. o.parts) outputs.items) }
 {
     let mut workspaces = Vec::with_capacity(alloc, outputs.len())?;
     let mut parts = Vec::with_capacity(alloc, outputs.len())?;
@@ -96,7 +102,8 @@ fn add_parts<B: Build>(
     workspaces: &mut Vec<Workspace<B>>,
     parts: &mut Vec<Vec<RunList>>,
 ) -> Result<(), AllocError>
-    ensures { OnOk result (map (λ d. d.items) parts.new.items ≡ map (λ d. d.items) parts.old.items ++ output.parts ∷ []) }
+    ensures workspaces { OnOk result (vec_len workspaces.new ≡ vec_len workspaces.old + 1) }
+    ensures parts { OnOk result (map (λ d. d.items) parts.new.items ≡ map (λ d. d.items) parts.old.items ++ output.parts ∷ []) }
 {
     let (workspace, lists) = output.into_parts(alloc);
     parts.push(lists)?;
@@ -104,8 +111,8 @@ fn add_parts<B: Build>(
     Ok(())
 }
 
-/// For each of so many shards, which are a table up to the position `first`, from 0, the parts that are for it. The only
-/// error is that memory ran out.
+/// For each of so many shards, which are a table up to the position `first`, from 0, the task to merge in it the parts that are for
+/// it, as many as workers. The only error is that memory ran out.
 fn tasks_for<B: Build>(
     alloc: Global,
     first: u32,
@@ -119,6 +126,7 @@ fn tasks_for<B: Build>(
     requires count { length shards.items ≡ count }
     requires long { All (λ d. length d.items ≡ shard_count B.shift (length B.order)) parts.items }
     requires each { (number : ℕ) → number < shard_count B.shift (length B.order) → IsMerge B.edges B.order B.shift number first next (lists_at (map (λ d. d.items) parts.items) number) hub_rows.now.value }
+    ensures { IfOk result (λ tasks. AreTasksFrom 0 first next shards.items (map (λ d. d.items) parts.items) tasks.items) }
 {
     let mut shards = shards;
     let mut parts = parts;
@@ -144,6 +152,7 @@ fn task_for<B: Build>(
     requires within { first ≤ length B.order }
     requires shard { IsShardBelow B.edges B.order B.shift first number rows }
     requires lists { IsMerge B.edges B.order B.shift number first next lists.items hub_rows.now.value }
+    ensures { IfOk result (λ task. task ≡ record { shard = record { number = number; first = first; rows = rows }; next = next; lists = lists.items }) }
 {
     let hub_rows = Arc::try_clone(hub_rows)?;
     Ok(MergeTask {

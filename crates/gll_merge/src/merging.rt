@@ -1,4 +1,5 @@
 //! What all workers put in a superstep is merged in the table, shard by shard.
+ghost use Rattle.std.specs.Prelude.{◌≡◌, IfOk};
 
 use gll_table::Build;
 use hub_index::SplitRows;
@@ -11,10 +12,10 @@ use std::sync::Arc;
 /// position and its rows.
 #[derive(Drop)]
 pub struct Shard<B: Build> {
-    pub rows: SplitRows,
-    pub number: u32,
-    pub first: u32,
-    pub of: PhantomData<B>,
+    pub(crate) rows: SplitRows,
+    pub(crate) number: u32,
+    pub(crate) first: u32,
+    pub(crate) of: PhantomData<B>,
 }
 
 impl<B: Build> Model for Shard<B> {
@@ -29,37 +30,51 @@ impl<B: Build> Model for Shard<B> {
     ghost invariant = { λ s. (s.first ≤ length B.order) × IsShardBelow B.edges B.order B.shift s.first s.number s.rows };
 }
 
-/// A shard of the table, and what is to be merged in it: a list of each worker. It is the labelling up to the position `next`
-/// then. Contracts see the shard.
+/// A shard of the table, and what is to be merged in it: a list of each worker. It is the labelling up to the position `next`, from 0,
+/// then. Contracts see the shard, that position and the lists.
 #[derive(Drop)]
 pub struct MergeTask<B: Build> {
-    pub shard: Shard<B>,
-    pub next: u32,
-    pub lists: Vec<RunList>,
-    pub hub_rows: Arc<HubRows, Global>,
+    pub(crate) shard: Shard<B>,
+    pub(crate) next: u32,
+    pub(crate) lists: Vec<RunList>,
+    pub(crate) hub_rows: Arc<HubRows, Global>,
 }
 
 impl<B: Build> Model for MergeTask<B> {
     ghost use Rattle.gll_merge.specs.Merging.{IsMerge};
-    ghost use Rattle.gll_merge.specs.Merging.{OneShard};
+    ghost use Rattle.gll_merge.specs.Merging.{OneTask};
 
-    ghost Value = { OneShard };
+    ghost Value = { OneTask };
 
-    ghost view = { λ t. t.shard };
+    ghost view = { λ t. record { shard = t.shard; next = t.next; lists = t.lists.items } };
 
     ghost invariant = { λ t. IsMerge B.edges B.order B.shift t.shard.number t.shard.first t.next t.lists.items t.hub_rows.value };
 }
 
-/// A shard in which lists were merged, and the lists, which are of no more use. Where memory ran out the shard is given up.
+/// A shard in which lists were merged, and the lists, which are of no more use. Where memory ran out the shard is given up. Contracts
+/// see both.
 #[derive(Drop)]
 pub struct Merged<B: Build> {
-    pub shard: Result<Shard<B>, AllocError>,
-    pub lists: Vec<RunList>,
+    pub(crate) shard: Result<Shard<B>, AllocError>,
+    pub(crate) lists: Vec<RunList>,
+}
+
+impl<B: Build> Model for Merged<B> {
+    ghost use Rattle.gll_merge.specs.Merging.{OneMerged};
+
+    ghost Value = { OneMerged };
+
+    ghost view = { λ m. record { shard = m.shard; lists = m.lists.items } };
 }
 
 impl<B: Build> MergeTask<B> {
-    /// Merges the lists in the shard.
-    pub fn merge(self, cleaner: &mut Cleaner) -> Merged<B> {
+    /// Merges the lists in the shard, which is the labelling up to the task's next position then. The lists come back in any case. The only
+    /// error that stands in the shard's place is that memory ran out.
+    pub fn merge(self, cleaner: &mut Cleaner) -> Merged<B>
+        ensures number { IfOk result.shard (λ shard. shard.number ≡ self.shard.number) }
+        ensures first { IfOk result.shard (λ shard. shard.first ≡ self.next) }
+        ensures lists { result.lists ≡ self.lists }
+    {
         let MergeTask {
             shard,
             next,

@@ -62,6 +62,7 @@ impl<'a, B: Build> BuildContext<'a, B> {
         requires workers { (1 ≤ workers) × (workers ≤ 64) }
         requires cut { 1 ≤ cut }
         requires goal { goal ≡ B.goal }
+        ensures { result.cut ≡ cut }
     {
         let n = graph.n();
         BuildContext {

@@ -1,5 +1,5 @@
 //! What all workers have put in a superstep comes together.
-ghost use Rattle.std.specs.Prelude.{◌≡◌, ◌≤◌, ◌++◌, List, All, IfOk, OnOk};
+ghost use Rattle.std.specs.Prelude.{◌≡◌, ◌≤◌, ◌++◌, List, All, map, IfOk, OnOk};
 ghost use Rattle.std.specs.List.Sorted.{IsPermutation};
 ghost use Rattle.walk_laws.specs.Ranking.{IsRanking};
 ghost use Rattle.label_clean.specs.declared.hub_rows.HubEntry.{HubEntry};
@@ -84,13 +84,14 @@ impl<B: Build> WorkerOutput<B> {
     }
 }
 
-/// What all workers have put over the table up to the position `first`, from 0. The error is that memory ran out for one of
-/// them, or here, or that one of them grew trees over another table.
+/// What all workers have put over the table up to the position `first`, from 0: each of these outputs, in their order. The error is
+/// that memory ran out for one of them, or here, or that one of them grew trees over another table.
 pub fn collect_outputs<B: Build>(
     alloc: Global,
     first: u32,
     outputs: Vec<Result<WorkerOutput<B>, AllocError>>,
 ) -> Result<Vec<WorkerOutput<B>>, AllocError>
+    ensures all { IfOk result (λ collected. map (λ o. Ok o) collected.items ≡ outputs.items) }
     ensures first { IfOk result (λ collected. All (λ o. o.first ≡ first) collected.items) }
     ensures are { IfOk result (λ collected. All (IsOutput B.edges B.order B.shift) collected.items) }
 {
@@ -107,6 +108,7 @@ fn output_over<B: Build>(
     first: u32,
     output: Result<WorkerOutput<B>, AllocError>,
 ) -> Result<WorkerOutput<B>, AllocError>
+    ensures same { IfOk result (λ o. Ok o ≡ output) }
     ensures first { IfOk result (λ o. o.first ≡ first) }
     ensures is { IfOk result (IsOutput B.edges B.order B.shift) }
 {
@@ -153,8 +155,8 @@ fn roots_of<B: Build>(alloc: Global, outputs: &[WorkerOutput<B>]) -> Result<Vec<
     Ok(roots)
 }
 
-/// What all have put at the nodes with positions below the next root's, but for what is of the node itself. The only error is
-/// that memory ran out.
+/// What all have put at the nodes with positions below the next root's, of hubs that rank above the node: that is all but each
+/// node's entry of itself, since no hub ranks below the node at which it was put. The only error is that memory ran out.
 pub fn hubs_below<B: Build>(
     context: &BuildContext<'_, B>,
     next: u32,
@@ -173,7 +175,7 @@ pub fn hubs_below<B: Build>(
     Ok(hubs)
 }
 
-/// Adds what a worker put at the nodes with positions below the next root's, but for what is of the node itself. It is listed in
+/// Adds what a worker put at the nodes with positions below the next root's, of hubs that rank above the node. It is listed in
 /// `more`, in the place of what there was, where the worker's own list doesn't go as far. The only error is that memory ran out.
 fn add_hubs<B: Build>(
     context: &BuildContext<'_, B>,

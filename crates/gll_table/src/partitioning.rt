@@ -80,8 +80,9 @@ fn list_all_runs(lists: &mut [RunList]) -> Result<(), AllocError>
     Ok(())
 }
 
-/// Lists the entries at nodes with a position below another one, from 0, but for those whose hub is the node itself, in the place
-/// of what there was. The only error is that memory ran out.
+/// Lists the entries at nodes with a position below another one, from 0, whose hub ranks above the node, in the place of what there
+/// was. No hub of an entry ranks below its node, so only those whose hub is the node itself are left out. The only error is that
+/// memory ran out.
 pub fn list_hubs(
     ranking: &Ranking,
     below: u32,

@@ -83,7 +83,8 @@ impl<B: Build> Table<B> {
 
     /// Its shards, which are the labelling up to the position of the next root.
     pub fn into_shards(self) -> Vec<SplitRows>
-        ensures { AreShardsBelow B.edges B.order B.shift self.first result.items }
+        ensures same { result.items ≡ self.shards }
+        ensures below { AreShardsBelow B.edges B.order B.shift self.first result.items }
     {
         let Table {
             shards,

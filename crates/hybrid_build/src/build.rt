@@ -1,11 +1,10 @@
-ghost use Rattle.std.specs.Prelude.{◌≡◌, ◌^◌, ◌≤◌, length, IfOk};
+ghost use Rattle.std.specs.Prelude.{◌≡◌, ◌^◌, ◌≤◌, length, min, IfOk};
 ghost use Rattle.walk_laws.specs.Joined.{Joined};
 ghost use Rattle.walk_laws.specs.Labelling.{IsChl};
 
+use crate::halves::{HybridIndex, PlantedRows, planted_roots};
 use desk_io::Gate;
-use gll_build::gll_rows_from;
-use hub_index::{Index, SplitIndex, SplitRows};
-use plant_build::plant_first;
+use hub_index::{Index, SplitIndex};
 use rank_table::Ranking;
 use renumbering::WorkingCopy;
 use std::alloc::{AllocError, Global};
@@ -39,7 +38,8 @@ pub fn build_hybrid<R: Threads + Wait + Sync, G: Gate + Sync>(
     ensures order { IfOk result (λ index. index.order ≡ ranking.now) }
     ensures labelling { IfOk result (λ index. IsChl (Joined graph.now.edges) ranking.now index.rows) }
 {
-    let index = build_hybrid_split(rt, alloc, graph, ranking, workers, cut, eta, gate)?;
+    let hybrid = both_halves(rt, alloc, graph, ranking, workers, cut, eta, gate)?;
+    let index = hybrid.of_planted(planted_roots(eta, graph.n()));
     index.into_index(alloc)
 }
 
@@ -63,21 +63,12 @@ pub fn build_hybrid_split<R: Threads + Wait + Sync, G: Gate + Sync>(
     ensures order { IfOk result (λ index. index.order ≡ ranking.now) }
     ensures labelling { IfOk result (λ index. IsChl (Joined graph.now.edges) ranking.now index.rows) }
 {
-    let copy = WorkingCopy::new(alloc, graph, ranking)?;
-    let rows = both_halves(
-        rt,
-        alloc,
-        &copy.graph,
-        &copy.ranking,
-        workers,
-        cut,
-        eta,
-        gate,
-    )?;
-    copy.split_index(alloc, graph, ranking, rows)
+    let hybrid = both_halves(rt, alloc, graph, ranking, workers, cut, eta, gate)?;
+    Ok(hybrid.of_planted(planted_roots(eta, graph.n())))
 }
 
-/// The rows of the labelling: those of the first roots are planted, and the supersteps begin with them.
+/// The index by both halves, for which the trees of the first `eta` roots are planted, or of all where there are no more, and those of
+/// the others pruned. The only error is that memory ran out.
 fn both_halves<R: Threads + Wait + Sync, G: Gate + Sync>(
     rt: &R,
     alloc: Global,
@@ -87,18 +78,26 @@ fn both_halves<R: Threads + Wait + Sync, G: Gate + Sync>(
     cut: u32,
     eta: u32,
     gate: &G,
-) -> Result<SplitRows, AllocError>
+) -> Result<HybridIndex, AllocError>
     requires nodes { length ranking.now ≡ graph.now.n }
     requires workers_from { 1 ≤ workers }
     requires workers_to { workers ≤ 64 }
     requires cut_from { 1 ≤ cut }
     requires cut_to { cut ≤ 2 ^ 30 }
-    ensures { IfOk result (IsChl (Joined graph.now.edges) ranking.now) }
+    ensures planted { IfOk result (λ hybrid. hybrid.planted ≡ min eta graph.now.n) }
+    ensures order { IfOk result (λ hybrid. hybrid.index.order ≡ ranking.now) }
+    ensures labelling { IfOk result (λ hybrid. IsChl (Joined graph.now.edges) ranking.now hybrid.index.rows) }
 {
-    let n = graph.n();
-    let first = eta.min(n);
-    let planted = plant_first(rt, alloc, graph, ranking, first, workers, cut, gate)?;
-    gll_rows_from(
-        rt, alloc, graph, ranking, planted, first, workers, cut, gate,
-    )
+    let copy = WorkingCopy::new(alloc, graph, ranking)?;
+    let planted = PlantedRows::new(
+        rt,
+        alloc,
+        &copy.graph,
+        &copy.ranking,
+        workers,
+        cut,
+        eta,
+        gate,
+    )?;
+    HybridIndex::grown_from(rt, alloc, copy, graph, ranking, planted, workers, cut, gate)
 }

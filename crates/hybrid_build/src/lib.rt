@@ -8,5 +8,6 @@
 #![tactic(auto)]
 
 mod build;
+mod halves;
 
 pub use build::{build_hybrid, build_hybrid_split};

@@ -155,7 +155,7 @@ impl Witnesses {
         Ok(())
     }
 
-    /// Conforms along the roads of a node that is so far away, and answers how many neighbours need a shortcut yet.
+    /// Goes along the roads of a node that is so far away, and answers how many neighbours need a shortcut yet.
     #[inline(always)]
     fn pass(&mut self, row: &[Road], length: u32, quest: Quest) -> Result<usize, AllocError> {
         let mut left = quest.left;

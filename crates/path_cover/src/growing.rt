@@ -111,7 +111,7 @@ impl Growing {
         Ok(())
     }
 
-    /// Conforms along the roads of a node that is so far from the root. No node is nearer to the root than by a hub from the limit
+    /// Goes along the roads of a node that is so far from the root. No node is nearer to the root than by a hub from the limit
     /// on, and the roads stand by rising length.
     #[inline(always)]
     fn pass(

@@ -6,8 +6,8 @@ use Rattle.gll_merge.proofs.merge_tasks.add_parts.Goals as goal
 abbrev lists_of : Vec RunList Global → List RunList
 lists_of d = d.items
 
-pub returns : goal.returns
-returns g c =
+pub returns-clause-parts : goal.returns-clause-parts
+returns-clause-parts g c =
     ap (map lists_of) c.in_ok-push.ensures.items
     ∙ map_push lists_of c.args.parts.now.items c.into_parts-workspace.result.1
     ∙ ap (λ list. map lists_of c.args.parts.now.items ++ list ∷ []) c.into_parts-workspace.ensures
