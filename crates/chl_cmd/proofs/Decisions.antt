@@ -1,25 +1,25 @@
 -- What the files decide: always something, and one thing.
-use Rattle.std.proofs.Common.{◌≡◌, ◌≤◌, ℕ, Bool, true, false, cond, List, length, take, nat_lt, ap, refl, subst, sym, ◌∙◌, arith}
+use Rattle.std.proofs.Common.{◌≡◌, ◌≤◌, ℕ, Bool, true, false, cond, List, length, take, nat_lt, ap, refl, sym, ◌∙◌, arith, eqb-true}
 use Rattle.std.specs.Prelude.{◌==◌, Option, Some, None, Result, Ok, Err}
 use Rattle.std.specs.FinMap as finite_map
-use Rattle.std.proofs.lemmas.Bool.{le-ltb}
 use Rattle.desk_io.specs.Contents.{Files}
 use Rattle.desk_io.specs.Reading.{input_limit}
 use Rattle.grid_work.specs.Grid.{grid, grid_edges}
 use Rattle.grid_work.proofs.GridGraphs.{grid_weights}
 use Rattle.dimacs_text.proofs.TextsAccepted.{graph_accepted, pairs_accepted}
-use Rattle.hub_index.specs.HubIndex.{HubIndex}
-use Rattle.hub_index.specs.WellFormed.{IsWellFormed}
-use Rattle.hub_index.proofs.CanonicalRows.{IsWellFormed-canonical}
+use Rattle.entry_vias.proofs.Existing.{AreVias-exist}
+use Rattle.entry_vias.proofs.OneList.{AreVias-one}
 use Rattle.hub_query.proofs.Meetings.{meet_exists, meet_unique}
 use Rattle.hub_query.proofs.PathsDecided.{path_exists, path_unique}
 use Rattle.hub_query.specs.Paths.{IsPathOf}
-use Rattle.index_audit.proofs.Decided.{audit_exists}
-use Rattle.index_audit.proofs.Faults.{audit_unique}
-use Rattle.index_file.specs.Judging.{index_of}
-use Rattle.index_file.proofs.SoundIndexes.{IsWellFormed-index_of}
-use Rattle.index_file.specs.Layout.{index_bytes}
-use Rattle.index_file.proofs.Layouts.{index_of-layout}
+use Rattle.index_audit.proofs.OneUpgrade.{upgrade_exists, upgrade_unique}
+use Rattle.index_file.specs.Stored.{IsStored, without_vias}
+use Rattle.index_file.proofs.SoundIndexes.{IsStored-index_of}
+use Rattle.index_file.specs.declared.stored_index.StoredIndex.{StoredIndex}
+use Rattle.index_file.specs.declared.stored_index.StoredIndex.TheVariants.{Plain, Traced}
+use Rattle.via_trace.specs.Traces.{IsTraceOf}
+use Rattle.via_trace.proofs.EachTrace.{trace_exists}
+use Rattle.via_trace.proofs.OneTrace.{trace_unique}
 use Rattle.order_text.proofs.OrderNodes.{orders_rank}
 use Rattle.walk_laws.specs.declared.entry.Entry.{Entry}
 use Rattle.walk_laws.specs.Graph.{WeightedGraph, IsGraph}
@@ -35,24 +35,25 @@ use Rattle.walk_laws.proofs.JoinedEdges.{weights_of_edges}
 use Rattle.walk_laws.proofs.LabellingExists.{IsChl-exists}
 use Rattle.walk_laws.proofs.LabelRows.{IsChl-unique}
 use Rattle.chl_inputs.specs.Inputs.{Input, value_at, value_of, judged, past_limit, graph_input, order_input, pairs_input, index_input, ArePairsWithin}
-use Rattle.chl_inputs.specs.Stages.{Stage, After}
+use Rattle.chl_inputs.specs.Stages.{Stage, After, Comes}
 use Rattle.chl_inputs.specs.Stops.{graph_stop, order_stop, pairs_stop, index_stop}
 use Rattle.chl_inputs.specs.declared.stop.Stop.{Stop}
 use Rattle.chl_inputs.specs.declared.stop.Stop.TheVariants.{NotOfGraph}
 use Rattle.chl_inputs.specs.declared.stop.NotOf.TheVariants.{Sizes}
-use Rattle.chl_inputs.proofs.StageLaws.{Answerable, Determined, decided_always, decided_once, after_ok, after_told, after_value}
+use Rattle.chl_inputs.proofs.StageLaws.{Answerable, Determined, decided_always, decided_once}
 use Rattle.chl_inputs.proofs.StagesInTurn.{same_value}
-use Rattle.chl_lines.specs.PrintedAnswers.{answer_lines}
 use Rattle.chl_lines.specs.PrintedOrders.{order_lines}
 use Rattle.chl_lines.specs.PrintedRows.{lines_from}
-use Rattle.chl_cmd.specs.Commands.{Decides, stage_of, labelling_stage, solve_stage, query_stage, path_stage, audit_stage, degree_stage, rank_stage, grid_stage, answers_stage, AreAnswers, IsRankingOf, stage_if}
+use Rattle.chl_cmd.specs.Commands.{Decides, stage_of, labelling_stage, file_stage, solve_stage, query_stage, path_stage, trace_stage, traces_stage, for_vias, audit_stage, upgrade_stage, degree_stage, rank_stage, grid_stage, answers_stage, AreAnswers, IsRankingOf, stage_if}
 use Rattle.chl_cmd.specs.Laws.{AreAlike, IsRankingText}
 use Rattle.chl_cmd.specs.Statuses.{status_after}
-use Rattle.chl_words.specs.declared.asked.Construction.{Construction}
 use Rattle.chl_words.specs.declared.asked.Asked.{Asked}
-use Rattle.chl_words.specs.declared.asked.Asked.TheVariants.{List as ListRows, Build, Solve, Query, Path, Audit, Degree, Rank, Grid}
+use Rattle.chl_words.specs.declared.asked.Asked.TheVariants.{List as ListRows, Build, Solve, Query, Path, Trace, Audit, Upgrade, Degree, Rank, Grid}
+use Rattle.chl_words.specs.declared.asked.Version.{Version}
+use Rattle.chl_words.specs.declared.asked.Version.TheVariants.{One, Two}
 use Rattle.rank_table.proofs.DegreeRankings.{ranked_by_degree, IsByDegree-unique}
 use Rattle.chl_cmd.proofs.PairAnswers.{answers_exist, answers_unique, answers_told}
+use Rattle.chl_cmd.proofs.StoredIndexes.{stored_audit_exists, stored_audit_unique, stored_well}
 
 module _ {V F : Type 0} (stop : F → Stop) where
   judged_value : (r : Result V F) (v : V) → judged stop r ≡ Ok v → r ≡ Ok v
@@ -73,7 +74,7 @@ module _ {V : Type 0} where
   value_bytes input None v is = absurd cc
   value_bytes input (Some bytes) v is = (bytes, chosen_value (nat_lt input_limit (length bytes)) (input.plain (take input_limit bytes)) (input.comes_to bytes) v is)
 
--- the graph of a text is one, the ranking of a text is one of so many nodes, and so are pairs; an index is well formed
+-- the graph of a text is one, the ranking of a text is one of so many nodes, and so are pairs; an index is sound
 pub graph_of_stage : (name : List ℕ) (files : Files) (g : WeightedGraph) → value_at (graph_input name) files ≡ Ok g → IsGraph g.n g.edges
 graph_of_stage name files g is =
     let bytes = value_bytes (graph_input name) (finite_map.get files name) g is in
@@ -84,27 +85,37 @@ ranking_of_stage n name files at is =
     let bytes = value_bytes (order_input n name) (finite_map.get files name) at is in
     orders_rank n bytes.0 at (judged_value order_stop _ at bytes.1)
 
-pairs_of_stage : (n : ℕ) (name : List ℕ) (files : Files) (pairs : List (ℕ × ℕ)) → value_at (pairs_input n name) files ≡ Ok pairs → ArePairsWithin n pairs
+pub pairs_of_stage : (n : ℕ) (name : List ℕ) (files : Files) (pairs : List (ℕ × ℕ)) → value_at (pairs_input n name) files ≡ Ok pairs → ArePairsWithin n pairs
 pairs_of_stage n name files pairs is =
     let bytes = value_bytes (pairs_input n name) (finite_map.get files name) pairs is in
     pairs_accepted n bytes.0 pairs (judged_value pairs_stop _ pairs bytes.1)
 
-index_of_stage : (name : List ℕ) (files : Files) (index : HubIndex) → value_at (index_input name) files ≡ Ok index → IsWellFormed index.order index.rows
-index_of_stage name files index is =
-    let bytes = value_bytes (index_input name) (finite_map.get files name) index is in
-    IsWellFormed-index_of bytes.0 index (judged_value index_stop _ index bytes.1)
+index_of_stage : (name : List ℕ) (files : Files) (stored : StoredIndex) → value_at (index_input name) files ≡ Ok stored → IsStored stored
+index_of_stage name files stored is =
+    let bytes = value_bytes (index_input name) (finite_map.get files name) stored is in
+    IsStored-index_of bytes.0 stored (judged_value index_stop _ stored bytes.1)
 
--- the rows of a labelling
-module _ (bytes_of : List ℕ → List (List Entry) → List ℕ) (graph order : List ℕ) (files : Files) where
-  labelling_always : Answerable (labelling_stage bytes_of graph order) files
-  labelling_always = λ g graph_is at order_is.
+-- the rows of a labelling, and what comes of them
+module _ (next : WeightedGraph → List ℕ → List (List Entry) → Stage (List ℕ)) (graph order : List ℕ) (files : Files) where
+  labelling_always : ((g : WeightedGraph) (at : List ℕ) (rows : List (List Entry)) → Answerable (next g at rows) files) → Answerable (labelling_stage next graph order) files
+  labelling_always some = λ g graph_is at order_is.
       let weights = weights_of_edges g.n g.edges (graph_of_stage graph files g graph_is).edge in
       let ranking = (ranking_of_stage g.n order files at order_is).0 in
       let rows = IsChl-exists (Joined g.edges) at ranking (IsCanonical-joined_decided g.edges weights at ranking) in
-      (rows.0, rows.1, tt)
+      (rows.0, rows.1, some g at rows.0)
 
-  labelling_once : Determined (labelling_stage bytes_of graph order) files
-  labelling_once = λ g graph_is at order_is. (IsChl-unique (Joined g.edges) at, λ rows chl. tt)
+  labelling_once : ((g : WeightedGraph) (at : List ℕ) (rows : List (List Entry)) → Determined (next g at rows) files) → Determined (labelling_stage next graph order) files
+  labelling_once one = λ g graph_is at order_is. (IsChl-unique (Joined g.edges) at, λ rows chl. one g at rows)
+
+-- the file of rows, with their vias or without
+module _ (files : Files) (g : WeightedGraph) (at : List ℕ) (rows : List (List Entry)) where
+  file_always : (version : Version) → Answerable (file_stage version g at rows) files
+  file_always One = tt
+  file_always Two = let vias = AreVias-exist g.edges rows in (vias.0, vias.1, tt)
+
+  file_once : (version : Version) → Determined (file_stage version g at rows) files
+  file_once One = tt
+  file_once Two = (AreVias-one (Joined g.edges) rows, λ vias are. tt)
 
 -- the answers of pairs in a graph
 module _ (g : WeightedGraph) (graph : IsGraph g.n g.edges) (at : List ℕ) (ranking : IsRanking at) (size : length at ≡ g.n) where
@@ -146,49 +157,93 @@ module _ (graph order pairs : List ℕ) (files : Files) where
 
 module _ (index pairs : List ℕ) (files : Files) where
   query_always : Answerable (query_stage index pairs) files
-  query_always = λ i index_is asked pairs_is.
+  query_always = λ stored index_is asked pairs_is.
+      let i = without_vias stored in
       lines_always (length i.order) (IsMeet i.order i.rows) asked (pairs_of_stage (length i.order) pairs files asked pairs_is) files
-      (λ u v. meet_exists i.order i.rows u v (index_of_stage index files i index_is))
+      (λ u v. meet_exists i.order i.rows u v (stored_well stored (index_of_stage index files stored index_is)))
 
   query_once : Determined (query_stage index pairs) files
-  query_once = λ i index_is asked pairs_is.
+  query_once = λ stored index_is asked pairs_is.
+      let i = without_vias stored in
       lines_once (length i.order) (IsMeet i.order i.rows) asked (pairs_of_stage (length i.order) pairs files asked pairs_is) files
       (λ u v a b first first_within second second_within one other. meet_unique i.order i.rows u v a b one other)
 
 -- a stage, or another that comes to a stop
 module _ {V : Type 0} (stage : Stage V) (stop : Stop) (files : Files) where
-  either_always : (b : Bool) → Answerable stage files → Answerable (stage_if b stop stage) files
-  either_always true has = has
+  either_always : (b : Bool) → (b ≡ true → Answerable stage files) → Answerable (stage_if b stop stage) files
+  either_always true has = has refl
   either_always false has = tt
 
-  either_once : (b : Bool) → Determined stage files → Determined (stage_if b stop stage) files
-  either_once true one = one
+  either_once : (b : Bool) → (b ≡ true → Determined stage files) → Determined (stage_if b stop stage) files
+  either_once true one = one refl
   either_once false one = tt
 
 module _ (graph index pairs : List ℕ) (files : Files) where
   path_always : Answerable (path_stage graph index pairs) files
-  path_always = λ g graph_is i index_is. either_always _ (NotOfGraph (Sizes g.n (length i.order))) files (g.n == length i.order) (λ asked pairs_is.
+  path_always = λ g graph_is stored index_is.
+      let i = without_vias stored in
+      either_always _ (NotOfGraph (Sizes g.n (length i.order))) files (g.n == length i.order) (λ same asked pairs_is.
       let walks = answers_exist (length i.order) (IsPathOf g i)
-      (λ u v. path_exists g i u v (graph_of_stage graph files g graph_is) (index_of_stage index files i index_is))
+      (λ u v. path_exists g i u v (graph_of_stage graph files g graph_is) (stored_well stored (index_of_stage index files stored index_is)))
       asked (pairs_of_stage (length i.order) pairs files asked pairs_is) in
       (walks.0, walks.1, tt))
 
   path_once : Determined (path_stage graph index pairs) files
-  path_once = λ g graph_is i index_is. either_once _ (NotOfGraph (Sizes g.n (length i.order))) files (g.n == length i.order) (λ asked pairs_is. (
-    answers_unique (length i.order) (IsPathOf g i) (λ u v a b first first_within second second_within one other. path_unique g i u v a b one other)
-        asked (pairs_of_stage (length i.order) pairs files asked pairs_is),
-    λ walks own. tt,
-  ))
+  path_once = λ g graph_is stored index_is.
+      let i = without_vias stored in
+      either_once _ (NotOfGraph (Sizes g.n (length i.order))) files (g.n == length i.order) (λ same asked pairs_is. (
+        answers_unique (length i.order) (IsPathOf g i) (λ u v a b first first_within second second_within one other. path_unique g i u v a b one other)
+            asked (pairs_of_stage (length i.order) pairs files asked pairs_is),
+        λ walks own. tt,
+      ))
+
+module _ (index pairs : List ℕ) (files : Files) where
+  -- with vias each pair has its trace, and one only
+  traced_always : (stored : StoredIndex) → IsStored stored → Answerable (for_vias stored (λ t. traces_stage t pairs)) files
+  traced_always (Plain i) sound = tt
+  traced_always (Traced t) sound = λ asked pairs_is.
+      let told = answers_exist (length t.order) (IsTraceOf t) (trace_exists t sound.0 sound.1) asked (pairs_of_stage (length t.order) pairs files asked pairs_is) in
+      (told.0, told.1, tt)
+
+  traced_once : (stored : StoredIndex) → IsStored stored → Determined (for_vias stored (λ t. traces_stage t pairs)) files
+  traced_once (Plain i) sound = tt
+  traced_once (Traced t) sound = λ asked pairs_is. (
+    answers_unique (length t.order) (IsTraceOf t) (λ u v a b first first_within second second_within. trace_unique t sound.0 sound.1 u v first first_within second second_within a b)
+        asked (pairs_of_stage (length t.order) pairs files asked pairs_is),
+    λ told own. tt,
+  )
+
+  trace_always : Answerable (trace_stage index pairs) files
+  trace_always = λ stored index_is. traced_always stored (index_of_stage index files stored index_is)
+
+  trace_once : Determined (trace_stage index pairs) files
+  trace_once = λ stored index_is. traced_once stored (index_of_stage index files stored index_is)
 
 module _ (graph order index : List ℕ) (files : Files) where
   audit_always : Answerable (audit_stage graph order index) files
-  audit_always = λ g graph_is at order_is i index_is.
+  audit_always = λ g graph_is at order_is stored index_is.
       let size = (ranking_of_stage g.n order files at order_is).1 in
-      let found = audit_exists g at i (graph_of_stage graph files g graph_is) size (index_of_stage index files i index_is) in
+      let found = stored_audit_exists g at size stored (graph_of_stage graph files g graph_is) (index_of_stage index files stored index_is) in
       (found.0, found.1, tt)
 
   audit_once : Determined (audit_stage graph order index) files
-  audit_once = λ g graph_is at order_is i index_is. (audit_unique g at i (ranking_of_stage g.n order files at order_is).1, λ found told. tt)
+  audit_once = λ g graph_is at order_is stored index_is. (stored_audit_unique g at (ranking_of_stage g.n order files at order_is).1 stored, λ found told. tt)
+
+module _ (graph index : List ℕ) (files : Files) where
+  upgrade_always : Answerable (upgrade_stage graph index) files
+  upgrade_always = λ g graph_is stored index_is.
+      let i = without_vias stored in
+      either_always _ (NotOfGraph (Sizes g.n (length i.order))) files (g.n == length i.order) (λ same.
+      let made = upgrade_exists g i (graph_of_stage graph files g graph_is) (sym (eqb-true g.n (length i.order) same)) (stored_well stored (index_of_stage index files stored index_is)) in
+      (made.0, made.1, tt))
+
+  upgrade_once : Determined (upgrade_stage graph index) files
+  upgrade_once = λ g graph_is stored index_is.
+      let i = without_vias stored in
+      either_once _ (NotOfGraph (Sizes g.n (length i.order))) files (g.n == length i.order) (λ same. (
+        upgrade_unique g i (sym (eqb-true g.n (length i.order) same)),
+        λ made own. tt,
+      ))
 
 module _ (graph : List ℕ) (files : Files) where
   degree_always : Answerable (degree_stage graph) files
@@ -231,12 +286,14 @@ module _ (side seed : ℕ) (files : Files) where
 
 -- a case for each command
 has_answer : (asked : Asked) (files : Files) → Answerable (stage_of asked) files
-has_answer (ListRows graph order) files = labelling_always (λ at rows. lines_from at 1 rows) graph order files
-has_answer (Build graph order out construction) files = labelling_always index_bytes graph order files
+has_answer (ListRows graph order) files = labelling_always (λ g at rows. Comes (Ok (lines_from at 1 rows))) graph order files (λ g at rows. tt)
+has_answer (Build graph order out version construction) files = labelling_always (file_stage version) graph order files (λ g at rows. file_always files g at rows version)
 has_answer (Solve graph order pairs construction) files = solve_always graph order pairs files
 has_answer (Query index pairs) files = query_always index pairs files
 has_answer (Path graph index pairs) files = path_always graph index pairs files
+has_answer (Trace index pairs) files = trace_always index pairs files
 has_answer (Audit graph order index) files = audit_always graph order index files
+has_answer (Upgrade graph index out) files = upgrade_always graph index files
 has_answer (Degree graph) files = degree_always graph files
 has_answer (Rank graph) files = rank_always graph files
 has_answer (Grid grid) files = grid_always grid.side grid.seed files
@@ -245,12 +302,14 @@ pub decides_always : (asked : Asked) (files : Files) → (answer : Result (List 
 decides_always asked files = decided_always (stage_of asked) files (has_answer asked files)
 
 pub decides_once : (asked : Asked) (files : Files) (x y : Result (List ℕ) Stop) → Decides asked files x → Decides asked files y → AreAlike asked files x y
-decides_once (ListRows graph order) files = decided_once (stage_of (ListRows graph order)) files (labelling_once (λ at rows. lines_from at 1 rows) graph order files)
-decides_once (Build graph order out construction) files = decided_once (stage_of (Build graph order out construction)) files (labelling_once index_bytes graph order files)
+decides_once (ListRows graph order) files = decided_once (stage_of (ListRows graph order)) files (labelling_once (λ g at rows. Comes (Ok (lines_from at 1 rows))) graph order files (λ g at rows. tt))
+decides_once (Build graph order out version construction) files = decided_once (stage_of (Build graph order out version construction)) files (labelling_once (file_stage version) graph order files (λ g at rows. file_once files g at rows version))
 decides_once (Solve graph order pairs construction) files = decided_once (stage_of (Solve graph order pairs construction)) files (solve_once graph order pairs files)
 decides_once (Query index pairs) files = decided_once (stage_of (Query index pairs)) files (query_once index pairs files)
 decides_once (Path graph index pairs) files = decided_once (stage_of (Path graph index pairs)) files (path_once graph index pairs files)
+decides_once (Trace index pairs) files = decided_once (stage_of (Trace index pairs)) files (trace_once index pairs files)
 decides_once (Audit graph order index) files = decided_once (stage_of (Audit graph order index)) files (audit_once graph order index files)
+decides_once (Upgrade graph index out) files = decided_once (stage_of (Upgrade graph index out)) files (upgrade_once graph index files)
 decides_once (Degree graph) files = decided_once (stage_of (Degree graph)) files (degree_once graph files)
 decides_once (Rank graph) files = λ x y. ranks_alike graph files x y (value_at (graph_input graph) files) refl
 decides_once (Grid grid) files = decided_once (stage_of (Grid grid)) files (grid_once grid.side grid.seed files)
@@ -262,40 +321,3 @@ alike_status asked files x y alike = ap status_after alike
 
 pub decides_one_status : (asked : Asked) (files : Files) (x y : Result (List ℕ) Stop) → Decides asked files x → Decides asked files y → status_after x ≡ status_after y
 decides_one_status asked files x y first second = alike_status asked files x y (decides_once asked files x y first second)
-
--- a file that has the layout of a well formed index is read as that
-pub index_of_layout : (index : List ℕ) (files : Files) (bytes at : List ℕ) (rows : List (List Entry)) → finite_map.get files index ≡ Some bytes → length bytes ≤ input_limit → IsWellFormed at rows → bytes ≡ index_bytes at rows → value_at (index_input index) files ≡ Ok (record { order = at; rows = rows })
-index_of_layout index files bytes at rows held short well same =
-    ap (value_of (index_input index)) held
-    ∙ ap (λ b. cond b (past_limit ((index_input index).plain (take input_limit bytes))) (judged index_stop (index_of bytes))) (le-ltb _ _ short)
-    ∙ ap (judged index_stop) (ap index_of same ∙ index_of-layout at rows well)
-
--- what a query says of an index file that was built is what is said of the graph
-pub queries_answer : (graph order out index pairs : List ℕ) (construction : Construction) (files others : Files) (bytes : List ℕ) (answer : Result (List ℕ) Stop) → Decides (Build graph order out construction) files (Ok bytes) → finite_map.get others index ≡ Some bytes → length bytes ≤ input_limit → finite_map.get others pairs ≡ finite_map.get files pairs → Decides (Query index pairs) others answer → Decides (Solve graph order pairs construction) files answer
-queries_answer graph order out index pairs construction files others bytes answer built held short same_pairs asks =
-    let after_graph = after_ok (value_at (graph_input graph) files) bytes (λ g. After (value_at (order_input g.n order) files) (Ok bytes) (λ at. Labelled g at)) built in
-    let g = after_graph.0 in
-    let after_order = after_ok (value_at (order_input g.n order) files) bytes (λ at. Labelled g at) after_graph.2 in
-    let at = after_order.0 in
-    let rows = after_order.2.0 in
-    let chl = after_order.2.1 in
-    let is_graph = graph_of_stage graph files g after_graph.1 in
-    let rank = ranking_of_stage g.n order files at after_order.1 in
-    let same = same_value bytes (index_bytes at rows) after_order.2.2 in
-    let index_is = index_of_layout index others bytes at rows held short (IsWellFormed-canonical g.n g.edges at is_graph rank.0 rank.1 rows chl) same in
-    let of_rows : After (value_at (pairs_input (length at) pairs) others) answer (λ asked. Says at rows asked) =
-    subst (λ r. After r answer (λ (i : HubIndex). After (value_at (pairs_input (length i.order) pairs) others) answer (λ asked. Says i.order i.rows asked))) index_is asks in
-    let of_nodes : After (value_at (pairs_input g.n pairs) others) answer (λ asked. Says at rows asked) =
-    subst (λ n. After (value_at (pairs_input n pairs) others) answer (λ asked. Says at rows asked)) rank.1 of_rows in
-    let of_files : After (value_at (pairs_input g.n pairs) files) answer (λ asked. Says at rows asked) =
-    subst (λ file. After (value_of (pairs_input g.n pairs) file) answer (λ asked. Says at rows asked)) same_pairs of_nodes in
-    after_value (value_at (graph_input graph) files) g answer _ after_graph.1
-    (after_value (value_at (order_input g.n order) files) at answer _ after_order.1
-    (after_told (value_at (pairs_input g.n pairs) files) answer _ _ (λ asked pairs_is says.
-    (says.0, answers_of_rows g is_graph at rank.0 rank.1 rows chl asked (pairs_of_stage g.n pairs files asked pairs_is) says.0 says.1, says.2)) of_files))
-  where
-    Labelled : WeightedGraph → List ℕ → Type 0
-    Labelled g at = (rows : List (List Entry)) × IsChl (Joined g.edges) at rows × (◌≡◌ {A = Result (List ℕ) Stop} (Ok bytes) (Ok (index_bytes at rows)))
-
-    Says : List ℕ → List (List Entry) → List (ℕ × ℕ) → Type 0
-    Says at rows asked = (answers : List (Option (ℕ × ℕ))) × AreAnswers (IsMeet at rows) asked answers × (answer ≡ Ok (answer_lines asked answers))

@@ -17,7 +17,7 @@ use Rattle.chl_cmd.specs.Commands.{Decides, stage_of, place_of}
 use Rattle.chl_cmd.specs.Outcome.{Ends, Gives, GivesPrefix, GivesPart, Stops, given, HasInputsOf, OpensNoOther, ChangesNoOther}
 use Rattle.chl_cmd.specs.Statuses.{status_of, status_after}
 use Rattle.chl_cmd.specs.declared.status.Status.{Status}
-use Rattle.chl_cmd.specs.declared.status.Status.TheVariants.{Done, Differs, Usage, GraphText, OrderText, PairsText, IndexBytes, Overflow, ReadFault, WriteFault, NoMemory, NotOfGraph, TooLong}
+use Rattle.chl_cmd.specs.declared.status.Status.TheVariants.{Done, Differs, Usage, GraphText, OrderText, PairsText, IndexBytes, Overflow, ReadFault, WriteFault, NoMemory, NotOfGraph, TooLong, NoVias, Broken}
 use Rattle.chl_words.specs.declared.asked.Asked.{Asked}
 use Rattle.chl_cmd.specs.Words.{IsCommand}
 use Rattle.chl_cmd.proofs.Decisions.{decides_one_status}
@@ -38,6 +38,8 @@ stop_in WriteFault = None
 stop_in NoMemory = Some stops.NoMemory
 stop_in (NotOfGraph fault) = Some (stops.NotOfGraph fault)
 stop_in TooLong = Some stops.TooLong
+stop_in NoVias = Some stops.NoVias
+stop_in (Broken at hub) = Some (stops.Broken at hub)
 
 stop_told : (stop : Stop) → stop_in (status_of stop) ≡ Some stop
 stop_told (stops.Graph fault) = refl
@@ -47,6 +49,8 @@ stop_told (stops.Pairs fault) = refl
 stop_told (stops.Index fault) = refl
 stop_told (stops.Differs audit) = refl
 stop_told (stops.NotOfGraph fault) = refl
+stop_told stops.NoVias = refl
+stop_told (stops.Broken at hub) = refl
 stop_told stops.TooLong = refl
 stop_told stops.ReadFailed = refl
 stop_told stops.NoMemory = refl

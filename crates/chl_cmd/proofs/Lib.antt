@@ -6,7 +6,15 @@ pub mod Decisions
 pub mod Endings
 pub mod Grids
 pub mod AuditAnswers
+pub mod UpgradeAnswers
 pub mod TextAnswers
+pub mod FileAnswers
+pub mod StoredIndexes
+pub mod BuiltFiles
+pub mod BuiltQueries
 pub mod BuiltAudits
-pub mod WalkAnswers
+pub mod BuiltUpgrades
+pub mod BuiltTraces
+pub mod StoppingAnswers
+pub mod ForSizes
 pub mod WaysToEnd

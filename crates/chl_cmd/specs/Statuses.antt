@@ -4,7 +4,7 @@ use Rattle.desk_io.specs.Counts.{Rises}
 use Rattle.index_file.specs.declared.fault.IndexFault.TheVariants as index_faults
 use Rattle.order_text.specs.declared.order_fault.OrderFault.TheVariants as order_faults
 use Rattle.chl_cmd.specs.declared.status.Status.{Status}
-use Rattle.chl_cmd.specs.declared.status.Status.TheVariants.{Done, Differs, Usage, GraphText, OrderText, PairsText, IndexBytes, Overflow, ReadFault, WriteFault, NoMemory, NotOfGraph, TooLong}
+use Rattle.chl_cmd.specs.declared.status.Status.TheVariants.{Done, Differs, Usage, GraphText, OrderText, PairsText, IndexBytes, Overflow, ReadFault, WriteFault, NoMemory, NotOfGraph, TooLong, NoVias, Broken}
 use Rattle.chl_inputs.specs.declared.stop.Stop.{Stop}
 use Rattle.chl_inputs.specs.declared.stop.Stop.TheVariants as stops
 
@@ -23,6 +23,8 @@ number_of WriteFault = 9
 number_of NoMemory = 10
 number_of (NotOfGraph fault) = 11
 number_of TooLong = 12
+number_of NoVias = 13
+number_of (Broken at hub) = 14
 
 -- the status of a command without output
 abbrev pub status_of : Stop → Status
@@ -33,6 +35,8 @@ status_of (stops.Pairs fault) = PairsText fault
 status_of (stops.Index fault) = IndexBytes fault
 status_of (stops.Differs audit) = Differs audit
 status_of (stops.NotOfGraph fault) = NotOfGraph fault
+status_of stops.NoVias = NoVias
+status_of (stops.Broken at hub) = Broken at hub
 status_of stops.TooLong = TooLong
 status_of stops.ReadFailed = ReadFault
 status_of stops.NoMemory = NoMemory

@@ -15,6 +15,8 @@ mod query;
 mod rank;
 mod solve;
 mod text;
+mod trace;
+mod upgrade;
 
 use audit::audit_output;
 use build::build_output;
@@ -33,6 +35,8 @@ use std::alloc::Global;
 use std::sync::Wait;
 use std::thread::Threads;
 use text::text_output;
+use trace::trace_output;
+use upgrade::upgrade_output;
 
 /// The bytes that a command gives, or why it gives none. It reads its inputs and works, and writes nothing.
 pub fn output<R: Threads + Wait + Sync, D: Desk, G: Gate + Sync>(
@@ -50,9 +54,10 @@ pub fn output<R: Threads + Wait + Sync, D: Desk, G: Gate + Sync>(
         Asked::Build {
             graph,
             order,
+            version,
             construction,
             ..
-        } => build_output(rt, alloc, graph, order, *construction, desk, gate),
+        } => build_output(rt, alloc, graph, order, *version, *construction, desk, gate),
         Asked::Solve {
             graph,
             order,
@@ -65,11 +70,13 @@ pub fn output<R: Threads + Wait + Sync, D: Desk, G: Gate + Sync>(
             index,
             pairs,
         } => path_output(alloc, graph, index, pairs, desk),
+        Asked::Trace { index, pairs } => trace_output(alloc, index, pairs, desk),
         Asked::Audit {
             graph,
             order,
             index,
         } => audit_output(rt, alloc, graph, order, index, desk),
+        Asked::Upgrade { graph, index, .. } => upgrade_output(rt, alloc, graph, index, desk),
         Asked::Degree { graph } => degree_output(alloc, graph, desk),
         Asked::Rank { graph } => rank_output(rt, alloc, graph, desk),
         Asked::Grid(grid) => text_output(alloc, grid_text(rt, alloc, *grid, gate)),
@@ -85,10 +92,11 @@ pub fn out_file(asked: &Asked) -> Option<&Name>
         | Asked::Solve { .. }
         | Asked::Query { .. }
         | Asked::Path { .. }
+        | Asked::Trace { .. }
         | Asked::Audit { .. }
         | Asked::Degree { .. }
         | Asked::Rank { .. }
         | Asked::Grid(_) => None,
-        Asked::Build { out, .. } => Some(out),
+        Asked::Build { out, .. } | Asked::Upgrade { out, .. } => Some(out),
     }
 }

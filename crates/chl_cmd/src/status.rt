@@ -46,12 +46,18 @@ pub enum Status {
     /// There was no memory for it.
     #[error("chl: out of memory")]
     NoMemory,
-    /// The index, by which walks of the graph are asked for, is of another graph.
+    /// The index, which is to be of the graph, is of another one.
     #[error("chl: index not of graph: {0}")]
     NotOfGraph(NotOf),
     /// An input has more than 2^48 bytes, and none of its lines or fields within these was refused.
     #[error("chl: input too long")]
     TooLong,
+    /// The index, by whose vias walks are asked for, has none.
+    #[error("chl: index has no vias")]
+    NoVias,
+    /// The vias of the index lead nowhere: from the node `at` no step leads nearer to the node `hub`.
+    #[error("chl: trace broken: hub {hub} at {at}")]
+    Broken { at: u32, hub: u32 },
 }
 
 impl Status {
@@ -73,6 +79,8 @@ impl Status {
             Status::NoMemory => 10,
             Status::NotOfGraph(_) => 11,
             Status::TooLong => 12,
+            Status::NoVias => 13,
+            Status::Broken { .. } => 14,
         }
     }
 }
@@ -91,6 +99,8 @@ pub fn stopped(stop: Stop) -> Status
         Stop::Index(fault) => Status::IndexBytes(fault),
         Stop::Differs(audit) => Status::Differs(audit),
         Stop::NotOfGraph(not_of) => Status::NotOfGraph(not_of),
+        Stop::NoVias => Status::NoVias,
+        Stop::Broken { at, hub } => Status::Broken { at, hub },
         Stop::TooLong => Status::TooLong,
         Stop::ReadFailed => Status::ReadFault,
         Stop::NoMemory => Status::NoMemory,

@@ -6,8 +6,8 @@ use Rattle.desk_io.specs.Contents.{Files}
 use Rattle.desk_io.specs.Reading.{input_limit}
 use Rattle.dimacs_text.specs.GraphText.{graph_of_text, graph_fault_within}
 use Rattle.dimacs_text.specs.PairsText.{pairs_of_text, pairs_fault_within}
-use Rattle.hub_index.specs.HubIndex.{HubIndex}
 use Rattle.index_file.specs.Judging.{index_of, fault_within}
+use Rattle.index_file.specs.declared.stored_index.StoredIndex.{StoredIndex}
 use Rattle.order_text.specs.OrderText.{order_of_text, order_fault_within}
 use Rattle.walk_laws.specs.Graph.{WeightedGraph}
 use Rattle.chl_inputs.specs.Stops.{graph_stop, order_stop, pairs_stop, index_stop}
@@ -60,8 +60,8 @@ order_input n name = input_from (order_fault_within n) (order_of_text n) order_s
 abbrev pub pairs_input : ℕ → List ℕ → Input (List (ℕ × ℕ))
 pairs_input n name = input_from (pairs_fault_within n) (pairs_of_text n) pairs_stop name
 
--- an index file
-abbrev pub index_input : List ℕ → Input HubIndex
+-- an index file, of either version
+abbrev pub index_input : List ℕ → Input StoredIndex
 index_input name = input_from fault_within index_of index_stop name
 
 -- both nodes of each pair are of 1..n

@@ -7,8 +7,7 @@ use crate::reading::read_input;
 use crate::stop::Stop;
 use desk_io::Desk;
 use dimacs_text::{GrReader, Pairs, PairsReader};
-use hub_index::Index;
-use index_file::IndexReader;
+use index_file::{IndexReader, StoredIndex};
 use order_text::OrderReader;
 use rank_table::Ranking;
 use std::alloc::Global;
@@ -41,8 +40,8 @@ pub fn read_pairs<D: Desk>(alloc: Global, name: &str, n: u32, desk: &mut D) -> R
     read_input(desk, name, reader)
 }
 
-/// The index of the named file.
-pub fn read_index<D: Desk>(alloc: Global, name: &str, desk: &mut D) -> Result<Index, Stop>
+/// The index of the named file, with its vias where the file has them.
+pub fn read_index<D: Desk>(alloc: Global, name: &str, desk: &mut D) -> Result<StoredIndex, Stop>
     ensures { Conforms D.Desk (reading (index_input name.now)) result desk.old desk.new }
 {
     let reader = IndexReader::new(alloc)?;

@@ -8,7 +8,7 @@ use order_text::OrderFault;
 use std::alloc::{AllocError, AllocFailed};
 use thiserror::Error;
 
-/// How it shows that an index is of another graph, where walks are asked for. Its text is what the program says of it.
+/// How it shows that an index is of another graph. Its text is what the program says of it.
 #[derive(Clone, Copy, Debug, PartialEq, Eq, Error)]
 pub enum NotOf {
     /// The graph has `graph` nodes, and the index has `index`.
@@ -34,8 +34,12 @@ pub enum Stop {
     Index(IndexFault),
     /// The index is not that of the graph under the order, and this is the first thing that is wrong with it.
     Differs(Audit),
-    /// The index, by which walks of the graph are asked for, is of another graph.
+    /// The index, which is to be of the graph, is of another one.
     NotOfGraph(NotOf),
+    /// The index, by whose vias walks are asked for, has none.
+    NoVias,
+    /// The vias of the index lead nowhere: from the node `at` no step leads nearer to the node `hub`.
+    Broken { at: u32, hub: u32 },
     /// An input has more bytes than the limit, and none of its lines or fields within the limit was refused.
     TooLong,
     /// An input could not be opened or read.

@@ -1,10 +1,10 @@
-ghost use Rattle.std.specs.Prelude.{◌≡◌, ℕ, ◌*◌, ◌<◌, ◌≤◌, [], ◌∷◌, ◌++◌, codes, flat_map, map, slice_index, IfOk, OnOk, length};
+ghost use Rattle.std.specs.Prelude.{◌≡◌, ℕ, ◌*◌, ◌<◌, ◌≤◌, ◌∷◌, ◌++◌, map, slice_index, IfOk, OnOk, length};
 ghost use Rattle.std.specs.Fmt.{decimal};
 ghost use Rattle.hub_query.specs.Meant.{meant};
 ghost use Rattle.hub_query.specs.Parts.{AreJoined};
 ghost use Rattle.chl_lines.specs.PrintedAnswers.{answer_line, answer_lines as lines_of_answers, part_lines as lines_of_part};
 ghost use Rattle.chl_lines.specs.PrintedOrders.{node_line, order_lines as lines_of_nodes};
-ghost use Rattle.chl_lines.specs.PrintedWalks.{node_word, walk_line, walk_lines as lines_of_walks};
+ghost use Rattle.chl_lines.specs.PrintedWalks.{apart_line, passing_line, trace_line, trace_lines as lines_of_traces, walk_line, walk_lines as lines_of_walks};
 ghost use Rattle.chl_lines.specs.PrintedRows.{entry_words, row_line, lines_from, HasPositions};
 
 use hub_index::Index;
@@ -13,6 +13,7 @@ use itoa::Buffer;
 use rank_table::Ranking;
 use std::alloc::{AllocError, Global};
 use std::thread::{self, Threads};
+use via_trace::Trace;
 use walk_laws::Entry;
 
 /// How many pairs have their lines printed by one thread at a time.
@@ -151,7 +152,7 @@ fn print_answer(text: &mut Vec<u8>, pair: (u32, u32), answer: Answer) -> Result<
 
 /// Puts the line of a pair between which no walk leads at the end of a text.
 fn print_apart(text: &mut Vec<u8>, pair: (u32, u32)) -> Result<(), AllocError>
-    ensures { OnOk result (text.new.items ≡ text.old.items ++ (codes "u " ++ (decimal pair.0 ++ (32 ∷ decimal pair.1) ++ 10 ∷ []))) }
+    ensures { OnOk result (text.new.items ≡ text.old.items ++ apart_line pair) }
 {
     text.extend_from_slice(b"u ")?;
     print_pair(text, pair)?;
@@ -181,23 +182,52 @@ fn print_path(text: &mut Vec<u8>, pair: (u32, u32), walk: &Path) -> Result<(), A
     ensures { OnOk result (text.new.items ≡ text.old.items ++ walk_line pair walk.now) }
 {
     match walk {
-        Path::Walk { length, nodes } => print_walk(text, pair, *length, nodes.list()),
+        Path::Walk { length, nodes } => print_walk(text, b"w ", pair, *length, nodes.list()),
         Path::Unreachable => print_apart(text, pair),
         Path::Sizes { .. } | Path::Stuck { .. } => Ok(()),
     }
 }
 
-/// Puts the line of a pair with a walk of this length, which passes these nodes, at the end of a text.
+/// The lines of pairs with their traces: `t S T D V ..` for a walk of length D from S to T that passes the nodes V, or
+/// `u S T` where none leads there. A trace that is broken has no line.
+pub fn trace_lines(
+    alloc: Global,
+    pairs: &[(u32, u32)],
+    traces: &[Trace],
+) -> Result<Vec<u8>, AllocError>
+    requires { length traces.now ≡ length pairs.now }
+    ensures { IfOk result (λ text. text.items ≡ lines_of_traces pairs.now traces.now) }
+{
+    let mut text = Vec::new(alloc);
+    for i in 0..pairs.len() {
+        print_trace(&mut text, pairs[i], &traces[i])?;
+    }
+    Ok(text)
+}
+
+/// Puts the line of a pair with its trace at the end of a text.
+fn print_trace(text: &mut Vec<u8>, pair: (u32, u32), trace: &Trace) -> Result<(), AllocError>
+    ensures { OnOk result (text.new.items ≡ text.old.items ++ trace_line pair trace.now) }
+{
+    match trace {
+        Trace::Walk { length, nodes } => print_walk(text, b"t ", pair, *length, nodes.list()),
+        Trace::Unreachable => print_apart(text, pair),
+        Trace::Broken { .. } => Ok(()),
+    }
+}
+
+/// Puts the line of a pair with a walk of this length, which passes these nodes, at the end of a text. It begins with a letter
+/// and its space.
 fn print_walk(
     text: &mut Vec<u8>,
+    letter: &[u8],
     pair: (u32, u32),
     length: u64,
     nodes: &[u32],
 ) -> Result<(), AllocError>
-    ensures { OnOk result (text.new.items ≡ text.old.items
-        ++ (codes "w " ++ (decimal pair.0 ++ (32 ∷ decimal pair.1) ++ (32 ∷ decimal length) ++ flat_map node_word nodes.now ++ 10 ∷ []))) }
+    ensures { OnOk result (text.new.items ≡ text.old.items ++ passing_line letter.now pair length nodes.now) }
 {
-    text.extend_from_slice(b"w ")?;
+    text.extend_from_slice(letter)?;
     print_pair(text, pair)?;
     print_number(text, length)?;
     for node in nodes {

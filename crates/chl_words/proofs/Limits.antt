@@ -5,11 +5,12 @@ use Rattle.std.specs.Option.{option_zip}
 use Rattle.std.specs.Str.{bytes_eq}
 use Rattle.std.proofs.lemmas.Bool.{leb-true}
 use Rattle.clap.specs.Words.{Kinds, Row, Text, fault_of, subcommand_of}
-use Rattle.chl_words.specs.Asking.{◌&◌, AreWithinLimits, IsWithinLimits, Values, any_number_of, asked_by, asked_in, asked_of, audit_of, build_of, construction_of, degree_of, greatest_seed, grid_of, list_of, longest_side, most_planted, most_roots, most_workers, number_in, path_of, query_of, rank_of, solve_of, unless_refused, values_in, within}
+use Rattle.chl_words.specs.Asking.{◌&◌, AreWithinLimits, IsWithinLimits, Values, any_number_of, asked_by, asked_in, asked_of, audit_of, build_of, construction_of, degree_of, greatest_seed, grid_of, list_of, longest_side, most_planted, most_roots, most_workers, number_in, path_of, query_of, rank_of, solve_of, trace_of, unless_refused, upgrade_of, values_in, within}
 use Rattle.chl_words.specs.Literal.{program}
 use Rattle.chl_words.specs.declared.asked.Asked.{Asked}
-use Rattle.chl_words.specs.declared.asked.Asked.TheVariants.{List as ListRows, Build, Solve, Query, Path, Audit, Degree, Rank, Grid}
+use Rattle.chl_words.specs.declared.asked.Asked.TheVariants.{List as ListRows, Build, Solve, Query, Path, Trace, Audit, Upgrade, Degree, Rank, Grid}
 use Rattle.chl_words.specs.declared.asked.Construction.{Construction}
+use Rattle.chl_words.specs.declared.asked.Version.{Version}
 
 anything : {A : Type 0} (a : Option A) → IfSome a (λ _. Unit {0})
 anything None = tt
@@ -80,14 +81,16 @@ or_else name word this other = (cond (bytes_eq name word) this.0 other.0, either
 abbrev all : Text → Values → Within
 all name value =
     or_else name (codes "list") (list_of value, free (λ (p : Two). ListRows p.0 p.1) _ (λ _. tt))
-    (or_else name (codes "build") (build_of value, built (λ (p : Three × Construction). Build p.0.0.0 p.0.0.1 p.0.1 p.1) _ value (λ _ _ h. h))
+    (or_else name (codes "build") (build_of value, built (λ (p : (Three × Version) × Construction). Build p.0.0.0.0 p.0.0.0.1 p.0.0.1 p.0.1 p.1) _ value (λ _ _ h. h))
     (or_else name (codes "solve") (solve_of value, built (λ (p : Three × Construction). Solve p.0.0.0 p.0.0.1 p.0.1 p.1) _ value (λ _ _ h. h))
     (or_else name (codes "query") (query_of value, free (λ (p : Two). Query p.0 p.1) _ (λ _. tt))
     (or_else name (codes "path") (path_of value, free (λ (p : Three). Path p.0.0 p.0.1 p.1) _ (λ _. tt))
+    (or_else name (codes "trace") (trace_of value, free (λ (p : Two). Trace p.0 p.1) _ (λ _. tt))
     (or_else name (codes "audit") (audit_of value, free (λ (p : Three). Audit p.0.0 p.0.1 p.1) _ (λ _. tt))
+    (or_else name (codes "upgrade") (upgrade_of value, free (λ (p : Three). Upgrade p.0.0 p.0.1 p.1) _ (λ _. tt))
     (or_else name (codes "degree") (degree_of value, free Degree _ (λ _. tt))
     (or_else name (codes "rank") (rank_of value, free Rank _ (λ _. tt))
-    (or_else name (codes "grid") (grid_of value, grid_within value) (None, tt)))))))))
+    (or_else name (codes "grid") (grid_of value, grid_within value) (None, tt)))))))))))
 
 asked_within : (name : Text) (value : Values) → IfSome (asked_of name value) IsWithinLimits
 asked_within name value = (all name value).1

@@ -101,7 +101,7 @@ list_is = record { enters = record { walks = refl; turns = refl; found = refl };
 
 build_is : IsJudged literal.build
 unfolding clap_on_literals
-build_is = record { enters = record { walks = refl; turns = refl; found = refl }; distinct = (refl, (refl, (refl, (refl, (refl, (refl, (refl, tt))))))); pass = (refl, (refl, (refl, (refl, (refl, (refl, (refl, tt))))))) }
+build_is = record { enters = record { walks = refl; turns = refl; found = refl }; distinct = (refl, (refl, (refl, (refl, (refl, (refl, (refl, (refl, tt)))))))); pass = (refl, (refl, (refl, (refl, (refl, (refl, (refl, (refl, tt)))))))) }
 
 solve_is : IsJudged literal.solve
 unfolding clap_on_literals
@@ -115,9 +115,17 @@ path_is : IsJudged literal.path
 unfolding clap_on_literals
 path_is = record { enters = record { walks = refl; turns = refl; found = refl }; distinct = (refl, (refl, (refl, tt))); pass = (refl, (refl, (refl, tt))) }
 
+trace_is : IsJudged literal.trace
+unfolding clap_on_literals
+trace_is = record { enters = record { walks = refl; turns = refl; found = refl }; distinct = (refl, (refl, tt)); pass = (refl, (refl, tt)) }
+
 audit_is : IsJudged literal.audit
 unfolding clap_on_literals
 audit_is = record { enters = record { walks = refl; turns = refl; found = refl }; distinct = (refl, (refl, (refl, tt))); pass = (refl, (refl, (refl, tt))) }
+
+upgrade_is : IsJudged literal.upgrade
+unfolding clap_on_literals
+upgrade_is = record { enters = record { walks = refl; turns = refl; found = refl }; distinct = (refl, (refl, (refl, tt))); pass = (refl, (refl, (refl, tt))) }
 
 degree_is : IsJudged literal.degree
 unfolding clap_on_literals
@@ -137,8 +145,10 @@ is_judged s (suc zero, lt, is) = subst IsJudged is build_is
 is_judged s (suc (suc zero), lt, is) = subst IsJudged is solve_is
 is_judged s (suc (suc (suc zero)), lt, is) = subst IsJudged is query_is
 is_judged s (suc (suc (suc (suc zero))), lt, is) = subst IsJudged is path_is
-is_judged s (suc (suc (suc (suc (suc zero)))), lt, is) = subst IsJudged is audit_is
-is_judged s (suc (suc (suc (suc (suc (suc zero))))), lt, is) = subst IsJudged is degree_is
-is_judged s (suc (suc (suc (suc (suc (suc (suc zero)))))), lt, is) = subst IsJudged is rank_is
-is_judged s (suc (suc (suc (suc (suc (suc (suc (suc zero))))))), lt, is) = subst IsJudged is grid_is
-is_judged s (suc (suc (suc (suc (suc (suc (suc (suc (suc k)))))))), lt, is) = absurd (omega arith)
+is_judged s (suc (suc (suc (suc (suc zero)))), lt, is) = subst IsJudged is trace_is
+is_judged s (suc (suc (suc (suc (suc (suc zero))))), lt, is) = subst IsJudged is audit_is
+is_judged s (suc (suc (suc (suc (suc (suc (suc zero)))))), lt, is) = subst IsJudged is upgrade_is
+is_judged s (suc (suc (suc (suc (suc (suc (suc (suc zero))))))), lt, is) = subst IsJudged is degree_is
+is_judged s (suc (suc (suc (suc (suc (suc (suc (suc (suc zero)))))))), lt, is) = subst IsJudged is rank_is
+is_judged s (suc (suc (suc (suc (suc (suc (suc (suc (suc (suc zero))))))))), lt, is) = subst IsJudged is grid_is
+is_judged s (suc (suc (suc (suc (suc (suc (suc (suc (suc (suc (suc k)))))))))), lt, is) = absurd (omega arith)

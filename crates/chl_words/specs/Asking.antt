@@ -1,5 +1,5 @@
 -- What a list of words asks for, by clap's meaning of it.
-use Rattle.std.specs.Prelude.{◌≤◌, ◌^◌, ◌&&◌, ℕ, List, [], ◌∷◌, Option, Some, None, option_and_then, option_map, nat_le, nat_lt, codes, if◌then◌else◌}
+use Rattle.std.specs.Prelude.{◌≤◌, ◌^◌, ◌==◌, ◌&&◌, ℕ, List, [], ◌∷◌, Option, Some, None, option_and_then, option_map, nat_le, nat_lt, codes, if◌then◌else◌}
 use Rattle.std.specs.Option.{option_zip}
 use Rattle.std.specs.Str.{bytes_eq}
 use Rattle.std.specs.Str.Parse.{digits_value, without_leading_plus}
@@ -10,7 +10,9 @@ use Rattle.chl_words.specs.declared.asked.By.{By}
 use Rattle.chl_words.specs.declared.asked.Construction.{Construction}
 use Rattle.chl_words.specs.declared.asked.By.TheVariants.{Plant, Lcc, Gll, Hybrid}
 use Rattle.chl_words.specs.declared.asked.Asked.{Asked}
-use Rattle.chl_words.specs.declared.asked.Asked.TheVariants.{List as ListRows, Build, Solve, Query, Path, Audit, Degree, Rank, Grid}
+use Rattle.chl_words.specs.declared.asked.Asked.TheVariants.{List as ListRows, Build, Solve, Query, Path, Trace, Audit, Upgrade, Degree, Rank, Grid}
+use Rattle.chl_words.specs.declared.asked.Version.{Version}
+use Rattle.chl_words.specs.declared.asked.Version.TheVariants.{One, Two}
 
 -- what each option has as its value, if any
 abbrev pub Values : Type 0
@@ -53,6 +55,10 @@ most_roots = 2 ^ 30
 abbrev pub most_planted : ℕ
 most_planted = 2 ^ 30
 
+-- the latest version of an index file
+abbrev pub latest_version : ℕ
+latest_version = 2
+
 -- how long the side of a grid may be, and how great the seed of its weights
 abbrev pub longest_side : ℕ
 longest_side = 256
@@ -67,6 +73,14 @@ number_in least most word = option_and_then (number_of least most) word
 abbrev pub workers_of : Values → Option ℕ
 workers_of value = number_in 1 most_workers (value (codes "workers"))
 
+-- the version of this number, 1 or 2
+abbrev pub version_named : ℕ → Version
+version_named n = if n == 1 then One else Two
+
+-- of which version an index file is to be
+abbrev pub version_of : Values → Option Version
+version_of value = option_map version_named (number_in 1 latest_version (value (codes "version")))
+
 -- how an index is to be built, by the options that may be left out
 abbrev pub construction_of : Values → Option Construction
 construction_of value =
@@ -78,7 +92,7 @@ abbrev pub list_of : Values → Option Asked
 list_of value = option_map (λ p. ListRows p.0 p.1) (value (codes "graph") & value (codes "order"))
 
 abbrev pub build_of : Values → Option Asked
-build_of value = option_map (λ p. Build p.0.0.0 p.0.0.1 p.0.1 p.1) (value (codes "graph") & value (codes "order") & value (codes "out") & construction_of value)
+build_of value = option_map (λ p. Build p.0.0.0.0 p.0.0.0.1 p.0.0.1 p.0.1 p.1) (value (codes "graph") & value (codes "order") & value (codes "out") & version_of value & construction_of value)
 
 abbrev pub solve_of : Values → Option Asked
 solve_of value = option_map (λ p. Solve p.0.0.0 p.0.0.1 p.0.1 p.1) (value (codes "graph") & value (codes "order") & value (codes "pairs") & construction_of value)
@@ -89,8 +103,14 @@ query_of value = option_map (λ p. Query p.0 p.1) (value (codes "index") & value
 abbrev pub path_of : Values → Option Asked
 path_of value = option_map (λ p. Path p.0.0 p.0.1 p.1) (value (codes "graph") & value (codes "index") & value (codes "pairs"))
 
+abbrev pub trace_of : Values → Option Asked
+trace_of value = option_map (λ p. Trace p.0 p.1) (value (codes "index") & value (codes "pairs"))
+
 abbrev pub audit_of : Values → Option Asked
 audit_of value = option_map (λ p. Audit p.0.0 p.0.1 p.1) (value (codes "graph") & value (codes "order") & value (codes "index"))
+
+abbrev pub upgrade_of : Values → Option Asked
+upgrade_of value = option_map (λ p. Upgrade p.0.0 p.0.1 p.1) (value (codes "graph") & value (codes "index") & value (codes "out"))
 
 abbrev pub degree_of : Values → Option Asked
 degree_of value = option_map Degree (value (codes "graph"))
@@ -109,11 +129,13 @@ asked_of name value =
     else (if bytes_eq name (codes "solve") then solve_of value
     else (if bytes_eq name (codes "query") then query_of value
     else (if bytes_eq name (codes "path") then path_of value
+    else (if bytes_eq name (codes "trace") then trace_of value
     else (if bytes_eq name (codes "audit") then audit_of value
+    else (if bytes_eq name (codes "upgrade") then upgrade_of value
     else (if bytes_eq name (codes "degree") then degree_of value
     else (if bytes_eq name (codes "rank") then rank_of value
     else (if bytes_eq name (codes "grid") then grid_of value
-    else None))))))))
+    else None))))))))))
 
 -- the values of the options in what was found
 abbrev pub values_in : List Row → Values
@@ -143,7 +165,7 @@ IsGridWithinLimits side seed workers = (1 ≤ side) × (side ≤ longest_side) �
 
 -- those of a command are
 abbrev pub IsWithinLimits : Asked → Type 0
-IsWithinLimits (Build graph order out built) = AreWithinLimits built.workers built.cut
+IsWithinLimits (Build graph order out version built) = AreWithinLimits built.workers built.cut
 IsWithinLimits (Solve graph order pairs built) = AreWithinLimits built.workers built.cut
 IsWithinLimits (Grid grid) = IsGridWithinLimits grid.side grid.seed grid.workers
 IsWithinLimits asked = Unit {0}

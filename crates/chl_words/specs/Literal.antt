@@ -41,6 +41,10 @@ cut = number (codes "cut") 1 (2 ^ 30) (codes "1024")
 abbrev pub eta : Rule
 eta = number (codes "eta") 0 (2 ^ 30) (codes "16")
 
+-- of which version an index file is, the first where it is left out
+abbrev pub version : Rule
+version = number (codes "version") 1 2 (codes "1")
+
 -- ---- commands
 
 abbrev pub command : Text → List Rule → Shape
@@ -54,11 +58,15 @@ files name options = command name (map file options)
 abbrev pub built : Text → List Text → Shape
 built name options = command name (map file options ++ construction ∷ [] ++ workers ∷ [] ++ cut ∷ [] ++ eta ∷ [])
 
+-- one with one more option
+abbrev pub with_option : Shape → Rule → Shape
+with_option s option = record s { rules = s.rules ++ option ∷ [] }
+
 abbrev pub list : Shape
 list = files (codes "list") (codes "graph" ∷ codes "order" ∷ [])
 
 abbrev pub build : Shape
-build = built (codes "build") (codes "graph" ∷ codes "order" ∷ codes "out" ∷ [])
+build = with_option (built (codes "build") (codes "graph" ∷ codes "order" ∷ codes "out" ∷ [])) version
 
 abbrev pub solve : Shape
 solve = built (codes "solve") (codes "graph" ∷ codes "order" ∷ codes "pairs" ∷ [])
@@ -69,8 +77,14 @@ query = files (codes "query") (codes "index" ∷ codes "pairs" ∷ [])
 abbrev pub path : Shape
 path = files (codes "path") (codes "graph" ∷ codes "index" ∷ codes "pairs" ∷ [])
 
+abbrev pub trace : Shape
+trace = files (codes "trace") (codes "index" ∷ codes "pairs" ∷ [])
+
 abbrev pub audit : Shape
 audit = files (codes "audit") (codes "graph" ∷ codes "order" ∷ codes "index" ∷ [])
+
+abbrev pub upgrade : Shape
+upgrade = files (codes "upgrade") (codes "graph" ∷ codes "index" ∷ codes "out" ∷ [])
 
 abbrev pub degree : Shape
 degree = files (codes "degree") (codes "graph" ∷ [])
@@ -82,7 +96,7 @@ abbrev pub grid : Shape
 grid = command (codes "grid") (number_needed (codes "side") 1 256 ∷ number_needed (codes "seed") 0 2147483647 ∷ workers ∷ [])
 
 abbrev pub commands : List Shape
-commands = list ∷ build ∷ solve ∷ query ∷ path ∷ audit ∷ degree ∷ rank ∷ grid ∷ []
+commands = list ∷ build ∷ solve ∷ query ∷ path ∷ trace ∷ audit ∷ upgrade ∷ degree ∷ rank ∷ grid ∷ []
 
 -- the program: it takes one of its commands, and has no help
 abbrev pub program : App

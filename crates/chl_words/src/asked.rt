@@ -48,6 +48,15 @@ pub enum By {
     Hybrid,
 }
 
+/// The version of an index file.
+#[derive(Clone, Copy, Debug, PartialEq, Eq)]
+pub enum Version {
+    /// Each entry has a position and a distance.
+    One,
+    /// It has its via, too: the node before its own on a shortest walk from the hub.
+    Two,
+}
+
 /// How an index is to be built.
 #[derive(Clone, Copy, Debug, PartialEq, Eq)]
 pub struct Construction {
@@ -85,6 +94,7 @@ pub enum Asked {
         order: Name,
         /// The file that is created.
         out: Name,
+        version: Version,
         construction: Construction,
     },
     /// Say the distance of each pair of nodes of a graph, with the highest-ranked node between under an order.
@@ -105,11 +115,23 @@ pub enum Asked {
         index: Name,
         pairs: Name,
     },
+    /// Say the walk of each pair of nodes of an index by its vias.
+    Trace {
+        index: Name,
+        pairs: Name,
+    },
     /// Say whether an index is that of a graph under an order, or the first thing that is wrong with it.
     Audit {
         graph: Name,
         order: Name,
         index: Name,
+    },
+    /// Write the file of version 2 of an index of a graph.
+    Upgrade {
+        graph: Name,
+        index: Name,
+        /// The file that is created.
+        out: Name,
     },
     /// Print the order of a graph's nodes by falling degree.
     Degree {

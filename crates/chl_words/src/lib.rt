@@ -10,5 +10,5 @@ pub mod laws;
 mod literal;
 mod reading;
 
-pub use asked::{AskFault, Asked, By, Construction, Grid, Name};
+pub use asked::{AskFault, Asked, By, Construction, Grid, Name, Version};
 pub use reading::read_words;

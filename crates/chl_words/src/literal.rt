@@ -18,6 +18,9 @@ pub const MOST_ROOTS: u32 = 1 << 30;
 /// The most roots of which a hybrid construction may be asked to plant the trees.
 pub const MOST_PLANTED: u32 = 1 << 30;
 
+/// The latest version of an index file.
+pub const LATEST_VERSION: u32 = 2;
+
 /// The longest side of a grid.
 pub const LONGEST_SIDE: u32 = 256;
 
@@ -39,11 +42,13 @@ pub fn program<'a>(alloc: Global) -> Result<Command<'a>, AllocError>
         .disable_help_subcommand(true)
         .subcommand_required(true);
     let program = with_command(Ok(bare), files(alloc, "list", &["graph", "order"]));
-    let program = with_command(program, built(alloc, "build", &["graph", "order", "out"]));
+    let program = with_command(program, build(alloc));
     let program = with_command(program, built(alloc, "solve", &["graph", "order", "pairs"]));
     let program = with_command(program, files(alloc, "query", &["index", "pairs"]));
     let program = with_command(program, files(alloc, "path", &["graph", "index", "pairs"]));
+    let program = with_command(program, files(alloc, "trace", &["index", "pairs"]));
     let program = with_command(program, files(alloc, "audit", &["graph", "order", "index"]));
+    let program = with_command(program, files(alloc, "upgrade", &["graph", "index", "out"]));
     let program = with_command(program, files(alloc, "degree", &["graph"]));
     let program = with_command(program, files(alloc, "rank", &["graph"]));
     with_command(program, grid(alloc))
@@ -68,6 +73,14 @@ fn built<'a>(alloc: Global, name: &'a str, options: &[&'a str]) -> Result<Comman
     let command = with_option(command, workers(alloc));
     let command = with_option(command, cut(alloc));
     with_option(command, eta(alloc))
+}
+
+/// The command that writes an index file, of a version that may be left out.
+fn build<'a>(alloc: Global) -> Result<Command<'a>, AllocError>
+    ensures { IfOk result (IsProgram (command_alone literal.build)) }
+{
+    let command = built(alloc, "build", &["graph", "order", "out"]);
+    with_option(command, version(alloc))
 }
 
 fn grid<'a>(alloc: Global) -> Result<Command<'a>, AllocError>
@@ -141,6 +154,13 @@ fn eta<'a>(alloc: Global) -> Arg<'a>
     ensures { IsOption literal.eta result }
 {
     number(alloc, "eta", 0, MOST_PLANTED, USUAL_PLANTED)
+}
+
+/// The option that says of which version an index file is, the first where it is left out.
+fn version<'a>(alloc: Global) -> Arg<'a>
+    ensures { IsOption literal.version result }
+{
+    number(alloc, "version", 1, LATEST_VERSION, "1")
 }
 
 /// An option that must be there, with a number between two limits.

@@ -3,13 +3,13 @@ ghost use Rattle.std.specs.Option.{option_copied};
 ghost use Rattle.clap.specs.Words.{found_of, kind_of, rows_of, subcommand_rows_of};
 ghost use Rattle.clap.specs.declared.error.kind.ErrorKind.TheVariants.{OutOfMemory};
 ghost use Rattle.chl_words.specs.Asking as asking;
-ghost use Rattle.chl_words.specs.Asking.{IsWithinLimits, asked_in, asked_of, asked_by, audit_of, build_of, construction_of, degree_of, grid_of, list_of, number_in, path_of, query_of, rank_of, solve_of, values_in, workers_of};
+ghost use Rattle.chl_words.specs.Asking.{IsWithinLimits, asked_in, asked_of, asked_by, audit_of, build_of, construction_of, degree_of, grid_of, list_of, number_in, path_of, query_of, rank_of, solve_of, trace_of, upgrade_of, values_in, version_of, workers_of};
 ghost use Rattle.chl_words.specs.Reading.{IsRead};
 ghost use Rattle.chl_words.specs.declared.asked.AskFault.TheVariants.{Usage};
 
-use crate::asked::{AskFault, Asked, By, Construction, Grid, Name};
+use crate::asked::{AskFault, Asked, By, Construction, Grid, Name, Version};
 use crate::literal::{
-    GREATEST_SEED, LONGEST_SIDE, MOST_PLANTED, MOST_ROOTS, MOST_WORKERS, program,
+    GREATEST_SEED, LATEST_VERSION, LONGEST_SIDE, MOST_PLANTED, MOST_ROOTS, MOST_WORKERS, program,
 };
 use clap::error::ErrorKind;
 use clap::{ArgMatches, Error};
@@ -59,7 +59,9 @@ fn read_command(alloc: Global, name: &str, found: &ArgMatches<'_>) -> Result<Ask
         "solve" => read_solve(alloc, found),
         "query" => read_query(alloc, found),
         "path" => read_path(alloc, found),
+        "trace" => read_trace(alloc, found),
         "audit" => read_audit(alloc, found),
+        "upgrade" => read_upgrade(alloc, found),
         "degree" => read_degree(alloc, found),
         "rank" => read_rank(alloc, found),
         "grid" => read_grid(found),
@@ -83,6 +85,7 @@ fn read_build(alloc: Global, found: &ArgMatches<'_>) -> Result<Asked, AskFault>
         graph: file(alloc, found, "graph")?,
         order: file(alloc, found, "order")?,
         out: file(alloc, found, "out")?,
+        version: version(found)?,
         construction: construction(found)?,
     })
 }
@@ -117,6 +120,15 @@ fn read_path(alloc: Global, found: &ArgMatches<'_>) -> Result<Asked, AskFault>
     })
 }
 
+fn read_trace(alloc: Global, found: &ArgMatches<'_>) -> Result<Asked, AskFault>
+    ensures { IsRead (trace_of (values_in (rows_of (found_of found.now)))) result }
+{
+    Ok(Asked::Trace {
+        index: file(alloc, found, "index")?,
+        pairs: file(alloc, found, "pairs")?,
+    })
+}
+
 fn read_audit(alloc: Global, found: &ArgMatches<'_>) -> Result<Asked, AskFault>
     ensures { IsRead (audit_of (values_in (rows_of (found_of found.now)))) result }
 {
@@ -124,6 +136,16 @@ fn read_audit(alloc: Global, found: &ArgMatches<'_>) -> Result<Asked, AskFault>
         graph: file(alloc, found, "graph")?,
         order: file(alloc, found, "order")?,
         index: file(alloc, found, "index")?,
+    })
+}
+
+fn read_upgrade(alloc: Global, found: &ArgMatches<'_>) -> Result<Asked, AskFault>
+    ensures { IsRead (upgrade_of (values_in (rows_of (found_of found.now)))) result }
+{
+    Ok(Asked::Upgrade {
+        graph: file(alloc, found, "graph")?,
+        index: file(alloc, found, "index")?,
+        out: file(alloc, found, "out")?,
     })
 }
 
@@ -173,6 +195,24 @@ fn construction(found: &ArgMatches<'_>) -> Result<Construction, AskFault>
         cut: number(found, "cut", 1, MOST_ROOTS)?,
         eta: number(found, "eta", 0, MOST_PLANTED)?,
     })
+}
+
+/// Of which version an index file is to be.
+fn version(found: &ArgMatches<'_>) -> Result<Version, AskFault>
+    ensures { IsRead (version_of (values_in (rows_of (found_of found.now)))) result }
+{
+    Ok(version_named(number(found, "version", 1, LATEST_VERSION)?))
+}
+
+/// The version of this number, 1 or 2.
+fn version_named(number: u32) -> Version
+    ensures { result ≡ asking.version_named number }
+{
+    if number == 1 {
+        Version::One
+    } else {
+        Version::Two
+    }
 }
 
 /// What the option `--by` names.

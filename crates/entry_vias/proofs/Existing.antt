@@ -12,7 +12,7 @@ use Rattle.walk_laws.proofs.Arcs.{Joined-from_arcs_at, Contains-arcs_at}
 use Rattle.walk_laws.proofs.Search.{Found-decided, LeastNumber-exists}
 use Rattle.entry_vias.specs.RowVias.{IsNearer, IsFirstNearer, IsRowVia, AreVias}
 use Rattle.entry_vias.specs.ViaRanges.{AreViasFrom}
-use Rattle.entry_vias.specs.Sought.{entry_at, LeadsNearer}
+use Rattle.entry_vias.specs.Slots.{entry_at, LeadsNearer}
 use Rattle.entry_vias.proofs.OneList.{AreVias-all, AreViasFrom-none, AreViasFrom-push}
 
 same_entry : (x : Entry) (p d : ℕ) → x.pos ≡ p → x.dist ≡ d → x ≡ entry_at p d

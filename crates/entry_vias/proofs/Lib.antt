@@ -1,4 +1,5 @@
 pub mod RowFacts
+pub mod Counts
 pub mod LaidOut
 pub mod Looks
 pub mod Arcs

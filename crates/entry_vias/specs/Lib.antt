@@ -3,4 +3,4 @@ pub mod RowVias
 pub mod ViaRanges
 pub mod Laws
 pub mod ViaLists
-pub mod Sought
+pub mod Slots

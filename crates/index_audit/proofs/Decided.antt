@@ -1,7 +1,7 @@
 -- Each check is decided, so each index is answered something.
-use Rattle.std.proofs.Common.{◌≡◌, ◌⊎◌, ℕ, ◌+◌, ◌-◌, ◌<◌, ◌≤◌, List, All, Contains, length, get_or, take, slice_get, Some, refl, sym, ap, subst, ◌∙◌, inl, inr, arith}
+use Rattle.std.proofs.Common.{◌≡◌, ◌⊎◌, ℕ, ◌+◌, ◌<◌, ◌≤◌, List, Option, Some, None, All, Contains, length, get_or, take, slice_get, refl, sym, ap, subst, ◌∙◌, inl, inr, arith}
 use Rattle.std.proofs.lemmas.Bool.{cases_lt, cases_eq}
-use Rattle.std.proofs.lemmas.List.{get_or-take, length-take-le, ext_get_or, take_all}
+use Rattle.std.proofs.lemmas.List.{get_or-take, length-take-le, ext_get_or}
 use Rattle.std.proofs.lemmas.List.Elements.{All-contains, Contains-get_or}
 use Rattle.std.proofs.lemmas.Option.{same_Some, slice_get-get_or, slice_get_within, get_or_from_slice_get}
 use Rattle.walk_laws.specs.declared.graph.Edge.{Edge}
@@ -9,38 +9,23 @@ use Rattle.walk_laws.specs.declared.graph.Arc.{Arc}
 use Rattle.walk_laws.specs.declared.entry.Entry.{Entry}
 use Rattle.walk_laws.specs.Graph.{WeightedGraph, IsGraph, IsEdge, arcs_at}
 use Rattle.walk_laws.specs.Joined.{Joined}
-use Rattle.walk_laws.specs.Ranking.{position_of}
 use Rattle.walk_laws.specs.Labelling.{label_row}
 use Rattle.walk_laws.proofs.Arcs.{Joined-from_arcs_at, Contains-arcs_at}
 use Rattle.walk_laws.proofs.JoinedEdges.{IsEdge-joined}
-use Rattle.walk_laws.proofs.Search.{Found, Found-decided, LeastNumber, LeastNumber-below}
+use Rattle.walk_laws.proofs.Search.{Found, Found-decided, LeastNumber-below}
 use Rattle.hub_index.specs.HubIndex.{HubIndex}
 use Rattle.hub_index.specs.WellFormed.{IsWellFormed}
 use Rattle.hub_query.proofs.RowFacts.{row_positions}
+use Rattle.entry_vias.specs.RowVias.{IsNearer, IsRowVia, via_row, TracedHubIndex}
+use Rattle.entry_vias.proofs.Existing.{IsNearer-decided}
 use Rattle.index_audit.specs.declared.answer.Audit.{Audit}
-use Rattle.index_audit.specs.declared.answer.Audit.TheVariants.{Same, Sizes, OrderDiffers, NoWalk, NotCovered, Redundant}
-use Rattle.index_audit.specs.Checks.{MeetAt, HasStep, IsWalked, IsCoveredAt, IsCovered, IsUncoveredAt, IsRedundantBy, IsSoundEntry}
-use Rattle.index_audit.specs.Audited.{IsFaultOf, AreSoundBefore, IsFirstOfRow, IsFirstFault, IsOfOrder, PartAt, IsAuditOf}
-use Rattle.index_audit.proofs.Faults.{All-at, fault_is_none}
-
-same_fields : (x e : Entry) → (x ≡ e) ⊎ (x ≡ e → ⊥)
-same_fields x e = elim (cases_eq x.pos e.pos) [
-  | inr other ↦ inr (λ same. other (ap (λ (y : Entry). y.pos) same))
-  | inl level ↦ elim (cases_eq x.dist e.dist) [
-    | inr other ↦ inr (λ same. other (ap (λ (y : Entry). y.dist) same))
-    | inl as_far ↦
-        let first : x ≡ record { pos = e.pos; dist = x.dist } = ap (λ p. let y : Entry = record { pos = p; dist = x.dist } in y) level in
-        let second : record { pos = e.pos; dist = x.dist } ≡ e = ap (λ d. let y : Entry = record { pos = e.pos; dist = d } in y) as_far in
-        inl (first ∙ second)
-  ]
-]
-
--- whether a row has an entry
-contains_decided : (row : List Entry) (e : Entry) → Contains row e ⊎ (Contains row e → ⊥)
-contains_decided row e = elim (Found-decided (λ x. x ≡ e) row (λ x _. same_fields x e)) [
-  | inl found ↦ inl (subst (Contains row) found.holds found.there)
-  | inr none ↦ inr (λ there. none e there refl)
-]
+use Rattle.index_audit.specs.declared.answer.Audit.TheVariants.{Same, Sizes, OrderDiffers, NoWalk, NotCovered, Redundant, WrongVia}
+use Rattle.index_audit.specs.Checks.{MeetAt, IsWalked, IsCoveredAt, IsCovered, IsUncoveredAt, IsRedundantBy, IsSoundEntry}
+use Rattle.index_audit.specs.Beside.{GoesBy}
+use Rattle.index_audit.specs.Audited.{IsFaultOf, IsSoundAt, AreSoundUpTo, IsSoundRow, AreSoundBefore, IsFirstOfRow, IsFirstFault, IsOfOrder, PartAt, IsAuditWith, IsAuditOf}
+use Rattle.index_audit.specs.TracedAudits.{index_in, IsTracedAuditOf}
+use Rattle.index_audit.proofs.OneEntry.{one_via}
+use Rattle.index_audit.proofs.Faults.{fault_is_none}
 
 abbrev Joins : ℕ → ℕ → Entry → Entry → Type 0
 Joins d q x y = (y.pos ≡ q) × (x.dist + y.dist ≤ d)
@@ -94,40 +79,43 @@ covered_decided rows h y d =
       | inr none ↦ inr (λ c. none (record { pos = c.0; dist = c.1.both.before }) c.1.both.in_first c.1)
     ]
 
-module _ (edges : List Edge) (at : List ℕ) (edge : All (IsEdge (length at)) edges) (rows : List (List Entry)) (well : IsWellFormed at rows) where
+-- whether the entry at a place goes by a node
+goes_decided : (vias : Option (List (List ℕ))) (v k y : ℕ) → GoesBy vias v k y ⊎ (GoesBy vias v k y → ⊥)
+goes_decided None v k y = inl tt
+goes_decided (Some vias) v k y = elim (cases_lt k (length (via_row vias v))) [
+  | inr past ↦ inr (λ is. omega (arith, slice_get_within (via_row vias v) k y is, past))
+  | inl within ↦
+      let there : slice_get (via_row vias v) k ≡ Some (get_or (via_row vias v) k 0) = slice_get-get_or (via_row vias v) k 0 within in
+      elim (cases_eq (get_or (via_row vias v) k 0) y) [
+        | inl same ↦ inl (there ∙ ap Some same)
+        | inr other ↦ inr (λ is. other (same_Some (get_or (via_row vias v) k 0) y (sym there ∙ is)))
+      ]
+]
+
+-- what stands at a place is in the list
+pub Contains-at : {X : Type 0} (xs : List X) (k : ℕ) (x : X) → slice_get xs k ≡ Some x → Contains xs x
+Contains-at xs k x is = subst (Contains xs) (get_or_from_slice_get xs k x x is) (Contains-get_or xs k x (slice_get_within xs k x is))
+
+-- the via of an entry, as the rows tell it
+pub via_judged : (edges : List Edge) (n : ℕ) → All (IsEdge n) edges → (rows : List (List Entry)) (v : ℕ) (e : Entry) → (want : ℕ) × IsRowVia (Joined edges) rows v e want
+via_judged edges n edge rows v e = elim (LeastNumber-below (IsNearer (Joined edges) rows v e) (IsNearer-decided edges rows v e) (n + 1)) [
+  | inl first ↦ (first.number, inl (record { nearer = first.holds; least = first.least }))
+  | inr none ↦ (0, inr (refl, λ z near. none z (omega (arith, (IsEdge-joined n edges v z near.weight edge near.arc).to_n)) near))
+]
+
+module _ (edges : List Edge) (at : List ℕ) (edge : All (IsEdge (length at)) edges) (rows : List (List Entry)) (well : IsWellFormed at rows) (vias : Option (List (List ℕ))) where
   abbrev J : ℕ → ℕ → ℕ → Type 0
   J = Joined edges
-
-  abbrev Nearer : Entry → Arc → Type 0
-  Nearer e a = (a.w ≤ e.dist) × Contains (label_row rows a.to) (record { pos = e.pos; dist = e.dist - a.w })
-
-  nearer_decided : (e : Entry) (a : Arc) → Nearer e a ⊎ (Nearer e a → ⊥)
-  nearer_decided e a = elim (cases_lt e.dist a.w) [
-    | inl heavy ↦ inr (λ h. omega (arith, h.0))
-    | inr light ↦ elim (contains_decided (label_row rows a.to) (record { pos = e.pos; dist = e.dist - a.w })) [
-      | inl there ↦ inl (light, there)
-      | inr none ↦ inr (λ h. none h.1)
-    ]
-  ]
-
-  step_decided : (v : ℕ) (e : Entry) → HasStep J rows v e ⊎ (HasStep J rows v e → ⊥)
-  step_decided v e = elim (Found-decided (Nearer e) (arcs_at edges v) (λ a _. nearer_decided e a)) [
-    | inl found ↦
-        let a = found.element in
-        inl (record { neighbour = a.to; weight = a.w; dist = e.dist - a.w; arc = Joined-from_arcs_at edges v a.to a.w found.there; there = found.holds.1; long = omega (arith, found.holds.0) })
-    | inr none ↦ inr (λ s.
-        let far : s.dist ≡ e.dist - s.weight = omega (arith, s.long) in
-        none (record { to = s.neighbour; w = s.weight }) (Contains-arcs_at edges v s.neighbour s.weight s.arc)
-        (omega (arith, s.long), subst (λ d. Contains (label_row rows s.neighbour) (record { pos = e.pos; dist = d })) far s.there))
-  ]
 
   walked_decided : (v h : ℕ) (e : Entry) → IsWalked J rows v h e ⊎ (IsWalked J rows v h e → ⊥)
   walked_decided v h e = elim (cases_eq h v) [
     | inl same ↦ inl (inl same)
-    | inr other ↦ elim (step_decided v e) [
-      | inl step ↦ inl (inr step)
-      | inr none ↦ inr (λ w. elim w [ inl same ↦ other same | inr step ↦ none step ])
-    ]
+    | inr other ↦
+        let via = via_judged edges (length at) edge rows v e in
+        elim via.1 [
+          | inl first ↦ inl (inr (via.0, first.nearer))
+          | inr none ↦ inr (λ w. elim w [ inl same ↦ other same | inr step ↦ none.1 step.0 step.1 ])
+        ]
   ]
 
   abbrev Open : ℕ → ℕ → Entry → Arc → Type 0
@@ -166,13 +154,22 @@ module _ (edges : List Edge) (at : List ℕ) (edge : All (IsEdge (length at)) ed
     ]
   ]
 
-  abbrev Judged : ℕ → Entry → Type 0
-  Judged v e = IsSoundEntry J at rows v e ⊎ ((fault : Audit) × IsFaultOf J at rows v e fault)
+  abbrev Judged : ℕ → ℕ → Entry → Type 0
+  Judged v k e = IsSoundAt J at rows vias v k e ⊎ ((fault : Audit) × IsFaultOf J at rows vias v k e fault)
+
+  -- the via of an entry that passes the other checks
+  judged_via : (v k : ℕ) (e : Entry) → IsSoundEntry J at rows v e → Judged v k e
+  judged_via v k e sound =
+      let via = via_judged edges (length at) edge rows v e in
+      elim (goes_decided vias v k via.0) [
+        | inl goes ↦ inl (record { sound = sound; via = λ y is. subst (GoesBy vias v k) (one_via J rows v e via.0 y via.1 is) goes })
+        | inr other ↦ inr (WrongVia v sound.hub via.0, (refl, record { place = sound.place; sound = sound; wanted = via.1; other = other }))
+      ]
 
   module _ (v : ℕ) (from_one : 1 ≤ v) (up_to_n : v ≤ length at) where
-    judged_last : (e : Entry) (h : ℕ) → slice_get at e.pos ≡ Some h → IsWalked J rows v h e → IsCovered J rows v h e → Judged v e
-    judged_last e h place walked covered = elim (LeastNumber-below (IsRedundantBy rows v h e) (redundant_decided v h e) e.pos) [
-      | inr none ↦ inl (record { hub = h; place = place; walked = walked; covered = covered; needed = λ q r. none q r.above r })
+    judged_last : (k : ℕ) (e : Entry) (h : ℕ) → slice_get at e.pos ≡ Some h → IsWalked J rows v h e → IsCovered J rows v h e → Judged v k e
+    judged_last k e h place walked covered = elim (LeastNumber-below (IsRedundantBy rows v h e) (redundant_decided v h e) e.pos) [
+      | inr none ↦ judged_via v k e (record { hub = h; place = place; walked = walked; covered = covered; needed = λ q r. none q r.above r })
       | inl first ↦
           let q = first.number in
           let within : q < length at = All-contains (λ (x : Entry). x.pos < length at) (label_row rows v) (record { pos = q; dist = first.holds.meet.both.after }) (row_positions at rows v well from_one up_to_n) first.holds.meet.both.in_second in
@@ -180,16 +177,16 @@ module _ (edges : List Edge) (at : List ℕ) (edge : All (IsEdge (length at)) ed
     ]
 
     -- something is wrong with an entry, or nothing
-    judged : (e : Entry) → Contains (label_row rows v) e → Judged v e
-    judged e there =
-        let within : e.pos < length at = All-contains (λ (x : Entry). x.pos < length at) (label_row rows v) e (row_positions at rows v well from_one up_to_n) there in
+    judged : (k : ℕ) (e : Entry) → slice_get (label_row rows v) k ≡ Some e → Judged v k e
+    judged k e there =
+        let within : e.pos < length at = All-contains (λ (x : Entry). x.pos < length at) (label_row rows v) e (row_positions at rows v well from_one up_to_n) (Contains-at (label_row rows v) k e there) in
         let h = get_or at e.pos 0 in
         let place : slice_get at e.pos ≡ Some h = slice_get-get_or at e.pos 0 within in
         elim (walked_decided v h e) [
           | inr none ↦ inr (NoWalk v h, (refl, record { place = place; none = none }))
           | inl walked ↦ elim (LeastNumber-below (IsUncoveredAt J rows v h e) (uncovered_decided v h e) (length at + 1)) [
             | inl first ↦ inr (NotCovered v first.number h, (refl, record { place = place; walked = walked; first = record { here = first.holds; least = first.least } }))
-            | inr none ↦ judged_last e h place walked (all_covered v h e none)
+            | inr none ↦ judged_last k e h place walked (all_covered v h e none)
           ]
         ]
 
@@ -198,7 +195,7 @@ module _ (edges : List Edge) (at : List ℕ) (edge : All (IsEdge (length at)) ed
       entry : Entry
       there : slice_get (label_row rows v) k ≡ Some entry
       fault : Audit
-      fault_of : IsFaultOf J at rows v entry fault
+      fault_of : IsFaultOf J at rows vias v k entry fault
 
     fault_at_decided : (k : ℕ) → FaultAt k ⊎ (FaultAt k → ⊥)
     fault_at_decided k = elim (cases_lt k (length (label_row rows v))) [
@@ -206,42 +203,35 @@ module _ (edges : List Edge) (at : List ℕ) (edge : All (IsEdge (length at)) ed
       | inl within ↦
           let e : Entry = get_or (label_row rows v) k (record { pos = 0; dist = 0 }) in
           let there : slice_get (label_row rows v) k ≡ Some e = slice_get-get_or (label_row rows v) k (record { pos = 0; dist = 0 }) within in
-          elim (judged e (Contains-get_or (label_row rows v) k (record { pos = 0; dist = 0 }) within)) [
+          elim (judged k e there) [
             | inr fault ↦ inl (record { entry = e; there = there; fault = fault.0; fault_of = fault.1 })
-            | inl sound ↦ inr (λ f. fault_is_none J at rows v f.entry f.fault f.fault_of (subst (IsSoundEntry J at rows v) (same_Some e f.entry (sym there ∙ f.there)) sound))
+            | inl sound ↦ inr (λ f. fault_is_none J at rows vias v k f.entry f.fault f.fault_of (subst (IsSoundAt J at rows vias v k) (same_Some e f.entry (sym there ∙ f.there)) sound))
           ]
     ]
 
-    sound_at : (k : ℕ) (d : Entry) → k < length (label_row rows v) → (FaultAt k → ⊥) → IsSoundEntry J at rows v (get_or (label_row rows v) k d)
-    sound_at k d within none = elim (judged (get_or (label_row rows v) k d) (Contains-get_or (label_row rows v) k d within)) [
+    sound_up_to : (end : ℕ) → ((k : ℕ) → k < end → FaultAt k → ⊥) → AreSoundUpTo J at rows vias v end
+    sound_up_to end none k e before there = elim (judged k e there) [
       | inl sound ↦ sound
-      | inr fault ↦ absurd (none (record { entry = get_or (label_row rows v) k d; there = slice_get-get_or (label_row rows v) k d within; fault = fault.0; fault_of = fault.1 }))
+      | inr fault ↦ absurd (none k before (record { entry = e; there = there; fault = fault.0; fault_of = fault.1 }))
     ]
 
-    sound_up_to : (end : ℕ) → end ≤ length (label_row rows v) → ((k : ℕ) → k < end → FaultAt k → ⊥) → All (IsSoundEntry J at rows v) (take end (label_row rows v))
-    sound_up_to end within none k d lt =
-        let size = length-take-le end (label_row rows v) within in
-        subst (IsSoundEntry J at rows v) (sym (get_or-take end (label_row rows v) k d (omega (arith, size, lt)))) (sound_at k d (omega (arith, size, lt)) (none k (omega (arith, size, lt))))
-
     -- the first entry of a row that is at fault, or none
-    row_judged : ((fault : Audit) × IsFirstOfRow J at rows v fault) ⊎ All (IsSoundEntry J at rows v) (label_row rows v)
+    row_judged : ((fault : Audit) × IsFirstOfRow J at rows vias v fault) ⊎ IsSoundRow J at rows vias v
     row_judged = elim (LeastNumber-below FaultAt fault_at_decided (length (label_row rows v))) [
-      | inr none ↦ inr (subst (All (IsSoundEntry J at rows v)) (take_all (length (label_row rows v)) (label_row rows v) (omega arith)) (sound_up_to (length (label_row rows v)) (omega arith) none))
+      | inr none ↦ inr (λ k e there. sound_up_to (length (label_row rows v)) none k e (slice_get_within (label_row rows v) k e there) there)
       | inl first ↦
           let f = first.holds in
-          let within = slice_get_within (label_row rows v) first.number f.entry f.there in
-          inl (f.fault, record { k = first.number; entry = f.entry; there = f.there; fault_of = f.fault_of; before = sound_up_to first.number (omega (arith, within)) (λ k lt bad. omega (arith, first.least k bad, lt)) })
+          inl (f.fault, record { k = first.number; entry = f.entry; there = f.there; fault_of = f.fault_of; before = sound_up_to first.number (λ k lt bad. omega (arith, first.least k bad, lt)) })
     ]
 
   -- an entry of the row of v is at fault
   abbrev FaultyRow : ℕ → Type 0
-  FaultyRow v = (1 ≤ v) × (v ≤ length at) × ((fault : Audit) × IsFirstOfRow J at rows v fault)
+  FaultyRow v = (1 ≤ v) × (v ≤ length at) × ((fault : Audit) × IsFirstOfRow J at rows vias v fault)
 
-  not_faulty : (v : ℕ) → All (IsSoundEntry J at rows v) (label_row rows v) → FaultyRow v → ⊥
+  not_faulty : (v : ℕ) → IsSoundRow J at rows vias v → FaultyRow v → ⊥
   not_faulty v sound faulty =
-      let fault = faulty.2.0 in
       let f = faulty.2.1 in
-      fault_is_none J at rows v f.entry fault f.fault_of (All-at (IsSoundEntry J at rows v) (label_row rows v) f.k f.entry sound f.there)
+      fault_is_none J at rows vias v f.k f.entry faulty.2.0 f.fault_of (sound f.k f.entry f.there)
 
   faulty_decided : (v : ℕ) → FaultyRow v ⊎ (FaultyRow v → ⊥)
   faulty_decided v = elim (cases_lt v 1) [
@@ -255,14 +245,14 @@ module _ (edges : List Edge) (at : List ℕ) (edge : All (IsEdge (length at)) ed
     ]
   ]
 
-  sound_row : (v : ℕ) → 1 ≤ v → v ≤ length at → (FaultyRow v → ⊥) → All (IsSoundEntry J at rows v) (label_row rows v)
+  sound_row : (v : ℕ) → 1 ≤ v → v ≤ length at → (FaultyRow v → ⊥) → IsSoundRow J at rows vias v
   sound_row v from_one up_to_n none = elim (row_judged v from_one up_to_n) [
     | inl first ↦ absurd (none (from_one, up_to_n, first))
     | inr sound ↦ sound
   ]
 
   -- the first fault of all, or none
-  pub all_judged : ((fault : Audit) × IsFirstFault J at rows fault) ⊎ AreSoundBefore J at rows (length at + 1)
+  pub all_judged : ((fault : Audit) × IsFirstFault J at rows vias fault) ⊎ AreSoundBefore J at rows vias (length at + 1)
   all_judged = elim (LeastNumber-below FaultyRow faulty_decided (length at + 1)) [
     | inr none ↦ inr (λ v from_one below. sound_row v from_one (omega arith) (none v below))
     | inl least ↦
@@ -316,28 +306,40 @@ module _ (at others : List ℕ) where
     | inr none ↦ inr (sym (ext_get_or 0 at others (sym size) (λ k lt. same_at k lt (none k lt))))
   ]
 
-module _ (graph : WeightedGraph) (at : List ℕ) (index : HubIndex) where
-  pub answer_of_fault : (fault : Audit) → IsOfOrder graph at index → IsFirstFault (Joined graph.edges) at index.rows fault → IsAuditOf graph at index fault
+-- a fault of a via is answered where there are vias
+astray_answer : (graph : WeightedGraph) (at : List ℕ) (index : HubIndex) (vias : Option (List (List ℕ))) (v hub want : ℕ) → IsOfOrder graph at index → IsFirstFault (Joined graph.edges) at index.rows vias (WrongVia v hub want) → IsAuditWith graph at index (WrongVia v hub want) vias
+astray_answer graph at index None v hub want order f = absurd (f.row.fault_of.1.other tt)
+astray_answer graph at index (Some vias) v hub want order f = (order, f)
+
+module _ (graph : WeightedGraph) (at : List ℕ) (index : HubIndex) (vias : Option (List (List ℕ))) where
+  pub answer_of_fault : (fault : Audit) → IsOfOrder graph at index → IsFirstFault (Joined graph.edges) at index.rows vias fault → IsAuditWith graph at index fault vias
   answer_of_fault Same order f = absurd f.row.fault_of
   answer_of_fault (Sizes nodes rows) order f = absurd f.row.fault_of
   answer_of_fault (OrderDiffers place) order f = absurd f.row.fault_of
   answer_of_fault (NoWalk v hub) order f = (order, f)
   answer_of_fault (NotCovered v to hub) order f = (order, f)
   answer_of_fault (Redundant v hub by) order f = (order, f)
+  answer_of_fault (WrongVia v hub want) order f = astray_answer graph at index vias v hub want order f
 
   module _ (is : IsGraph graph.n graph.edges) (size : length at ≡ graph.n) (well : IsWellFormed index.order index.rows) where
-    of_order : IsOfOrder graph at index → (answer : Audit) × IsAuditOf graph at index answer
+    of_order : IsOfOrder graph at index → (answer : Audit) × IsAuditWith graph at index answer vias
     of_order order =
-        elim (all_judged graph.edges at (subst (λ n. All (IsEdge n) graph.edges) (sym size) is.edge) index.rows (subst (λ o. IsWellFormed o index.rows) order.order well)) [
+        elim (all_judged graph.edges at (subst (λ n. All (IsEdge n) graph.edges) (sym size) is.edge) index.rows (subst (λ o. IsWellFormed o index.rows) order.order well) vias) [
           | inl first ↦ (first.0, answer_of_fault first.0 order first.1)
           | inr sound ↦ (Same, (order, sound))
         ]
 
-    pub audit_exists : (answer : Audit) × IsAuditOf graph at index answer
-    audit_exists = elim (cases_eq graph.n (length index.order)) [
+    pub answer_exists : (answer : Audit) × IsAuditWith graph at index answer vias
+    answer_exists = elim (cases_eq graph.n (length index.order)) [
       | inr other ↦ (Sizes graph.n (length index.order), (refl, refl, other))
       | inl same ↦ elim (order_judged at index.order (omega (arith, same, size))) [
         | inl part ↦ (OrderDiffers part.0, (sym same, part.1))
         | inr order ↦ of_order (record { size = sym same; order = order })
       ]
     ]
+
+pub audit_exists : (graph : WeightedGraph) (at : List ℕ) (index : HubIndex) → IsGraph graph.n graph.edges → length at ≡ graph.n → IsWellFormed index.order index.rows → (answer : Audit) × IsAuditOf graph at index answer
+audit_exists graph at index = answer_exists graph at index None
+
+pub traced_audit_exists : (graph : WeightedGraph) (at : List ℕ) (index : TracedHubIndex) → IsGraph graph.n graph.edges → length at ≡ graph.n → IsWellFormed index.order index.rows → (answer : Audit) × IsTracedAuditOf graph at index answer
+traced_audit_exists graph at index = answer_exists graph at (index_in index) (Some index.vias)

@@ -1,7 +1,6 @@
 -- Nothing is wrong with the entries of the canonical hub labelling.
-use Rattle.std.proofs.Common.{◌≡◌, ℕ, ◌+◌, ◌<◌, ◌≤◌, List, All, Contains, length, slice_get, Some, sym, ap, subst, ◌∙◌, inl, inr, arith}
+use Rattle.std.proofs.Common.{◌≡◌, ℕ, ◌+◌, ◌≤◌, List, All, Contains, length, slice_get, Some, sym, subst, ◌∙◌, inl, inr, arith}
 use Rattle.std.proofs.lemmas.Bool.{cases_eq}
-use Rattle.std.proofs.lemmas.List.Elements.{All-weaker, All-contains_itself}
 use Rattle.std.proofs.lemmas.Option.{same_Some}
 use Rattle.walk_laws.specs.declared.graph.Edge.{Edge}
 use Rattle.walk_laws.specs.declared.entry.Entry.{Entry}
@@ -19,8 +18,7 @@ use Rattle.walk_laws.proofs.OnWalks.{IsOn-from_parts}
 use Rattle.walk_laws.proofs.CanonicalHubs.{IsCanonical-inherited, IsCanonical-no_cover}
 use Rattle.walk_laws.proofs.Tops.{IsTop-node}
 use Rattle.walk_laws.proofs.CommonHubs.{HasSum-top}
-use Rattle.index_audit.specs.Checks.{IsWalked, IsCoveredAt, IsCovered, IsRedundantBy, IsSoundEntry}
-use Rattle.index_audit.specs.Audited.{AreSoundBefore}
+use Rattle.index_audit.specs.Checks.{IsWalked, IsCoveredAt, IsRedundantBy, IsSoundEntry}
 use Rattle.index_audit.proofs.Sound.{place_of, node_at}
 
 module _ (edges : List Edge) (at : List ℕ) (edge : All (IsEdge (length at)) edges) (ranking : IsRanking at) (rows : List (List Entry)) (chl : IsChl (Joined edges) at rows) where
@@ -38,14 +36,16 @@ module _ (edges : List Edge) (at : List ℕ) (edge : All (IsEdge (length at)) ed
           let p = IsLeast-predecessor J h v e.dist canon.least other in
           let is = IsEdge-joined (length at) edges p.node v p.weight edge p.arc in
           let on = IsOn-from_parts J h p.node v p.before p.weight p.least.walk (HasWalk-arc J p.node v p.weight p.arc) (IsLeast-same J h v e.dist (p.before + p.weight) (sym p.long) canon.least) in
-          inr (record {
-            neighbour = p.node;
-            weight = p.weight;
-            dist = p.before;
-            arc = Joined-sym edges p.node v p.weight p.arc;
-            there = ((chl.row p.node is.from_one is.up_to_n).each (record { pos = e.pos; dist = p.before })).1 (h, place, IsCanonical-inherited J at h p.node v p.before e.dist canon on p.least);
-            long = p.long;
-          })
+          inr (
+            p.node,
+            record {
+              weight = p.weight;
+              dist = p.before;
+              arc = Joined-sym edges p.node v p.weight p.arc;
+              there = ((chl.row p.node is.from_one is.up_to_n).each (record { pos = e.pos; dist = p.before })).1 (h, place, IsCanonical-inherited J at h p.node v p.before e.dist canon on p.least);
+              long = p.long;
+            },
+          )
     ]
 
     covered_at : (y w : ℕ) → J v y w → IsCoveredAt rows h y (e.dist + w)
@@ -76,7 +76,7 @@ module _ (edges : List Edge) (at : List ℕ) (edge : All (IsEdge (length at)) ed
     sound : IsSoundEntry J at rows v e
     sound = record { hub = h; place = place; walked = walked; covered = covered_at; needed = needed }
 
-  pub chl_is_sound : AreSoundBefore J at rows (length at + 1)
-  chl_is_sound v from_one below =
-      let up_to_n : v ≤ length at = omega arith in
-      All-weaker (Contains (label_row rows v)) (IsSoundEntry J at rows v) (λ e there. let is = ((chl.row v from_one up_to_n).each e).0 there in sound v from_one up_to_n e is.0 is.1 is.2) (label_row rows v) (All-contains_itself (label_row rows v))
+  pub chl_is_sound : (v : ℕ) (e : Entry) → 1 ≤ v → v ≤ length at → Contains (label_row rows v) e → IsSoundEntry J at rows v e
+  chl_is_sound v e from_one up_to_n there =
+      let is = ((chl.row v from_one up_to_n).each e).0 there in
+      sound v from_one up_to_n e is.0 is.1 is.2

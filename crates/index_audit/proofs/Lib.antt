@@ -10,3 +10,4 @@ pub mod Faults
 pub mod Decided
 pub mod Decisive
 pub mod JoinedRanges
+pub mod OneUpgrade

@@ -1,5 +1,5 @@
 -- Where nothing is wrong with its entries, an index is the canonical hub labelling.
-use Rattle.std.proofs.Common.{◌≡◌, ◌≢◌, ℕ, zero, suc, ◌+◌, ◌<◌, ◌≤◌, List, All, Contains, length, map, get_or, slice_get, Some, refl, sym, ap, subst, ◌∙◌, inl, inr, arith}
+use Rattle.std.proofs.Common.{◌≡◌, ℕ, zero, suc, ◌+◌, ◌<◌, ◌≤◌, List, All, Contains, length, map, get_or, slice_get, Some, refl, sym, subst, ◌∙◌, inl, inr, arith}
 use Rattle.std.proofs.lemmas.Bool.{cases_lt, cases_eq}
 use Rattle.std.proofs.lemmas.List.Elements.{All-contains}
 use Rattle.std.proofs.lemmas.List.Kept.{AllPairs-from_increasing}
@@ -13,21 +13,19 @@ use Rattle.walk_laws.specs.Least.{IsLeast}
 use Rattle.walk_laws.specs.Ranking.{IsRanking, position_of}
 use Rattle.walk_laws.specs.Canonical.{IsCanonical}
 use Rattle.walk_laws.specs.Cover.{CoveringHub}
-use Rattle.walk_laws.specs.Labelling.{label_row, IsHubEntry, IsRow, IsChl}
-use Rattle.walk_laws.specs.Meet.{HasSum}
+use Rattle.walk_laws.specs.Labelling.{label_row, IsHubEntry, IsChl}
 use Rattle.walk_laws.proofs.Positions.{position-lt, position-get_or, slice_get-at_position}
 use Rattle.walk_laws.proofs.JoinedEdges.{Joined-sym, IsEdge-joined, Joined-positive, weights_of_edges}
 use Rattle.walk_laws.proofs.JoinedDecisions.{IsCanonical-or_joined_cover}
 use Rattle.walk_laws.proofs.Walks.{HasWalk-none_to, HasWalk-same, HasWalk-arc, HasWalk-after}
-use Rattle.walk_laws.proofs.LeastWalks.{Predecessor, IsLeast-predecessor, IsLeast-same, IsLeast-unique, IsLeast-none}
+use Rattle.walk_laws.proofs.LeastWalks.{IsLeast-predecessor, IsLeast-same, IsLeast-unique, IsLeast-none}
 use Rattle.walk_laws.proofs.OnWalks.{IsOn-from_parts}
-use Rattle.walk_laws.proofs.CanonicalHubs.{IsCanonical-inherited, IsCanonical-ranked, IsCanonical-no_cover}
+use Rattle.walk_laws.proofs.CanonicalHubs.{IsCanonical-inherited, IsCanonical-no_cover}
 use Rattle.walk_laws.proofs.LabelRows.{Rises}
-use Rattle.hub_index.specs.WellFormed.{own_entry, IsWellFormed}
+use Rattle.hub_index.specs.WellFormed.{IsWellFormed}
 use Rattle.hub_query.proofs.Sums.{pos_of}
 use Rattle.hub_query.proofs.RowFacts.{row_rises, row_ranked, row_positions, row_own}
-use Rattle.index_audit.specs.Checks.{MeetAt, HasStep, IsSoundEntry}
-use Rattle.index_audit.specs.Audited.{AreSoundBefore}
+use Rattle.index_audit.specs.Checks.{MeetAt, IsSoundEntry}
 use Rattle.index_audit.proofs.OneEntry.{one_distance}
 
 -- the node at a position has that position
@@ -50,10 +48,7 @@ module _ (edges : List Edge) (at : List ℕ) (edge : All (IsEdge (length at)) ed
   pub rises : (v : ℕ) → 1 ≤ v → v ≤ length at → Rises pos_of (label_row rows v)
   rises v from_one up_to_n = AllPairs-from_increasing (map (λ e. e.pos) (label_row rows v)) (row_rises at rows v well from_one up_to_n)
 
-  module _ (sound : AreSoundBefore J at rows (length at + 1)) where
-    sound_entry : (v : ℕ) (e : Entry) → 1 ≤ v → v ≤ length at → Contains (label_row rows v) e → IsSoundEntry J at rows v e
-    sound_entry v e from_one up_to_n there = All-contains (IsSoundEntry J at rows v) (label_row rows v) e (sound v from_one (omega arith)) there
-
+  module _ (sound_entry : (v : ℕ) (e : Entry) → 1 ≤ v → v ≤ length at → Contains (label_row rows v) e → IsSoundEntry J at rows v e) where
     -- the node's own entry is at distance 0
     own_distance : (v p d : ℕ) → 1 ≤ v → v ≤ length at → Contains (label_row rows v) (record { pos = p; dist = d }) → slice_get at p ≡ Some v → d ≡ 0
     own_distance v p d from_one up_to_n there place =
@@ -71,9 +66,11 @@ module _ (edges : List Edge) (at : List ℕ) (edge : All (IsEdge (length at)) ed
               let itself : h ≡ v = sym same_hub ∙ same in
               HasWalk-same J h v 0 d (sym (own_distance v p d from_one up_to_n there (subst (λ x. slice_get at p ≡ Some x) itself place))) (HasWalk-none_to J h v itself)
           | inr step ↦
-              let is = IsEdge-joined (length at) edges v step.neighbour step.weight edge step.arc in
-              let before = walk_below bound h step.neighbour p step.dist (omega (arith, step.long, is.weight)) is.to_one is.to_n step.there place in
-              HasWalk-same J h v (step.dist + step.weight) d step.long (HasWalk-after J h step.neighbour v step.weight step.dist before (Joined-sym edges v step.neighbour step.weight step.arc))
+              let y = step.0 in
+              let n = step.1 in
+              let is = IsEdge-joined (length at) edges v y n.weight edge n.arc in
+              let before = walk_below bound h y p n.dist (omega (arith, n.long, is.weight)) is.to_one is.to_n n.there place in
+              HasWalk-same J h v (n.dist + n.weight) d n.long (HasWalk-after J h y v n.weight n.dist before (Joined-sym edges v y n.weight n.arc))
         ]
 
     pub walk_of : (h v p d : ℕ) → 1 ≤ v → v ≤ length at → Contains (label_row rows v) (record { pos = p; dist = d }) → slice_get at p ≡ Some h → HasWalk J h v d

@@ -1,12 +1,16 @@
 -- What the checks of an entry, one after the other, say of it.
-use Rattle.std.proofs.Common.{◌≡◌, ℕ, ◌<◌, ◌≤◌, List, Contains, get_or, slice_get, Some, ap, subst, ◌∙◌, arith}
+use Rattle.std.proofs.Common.{◌≡◌, ℕ, ◌<◌, ◌≤◌, List, Option, Some, None, Contains, length, get_or, slice_get, refl, ap, subst, ◌∙◌, inl, inr, arith}
+use Rattle.std.specs.Prelude.{MatchOption, unwrap_or}
 use Rattle.std.proofs.lemmas.Option.{get_or_from_slice_get}
 use Rattle.walk_laws.specs.declared.entry.Entry.{Entry}
 use Rattle.walk_laws.specs.Labelling.{label_row}
 use Rattle.hub_index.specs.WellFormed.{IsWellFormed}
 use Rattle.hub_query.proofs.RowFacts.{row_own}
+use Rattle.entry_vias.specs.RowVias.{IsNearer, IsFirstNearer, IsRowVia}
+use Rattle.index_audit.specs.Beside.{MayStand, HasPlace, GoesBy}
 use Rattle.index_audit.specs.Checks.{MeetAt, IsFirstMeet, IsWalked, IsCoveredAt, IsCovered, IsSoundEntry}
-use Rattle.index_audit.specs.Audited.{IsNeedless}
+use Rattle.index_audit.specs.Audited.{IsNeedless, GoesAstray, IsSoundAt}
+use Rattle.index_audit.proofs.OneEntry.{one_via}
 use Rattle.index_audit.proofs.Searched.{nothing}
 use Rattle.index_audit.proofs.Sound.{place_of, node_at}
 
@@ -61,3 +65,21 @@ module _ (J : ℕ → ℕ → ℕ → Type 0) (at : List ℕ) (rows : List (List
     redundant = record { above = above; meet = MeetAt-swap (label_row rows v) (label_row rows h) e.dist q first.here };
     highest = λ r redundant. first.least r (MeetAt-swap (label_row rows h) (label_row rows v) e.dist r redundant.meet);
   }
+
+-- the first neighbour that is nearer, or 0, is the via
+pub via_told : (J : ℕ → ℕ → ℕ → Type 0) (rows : List (List Entry)) (v : ℕ) (e : Entry) (nearer : Option ℕ) → MatchOption nearer ((z : ℕ) → IsNearer J rows v e z → ⊥) (λ y. IsFirstNearer J rows v e y) → IsRowVia J rows v e (unwrap_or nearer 0)
+via_told J rows v e None none = inr (refl, none)
+via_told J rows v e (Some y) first = inl first
+
+-- an entry that passes the checks and goes by its via
+pub sound_at : (J : ℕ → ℕ → ℕ → Type 0) (at : List ℕ) (rows : List (List Entry)) (vias : Option (List (List ℕ))) (v k want : ℕ) (e : Entry) → IsSoundEntry J at rows v e → IsRowVia J rows v e want → GoesBy vias v k want → IsSoundAt J at rows vias v k e
+sound_at J at rows vias v k want e sound via goes = record { sound = sound; via = λ y is. subst (GoesBy vias v k) (one_via J rows v e want y via is) goes }
+
+-- and one that doesn't go by it
+pub astray_of : (J : ℕ → ℕ → ℕ → Type 0) (at : List ℕ) (rows : List (List Entry)) (vias : Option (List (List ℕ))) (v h want k : ℕ) (e : Entry) → slice_get at e.pos ≡ Some h → IsSoundEntry J at rows v e → IsRowVia J rows v e want → (GoesBy vias v k want → ⊥) → GoesAstray J at rows vias v h want k e
+astray_of J at rows vias v h want k e place sound wanted other = record { place = place; sound = sound; wanted = wanted; other = other }
+
+-- vias that may stand beside rows have a place for each entry
+pub place_beside : (rows : List (List Entry)) (vias : Option (List (List ℕ))) (v k : ℕ) → MayStand rows vias → 1 ≤ v → v ≤ length rows → k < length (label_row rows v) → HasPlace vias v k
+place_beside rows None v k stand from_one up_to within = tt
+place_beside rows (Some vias) v k stand from_one up_to within = (from_one, omega (arith, stand.size, up_to), omega (arith, (stand.row v from_one up_to).size, within))

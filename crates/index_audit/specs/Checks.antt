@@ -1,8 +1,9 @@
--- The checks of an entry of an index against a graph. They look at the rows of its node, its hub and the node's neighbours alone.
-use Rattle.std.specs.Prelude.{◌≡◌, ◌⊎◌, ℕ, ◌+◌, ◌<◌, ◌≤◌, List, Some, Contains, slice_get}
+-- The checks of an entry of an index against a graph, its via left out. They look at the rows of its node, its hub and the node's neighbours alone.
+use Rattle.std.specs.Prelude.{◌≡◌, ◌⊎◌, ℕ, ◌+◌, ◌<◌, ◌≤◌, List, Some, slice_get}
 use Rattle.walk_laws.specs.declared.entry.Entry.{Entry}
 use Rattle.walk_laws.specs.Labelling.{label_row}
 use Rattle.walk_laws.specs.Meet.{HasSum}
+use Rattle.entry_vias.specs.RowVias.{IsNearer}
 
 -- both rows have the position q, and the sum of their distances is at most d
 pub record MeetAt (first second : List Entry) (d q : ℕ) : Type 0 where
@@ -15,18 +16,9 @@ pub record IsFirstMeet (first second : List Entry) (d q : ℕ) : Type 0 where
   pub here : MeetAt first second d q
   pub least : (r : ℕ) → MeetAt first second d r → q ≤ r
 
--- some neighbour of v has the hub of the entry e, nearer by the weight of the arc between
-pub record HasStep (J : ℕ → ℕ → ℕ → Type 0) (rows : List (List Entry)) (v : ℕ) (e : Entry) : Type 0 where
-  pub neighbour : ℕ
-  pub weight : ℕ
-  pub dist : ℕ
-  pub arc : J v neighbour weight
-  pub there : Contains (label_row rows neighbour) (record { pos = e.pos; dist = dist })
-  pub long : dist + weight ≡ e.dist
-
 -- the hub h of the entry e in the row of v is v itself, or a step to a neighbour leads nearer to it
 abbrev pub IsWalked : (ℕ → ℕ → ℕ → Type 0) → List (List Entry) → ℕ → ℕ → Entry → Type 0
-IsWalked J rows v h e = (h ≡ v) ⊎ HasStep J rows v e
+IsWalked J rows v h e = (h ≡ v) ⊎ ((y : ℕ) × IsNearer J rows v e y)
 
 -- the rows of h and of y share a hub with a sum of at most d
 abbrev pub IsCoveredAt : List (List Entry) → ℕ → ℕ → ℕ → Type 0
@@ -52,7 +44,7 @@ pub record IsRedundantBy (rows : List (List Entry)) (v h : ℕ) (e : Entry) (q :
   pub above : q < e.pos
   pub meet : MeetAt (label_row rows h) (label_row rows v) e.dist q
 
--- nothing is wrong with the entry e in the row of v
+-- the entry e in the row of v passes these three checks
 pub record IsSoundEntry (J : ℕ → ℕ → ℕ → Type 0) (at : List ℕ) (rows : List (List Entry)) (v : ℕ) (e : Entry) : Type 0 where
   pub hub : ℕ
   pub place : slice_get at e.pos ≡ Some hub

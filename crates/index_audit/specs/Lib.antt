@@ -1,6 +1,9 @@
 pub mod Places
 pub mod Checks
 pub mod Neighbours
+pub mod Beside
 pub mod Audited
+pub mod TracedAudits
+pub mod Upgrades
 pub mod Ranges
 pub mod Laws

@@ -24,4 +24,8 @@ pub enum Audit {
     /// longer. Of such nodes it is the highest-ranked.
     #[error("hub {hub} at {v} redundant by {by}")]
     Redundant { v: u32, hub: u32, by: u32 },
+    /// The row of `v` has `hub`, and the via beside isn't `want`: the least neighbour of `v` that has the hub nearer by the weight of
+    /// the arc between, or 0 for the entry of `v` itself. Only an index with vias is answered so.
+    #[error("hub {hub} at {v} goes by {want}")]
+    WrongVia { v: u32, hub: u32, want: u32 },
 }

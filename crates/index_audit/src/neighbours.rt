@@ -2,6 +2,7 @@
 ghost use Rattle.std.specs.Prelude.{◌≡◌, ◌↔◌, ℕ, ◌+◌, ◌^◌, ◌<◌, ◌≤◌, Some, MatchOption, IsTrue, length, slice_get};
 ghost use Rattle.walk_laws.specs.Graph.{IsGraph};
 ghost use Rattle.walk_laws.specs.Joined.{Joined};
+ghost use Rattle.entry_vias.specs.RowVias.{IsNearer, IsFirstNearer};
 ghost use Rattle.index_audit.specs.Checks.{IsWalked, IsCovered, IsFirstUncovered};
 ghost use Rattle.index_audit.specs.Neighbours.{IsToldBy};
 
@@ -24,7 +25,9 @@ pub enum Told {
 /// What all neighbours of a node tell of an entry of its row.
 #[derive(Clone, Copy)]
 pub struct Around {
-    /// Whether the hub is the node itself, or some neighbour has it, nearer by the weight of the arc between.
+    /// The least neighbour, a number from 1, that has the hub, nearer by the weight of the arc between.
+    pub nearer: Option<u32>,
+    /// Whether there is one, or the hub is the node itself.
     pub walked: bool,
     /// The least neighbour, a number from 1, at which the entry isn't covered.
     pub uncovered: Option<u32>,
@@ -63,17 +66,22 @@ pub fn look_around(graph: &Graph, index: &Index, v: u32, hub: u32, entry: Entry)
     requires within { v ≤ graph.now.n }
     requires place { slice_get index.now.order entry.pos ≡ Some hub }
     requires fits { entry.dist < 2 ^ 62 }
+    ensures nearer { MatchOption result.nearer ((z : ℕ) → ¬ IsNearer (Joined graph.now.edges) index.now.rows v entry z) (λ y. IsFirstNearer (Joined graph.now.edges) index.now.rows v entry y) }
     ensures walked { IsTrue result.walked ↔ IsWalked (Joined graph.now.edges) index.now.rows v hub entry }
     ensures covered { MatchOption result.uncovered (IsCovered (Joined graph.now.edges) index.now.rows v hub entry) (λ to. IsFirstUncovered (Joined graph.now.edges) index.now.rows v hub entry to) }
 {
-    let mut walked = hub == v;
+    let mut nearer = None;
     let mut uncovered = None;
     for arc in graph.arcs(v) {
         match look_at(index, hub, entry, *arc) {
-            Told::Nearer => walked = true,
+            Told::Nearer => nearer = nearer.or(Some(arc.to)),
             Told::Covered => {}
             Told::Uncovered => uncovered = uncovered.or(Some(arc.to)),
         }
     }
-    Around { walked, uncovered }
+    Around {
+        nearer,
+        walked: hub == v || nearer.is_some(),
+        uncovered,
+    }
 }

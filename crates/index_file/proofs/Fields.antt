@@ -7,7 +7,7 @@ use Rattle.std.proofs.lemmas.Nat.{be_bytes_4, be_bytes_8}
 use Rattle.std.proofs.lemmas.List.{length-append, get_or_default, get_or_past}
 use Rattle.byteorder.specs.Endian.{big_bytes, big_number}
 use Rattle.index_file.specs.declared.next.Next.{Next}
-use Rattle.index_file.specs.declared.next.Next.TheVariants.{Letter, Version, Size, Node, Count, Position, Distance, End}
+use Rattle.index_file.specs.declared.next.Next.TheVariants.{Letter, Version, Size, Node, Count, Position, Distance, Via, End}
 use Rattle.index_file.specs.Judging.{width, after_whole, fed}
 
 abbrev pub IsBytes : List ℕ → Type 0
@@ -42,11 +42,12 @@ back_1 (b ∷ c ∷ bs) len fits = absurd (omega arith)
 pub bytes_of_field : (next : Next) (bs : List ℕ) → length bs ≡ width next → IsBytes bs → big_bytes (width next) (big_number (length bs) bs) ≡ bs
 bytes_of_field Letter bs len fits = rw len (back_1 bs len fits)
 bytes_of_field Version bs len fits = rw len (back_1 bs len fits)
-bytes_of_field Size bs len fits = rw len (be_bytes_4 bs _ len fits (same_4 bs))
+bytes_of_field (Size traced) bs len fits = rw len (be_bytes_4 bs _ len fits (same_4 bs))
 bytes_of_field (Node names) bs len fits = rw len (be_bytes_4 bs _ len fits (same_4 bs))
 bytes_of_field (Count done) bs len fits = rw len (be_bytes_4 bs _ len fits (same_4 bs))
 bytes_of_field (Position done part) bs len fits = rw len (be_bytes_4 bs _ len fits (same_4 bs))
 bytes_of_field (Distance done part pos) bs len fits = rw len (be_bytes_8 bs _ len fits (same_8 bs))
+bytes_of_field (Via done part e) bs len fits = rw len (be_bytes_4 bs _ len fits (same_4 bs))
 bytes_of_field (End done) bs len fits = rw len (back_1 bs len fits)
 
 -- ---- one field
@@ -67,11 +68,12 @@ fed-field next at field long = gathered next at [] field (some next long) (omega
     some : (next : Next) → length field ≡ width next → 0 < length field
     some Letter long = omega arith
     some Version long = omega arith
-    some Size long = omega arith
+    some (Size traced) long = omega arith
     some (Node names) long = omega arith
     some (Count done) long = omega arith
     some (Position done part) long = omega arith
     some (Distance done part pos) long = omega arith
+    some (Via done part e) long = omega arith
     some (End done) long = omega arith
 
 -- with bytes that the field was begun with

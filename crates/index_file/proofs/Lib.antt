@@ -1,6 +1,8 @@
 mod RepeatedNodes
 pub mod Fields
 pub mod Rising
+pub mod OneMore
+pub mod RowsWithVias
 pub mod SoundFields
 pub mod SoundBytes
 pub mod Sizes

@@ -5,7 +5,7 @@ use Rattle.std.proofs.lemmas.List.{length-append, append-nil, get_or_past}
 use Rattle.byteorder.specs.Endian.{big_bytes, big_number}
 use Rattle.index_file.specs.declared.fault.IndexFault.{IndexFault}
 use Rattle.index_file.specs.declared.next.Next.{Next}
-use Rattle.index_file.specs.declared.next.Next.TheVariants.{Letter, Version, Size, Node, Count, Position, Distance, End}
+use Rattle.index_file.specs.declared.next.Next.TheVariants.{Letter, Version, Size, Node, Count, Position, Distance, Via, End}
 use Rattle.index_file.specs.Judging.{Reached, ◌>>=◌, start, width, after_field, after_whole, after_byte, fed}
 use Rattle.index_file.specs.Cutting.{fed-err}
 use Rattle.index_file.specs.Sound.{IsSound, bytes_before}
@@ -20,11 +20,12 @@ bind_ok (Err e) f y is = absurd cc
 pub width-some : (next : Next) → 0 < width next
 width-some Letter = omega arith
 width-some Version = omega arith
-width-some Size = omega arith
+width-some (Size traced) = omega arith
 width-some (Node names) = omega arith
 width-some (Count done) = omega arith
 width-some (Position done part) = omega arith
 width-some (Distance done part pos) = omega arith
+width-some (Via done part e) = omega arith
 width-some (End done) = omega arith
 
 -- before any byte

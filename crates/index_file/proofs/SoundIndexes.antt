@@ -3,16 +3,18 @@ use Rattle.std.proofs.Common.{◌≡◌, ℕ, ◌+◌, List, [], ◌∷◌, ◌+
 use Rattle.std.proofs.lemmas.Bool.Decides.{eqb_tells}
 use Rattle.std.proofs.lemmas.List.{length-append}
 use Rattle.byteorder.specs.Endian.{big_number}
-use Rattle.hub_index.specs.HubIndex.{HubIndex}
 use Rattle.hub_index.specs.WellFormed.{IsWellFormed}
 use Rattle.index_file.specs.declared.fault.IndexFault.{IndexFault}
 use Rattle.index_file.specs.declared.next.Next.TheVariants.{End}
 use Rattle.index_file.specs.Judging.{Reached, start, width, after_field, after_whole, after_byte, fed, end_of, index_of}
 use Rattle.index_file.specs.Cutting.{fed-err}
 use Rattle.index_file.specs.Sound.{IsSoundNext}
+use Rattle.index_file.specs.Stored.{without_vias, IsStored}
+use Rattle.index_file.specs.declared.stored_index.StoredIndex.{StoredIndex}
+use Rattle.index_file.specs.declared.stored_index.StoredIndex.TheVariants.{Plain, Traced}
 use Rattle.index_file.proofs.SoundBytes.{bind_ok, ok_is}
 use Rattle.index_file.proofs.SoundFields.{StandsFor-after_field}
-use Rattle.index_file.proofs.Layouts.{IsWellFormed-rows, ends_there}
+use Rattle.index_file.proofs.Layouts.{EndsAt, ends_there, IsStored-rows}
 
 abbrev reached : Reached → Result Reached IndexFault
 reached p = Ok p
@@ -43,14 +45,22 @@ sound_bytes (b ∷ bytes) p q sound is = go_on q bytes (λ next first rest. soun
     go_on last more step (Err e) first rest = let stays : fed (Err e) more ≡ Err e = fed-err e more in absurd cc
 
 -- all of them
-pub IsWellFormed-index_of : (bytes : List ℕ) (done : HubIndex) → index_of bytes ≡ Ok done → IsWellFormed done.order done.rows
-IsWellFormed-index_of bytes done is = go (fed (Ok start) bytes) refl is
+pub IsStored-index_of : (bytes : List ℕ) (stored : StoredIndex) → index_of bytes ≡ Ok stored → IsStored stored
+IsStored-index_of bytes stored is = go (fed (Ok start) bytes) refl is
   where
-    at_end : (p : Reached) → p.next ≡ End done → IsSoundNext p.at p.next → IsWellFormed done.order done.rows
-    at_end p end sound =
-        let fields : IsSoundNext p.at (End done) = subst (IsSoundNext p.at) end sound in
-        IsWellFormed-rows done fields.0 fields.1
+    at_end : (p : Reached) (at : EndsAt p.next stored) → IsSoundNext p.at p.next → IsStored stored
+    at_end p at sound =
+        let fields : IsSoundNext p.at (End at.done) = subst (IsSoundNext p.at) at.end sound in
+        subst IsStored at.is (IsStored-rows at.done fields.0 fields.1)
 
-    go : (r : Result Reached IndexFault) → fed (Ok start) bytes ≡ r → end_of r ≡ Ok done → IsWellFormed done.order done.rows
-    go (Ok p) led ends = at_end p (ends_there (p.at + length p.held) p.next done ends) (sound_bytes bytes start p (omega arith) led)
+    go : (r : Result Reached IndexFault) → fed (Ok start) bytes ≡ r → end_of r ≡ Ok stored → IsStored stored
+    go (Ok p) led ends = at_end p (ends_there (p.at + length p.held) p.next stored ends) (sound_bytes bytes start p (omega arith) led)
     go (Err e) led ends = absurd cc
+
+-- without its vias
+pub IsWellFormed-index_of : (bytes : List ℕ) (stored : StoredIndex) → index_of bytes ≡ Ok stored → IsWellFormed (without_vias stored).order (without_vias stored).rows
+IsWellFormed-index_of bytes stored is = well_formed stored (IsStored-index_of bytes stored is)
+  where
+    well_formed : (stored : StoredIndex) → IsStored stored → IsWellFormed (without_vias stored).order (without_vias stored).rows
+    well_formed (Plain i) is = is
+    well_formed (Traced t) is = is.0

@@ -1,20 +1,19 @@
 -- The steps of the reading: each leads as the bytes that it takes do.
-use Rattle.std.proofs.Common.{◌≡◌, ◌⊎◌, ℕ, zero, suc, ◌+◌, ◌<◌, ◌≤◌, true, false, eqb, List, [], ◌∷◌, ◌++◌, length, take, drop, get_or, Result, Ok, Err, refl, sym, ap, subst, ◌∙◌, inl, inr, append_assoc, arith}
+use Rattle.std.proofs.Common.{◌≡◌, ◌⊎◌, ℕ, zero, suc, ◌+◌, ◌<◌, ◌≤◌, Bool, true, false, if◌then◌else◌, is_some, List, [], ◌∷◌, ◌++◌, length, take, drop, get_or, Result, Ok, Err, refl, sym, ap, subst, ◌∙◌, inl, inr, append_assoc, arith}
 use Rattle.std.proofs.Math.ListN.{get_or-append}
 use Rattle.std.proofs.lemmas.Bool.{ne_eqb, eqb-false, cases_lt}
-use Rattle.std.proofs.lemmas.List.{length-append, get_or_past, get_or-append-add, take-append-drop, length-take, length-drop}
+use Rattle.std.proofs.lemmas.List.{length-append, append-nil, get_or_past, get_or-append-add, take-append-drop, length-take, length-drop}
 use Rattle.byteorder.specs.Endian.{big_number}
 use Rattle.byteorder.specs.Numbers.{big_from-take}
 use Rattle.walk_laws.specs.declared.entry.Entry.{Entry}
-use Rattle.hub_index.specs.HubIndex.{HubIndex}
 use Rattle.index_file.specs.declared.fault.IndexFault.{IndexFault}
 use Rattle.index_file.specs.declared.fault.IndexFault.TheVariants as fault
 use Rattle.index_file.specs.declared.next.Next.{Next}
-use Rattle.index_file.specs.declared.next.Next.TheVariants.{Node, Position, Distance}
-use Rattle.index_file.specs.Parts.{Names, Part, with_node, is_new_node, next_node, next_own, with_entry, is_last, is_next_position, is_next_distance}
-use Rattle.index_file.specs.Judging.{Reached, ◌>>=◌, width, after_field, after_node, fed}
+use Rattle.index_file.specs.declared.next.Next.TheVariants.{Node, Position, Distance, Via}
+use Rattle.index_file.specs.Parts.{Names, ReadRows, Part, with_node, is_new_node, next_node, next_own, with_entry, with_via, is_last, is_next_position, is_next_distance, is_next_via}
+use Rattle.index_file.specs.Judging.{Reached, ◌>>=◌, width, after_field, after_node, after_distance, after_entry, fed}
 use Rattle.index_file.specs.Cutting.{fed-append, fed-err}
-use Rattle.index_file.specs.Gives.{Takes, Refuses, at_node, at_position}
+use Rattle.index_file.specs.Gives.{Takes, Refuses, at_node, at_position, at_via, entry_width}
 use Rattle.index_file.specs.Sound.{IsSound}
 use Rattle.index_file.proofs.Fields.{IsBytes, All-from_bytes, bytes_from_All, fed-field, fed-rest_of_field}
 use Rattle.index_file.proofs.SoundBytes.{Leads-bytes}
@@ -121,7 +120,7 @@ fed-no_node names at v field long is old =
 
 -- ---- entries of a row
 
-module _ (done : HubIndex) (part : Part) (at : ℕ) (field : List ℕ) (long : length field ≡ 12) (pos : ℕ) (pos_is : pos ≡ big_number 4 field) where
+module _ (done : ReadRows) (part : Part) (at : ℕ) (field : List ℕ) (long : length field ≡ 12) (pos : ℕ) (pos_is : pos ≡ big_number 4 field) where
   parts_are : field ≡ take 4 field ++ drop 4 field
   parts_are = sym (take-append-drop 4 field)
 
@@ -164,15 +163,75 @@ module _ (done : HubIndex) (part : Part) (at : ℕ) (field : List ℕ) (long : l
         after (Err (fault.Distance (next_node done) (length part.entries)))
         (fed-refused (Distance done part pos) (at + 4) (drop 4 field) (fault.Distance (next_node done) (length part.entries)) second_long (ap (after_field (at + 4) (Distance done part pos)) second_value ∙ judged))
 
-    pub fed-entry : is_next_distance part dist ≡ true → is_last part ≡ false → fed (Ok (at_position done part at)) field ≡ Ok (at_position done (with_entry part (record { pos = pos; dist = dist })) (at + 12))
-    fed-entry distance more =
-        let e : Entry = record { pos = pos; dist = dist } in
-        let not_whole : eqb (length (part.entries ++ record { pos = pos; dist = dist } ∷ [])) part.count ≡ false = ne_eqb (length (part.entries ++ record { pos = pos; dist = dist } ∷ [])) part.count (λ same. eqb-false (length part.entries + 1) part.count more (omega (arith, length-append part.entries (e ∷ [])))) in
-        let judged : after_field (at + 4) (Distance done part pos) dist ≡ Ok (Position done (with_entry part (record { pos = pos; dist = dist }))) = rw (distance, not_whole) refl in
+    -- the position and the distance of an entry
+    pub fed-entry : is_next_distance part dist ≡ true → fed (Ok (at_position done part at)) field ≡ Ok (record { next = after_distance done part (record { pos = pos; dist = dist }); held = []; at = at + 12 })
+    fed-entry distance =
+        let judged : after_field (at + 4) (Distance done part pos) dist ≡ Ok (after_distance done part (record { pos = pos; dist = dist })) = rw distance refl in
         let end : at + 4 + length (drop 4 field) ≡ at + 12 = omega (arith, second_long) in
-        after (Ok (at_position done (with_entry part (record { pos = pos; dist = dist })) (at + 12)))
-        (fed-accepted (Distance done part pos) (at + 4) (drop 4 field) (Position done (with_entry part (record { pos = pos; dist = dist }))) second_long (ap (after_field (at + 4) (Distance done part pos)) second_value ∙ judged)
-        ∙ ap (λ k. Ok (record { next = Position done (with_entry part (record { pos = pos; dist = dist })); held = []; at = k })) end)
+        after (Ok (record { next = after_distance done part (record { pos = pos; dist = dist }); held = []; at = at + 12 }))
+        (fed-accepted (Distance done part pos) (at + 4) (drop 4 field) (after_distance done part (record { pos = pos; dist = dist })) second_long (ap (after_field (at + 4) (Distance done part pos)) second_value ∙ judged)
+        ∙ ap (λ k. Ok (record { next = after_distance done part (record { pos = pos; dist = dist }); held = []; at = k })) end)
+
+-- the via of an entry
+module _ (done : ReadRows) (part : Part) (e : Entry) (at : ℕ) (field : List ℕ) (long : length field ≡ 4) (y : ℕ) (is : y ≡ big_number 4 field) where
+  via_value : big_number (length field) field ≡ y
+  via_value = ap (λ k. big_number k field) long ∙ sym is
+
+  pub fed-no_via : is_next_via (length done.order) (next_node done) part y ≡ false → fed (Ok (at_via done part e at)) field ≡ Err (fault.Via (next_node done) (length part.entries))
+  fed-no_via not_next =
+      let judged : after_field at (Via done part e) y ≡ Err (fault.Via (next_node done) (length part.entries)) = rw not_next refl in
+      fed-refused (Via done part e) at field (fault.Via (next_node done) (length part.entries)) long (ap (after_field at (Via done part e)) via_value ∙ judged)
+
+  pub fed-via : is_next_via (length done.order) (next_node done) part y ≡ true → fed (Ok (at_via done part e at)) field ≡ Ok (record { next = after_entry done (with_via (with_entry part e) y); held = []; at = at + 4 })
+  fed-via may =
+      let judged : after_field at (Via done part e) y ≡ Ok (after_entry done (with_via (with_entry part e) y)) = rw may refl in
+      fed-accepted (Via done part e) at field (after_entry done (with_via (with_entry part e) y)) long (ap (after_field at (Via done part e)) via_value ∙ judged)
+      ∙ ap (λ k. Ok (record { next = after_entry done (with_via (with_entry part e) y); held = []; at = at + k })) long
+
+-- 12 bytes, or 16
+width_between : (traced : Bool) → (12 ≤ (if traced then 16 else 12)) × ((if traced then 16 else 12) ≤ 16)
+width_between true = (omega arith, omega arith)
+width_between false = (omega arith, omega arith)
+
+pub entry_width-between : (done : ReadRows) → (12 ≤ entry_width done) × (entry_width done ≤ 16)
+entry_width-between done = width_between (is_some done.vias)
+
+-- an entry that isn't the last one of its row leaves the row open
+open_row : (done : ReadRows) (part : Part) (e : Entry) (vias : List ℕ) → is_last part ≡ false → after_entry done (record { count = part.count; entries = part.entries ++ e ∷ []; vias = vias }) ≡ Position done (record { count = part.count; entries = part.entries ++ e ∷ []; vias = vias })
+open_row done part e vias more = rw (ne_eqb (length (part.entries ++ e ∷ [])) part.count (λ same. eqb-false (length part.entries + 1) part.count more (omega (arith, length-append part.entries (e ∷ []))))) refl
+
+-- the bytes of an entry without a via
+pub fed-plain : (done : ReadRows) (part : Part) (e : Entry) (at : ℕ) (field head tail : List ℕ) → is_last part ≡ false → is_some done.vias ≡ false → length head ≡ 12 → length field ≡ entry_width done → field ≡ head ++ tail → fed (Ok (at_position done part at)) head ≡ Ok (record { next = after_distance done part e; held = []; at = at + 12 }) → fed (Ok (at_position done part at)) field ≡ Ok (at_position done (with_entry part e) (at + entry_width done))
+fed-plain done part e at field head tail more plain head_long long parts taken =
+    let whole : length field ≡ 12 = rw plain at long in
+    let none : tail ≡ [] = nothing tail (omega (arith, ap length parts, length-append head tail, head_long, whole)) in
+    let next : after_distance done part e ≡ Position done (with_entry part e) = rw plain (open_row done part e part.vias more) in
+    let width_is : 12 ≡ entry_width done = rw plain refl in
+    ap (fed (Ok (at_position done part at))) (parts ∙ ap (λ t. head ++ t) none ∙ append-nil head) ∙ taken
+    ∙ ap (λ n. Ok (record { next = n; held = []; at = at + 12 })) next
+    ∙ ap (λ k. Ok (at_position done (with_entry part e) (at + k))) width_is
+  where
+    nothing : (xs : List ℕ) → length xs ≡ 0 → xs ≡ []
+    nothing [] none = refl
+    nothing (x ∷ xs) none = absurd (omega arith)
+
+-- and of one with a via
+pub fed-traced : (done : ReadRows) (part : Part) (e : Entry) (y at : ℕ) (field head tail : List ℕ) → is_last part ≡ false → is_some done.vias ≡ true → field ≡ head ++ tail → fed (Ok (at_position done part at)) head ≡ Ok (record { next = after_distance done part e; held = []; at = at + 12 }) → fed (Ok (at_via done part e (at + 12))) tail ≡ Ok (record { next = after_entry done (with_via (with_entry part e) y); held = []; at = at + 12 + 4 }) → fed (Ok (at_position done part at)) field ≡ Ok (at_position done (with_via (with_entry part e) y) (at + entry_width done))
+fed-traced done part e y at field head tail more traced parts taken via =
+    let next : after_distance done part e ≡ Via done part e = rw traced refl in
+    let width_is : at + 12 + 4 ≡ at + entry_width done = rw traced (omega arith) in
+    ap (fed (Ok (at_position done part at))) parts ∙ fed-append (Ok (at_position done part at)) head tail
+    ∙ ap (λ r. fed r tail) (taken ∙ ap (λ n. Ok (record { next = n; held = []; at = at + 12 })) next)
+    ∙ via
+    ∙ ap (λ n. Ok (record { next = n; held = []; at = at + 12 + 4 })) (open_row done part e (part.vias ++ y ∷ []) more)
+    ∙ ap (λ k. Ok (at_position done (with_via (with_entry part e) y) k)) width_is
+
+-- a via that is refused
+pub fed-refused_via : (done : ReadRows) (part : Part) (e : Entry) (at : ℕ) (field head tail : List ℕ) (f : IndexFault) → is_some done.vias ≡ true → field ≡ head ++ tail → fed (Ok (at_position done part at)) head ≡ Ok (record { next = after_distance done part e; held = []; at = at + 12 }) → Refuses (at_via done part e (at + 12)) tail f → Refuses (at_position done part at) field f
+fed-refused_via done part e at field head tail f traced parts taken refuses =
+    let next : after_distance done part e ≡ Via done part e = rw traced refl in
+    let leads = taken ∙ ap (λ n. Ok (record { next = n; held = []; at = at + 12 })) next in
+    Refuses-then (at_position done part at) (at_via done part e (at + 12)) field tail f (record { taken = head; parts = parts; leads = leads }) refuses
 
 -- ---- fields by their judgement
 

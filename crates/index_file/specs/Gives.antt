@@ -1,10 +1,10 @@
 -- What the code answers where the judgement is as defined.
-use Rattle.std.specs.Prelude.{◌≡◌, ◌⊎◌, ℕ, List, [], ◌++◌, Result, Ok, Err}
+use Rattle.std.specs.Prelude.{◌≡◌, ◌⊎◌, ℕ, List, [], ◌++◌, is_some, if◌then◌else◌, Result, Ok, Err}
+use Rattle.walk_laws.specs.declared.entry.Entry.{Entry}
 use Rattle.index_file.specs.declared.fault.IndexFault.{IndexFault}
 use Rattle.index_file.specs.declared.fault.IndexFault.TheVariants.{NoMemory}
-use Rattle.hub_index.specs.HubIndex.{HubIndex}
-use Rattle.index_file.specs.declared.next.Next.TheVariants.{Node, Position}
-use Rattle.index_file.specs.Parts.{Names, Part}
+use Rattle.index_file.specs.declared.next.Next.TheVariants.{Node, Position, Via}
+use Rattle.index_file.specs.Parts.{Names, ReadRows, Part}
 use Rattle.index_file.specs.Judging.{Reached, fed}
 
 -- the answer is as defined, or there was no memory for it
@@ -16,8 +16,16 @@ Gives (Err e) defined = (e ≡ NoMemory) ⊎ (defined ≡ Err e)
 abbrev pub at_node : Names → ℕ → Reached
 at_node names at = record { next = Node names; held = []; at = at }
 
-abbrev pub at_position : HubIndex → Part → ℕ → Reached
+abbrev pub at_position : ReadRows → Part → ℕ → Reached
 at_position done part at = record { next = Position done part; held = []; at = at }
+
+-- and at a via
+abbrev pub at_via : ReadRows → Part → Entry → ℕ → Reached
+at_via done part e at = record { next = Via done part e; held = []; at = at }
+
+-- how many bytes an entry has, with its via where the index has such
+abbrev pub entry_width : ReadRows → ℕ
+entry_width done = if is_some done.vias then 16 else 12
 
 -- some bytes were taken from the start of these, and led so far; the others are left
 pub record Takes (old : Reached) (bytes : List ℕ) (new : Reached) (left : List ℕ) : Type 0 where

@@ -1,4 +1,5 @@
 pub mod Layout
+pub mod Stored
 pub mod Parts
 pub mod Judging
 pub mod Sound

@@ -1,41 +1,60 @@
-ghost use Rattle.std.specs.Prelude.{◌≡◌, ℕ, ◌+◌, ◌^◌, ◌<◌, ◌≤◌, ◌==◌, [], ◌∷◌, ◌++◌, length, IfOk};
+ghost use Rattle.std.specs.Prelude.{◌≡◌, ℕ, ◌+◌, ◌^◌, ◌<◌, ◌≤◌, ◌==◌, [], length, is_some, IfSome, IfOk};
 ghost use Rattle.walk_laws.specs.Ranking.{IsRanking};
-ghost use Rattle.hub_index.specs.HubIndex.{HubIndex};
 ghost use Rattle.hub_index.specs.WellFormed.{IsWellFormed};
-ghost use Rattle.index_file.specs.Parts.{next_node, next_own, with_row};
+ghost use Rattle.entry_vias.specs.RowVias.{HaveVias};
+ghost use Rattle.index_file.specs.Parts.{next_node, next_own, no_vias, more_vias, with_row};
+ghost use Rattle.index_file.specs.Stored.{stored_index};
 
+use crate::stored_index::StoredIndex;
+use entry_vias::{TracedIndex, Vias};
 use hub_index::{Index, RowList};
 use rank_table::Ranking;
 use std::alloc::{AllocError, Global};
 use std::marker::Model;
 use walk_laws::Entry;
 
-/// A ranking, and the rows of its first nodes.
+/// A ranking, the rows of its first nodes, and their vias where the index has such.
 #[derive(Debug, Drop)]
 pub struct Done {
     ranking: Ranking,
     rows: Vec<Vec<Entry>>,
+    vias: Option<Vias>,
 }
 
 impl Model for Done {
     ghost use Rattle.std.specs.Prelude.{map};
-    ghost use Rattle.hub_index.specs.HubIndex.{HubIndex};
+    ghost use Rattle.index_file.specs.Parts.{ReadRows};
 
-    ghost Value = { HubIndex };
+    ghost Value = { ReadRows };
 
-    ghost view = { λ d. record { order = d.ranking; rows = map (λ row. row.items) d.rows.items } };
+    ghost view = { λ d. record { order = d.ranking; rows = map (λ row. row.items) d.rows.items; vias = d.vias } };
 }
 
 impl Done {
-    /// The ranking with this order of nodes, without rows.
-    pub fn new(alloc: Global, order: Vec<u32>) -> Result<Done, AllocError>
+    /// The ranking with this order of nodes, without rows, of an index with vias or without.
+    pub fn new(alloc: Global, order: Vec<u32>, traced: bool) -> Result<Done, AllocError>
         requires { IsRanking order.items }
-        ensures { IfOk result (λ done. done ≡ record { order = order.items; rows = [] }) }
+        ensures { IfOk result (λ done. done ≡ record { order = order.items; rows = []; vias = no_vias traced }) }
     {
         Ok(Done {
             ranking: Ranking::new(alloc, order)?,
             rows: Vec::new(alloc),
+            vias: none_yet(alloc, traced)?,
         })
+    }
+
+    /// How many nodes there are.
+    pub fn n(&self) -> u32
+        ensures { result ≡ length self.now.order }
+    {
+        self.ranking.n()
+    }
+
+    /// Whether the index has vias.
+    pub fn is_traced(&self) -> bool
+        ensures { result ≡ is_some self.now.vias }
+    {
+        self.vias.is_some()
     }
 
     /// Whether each node has its row.
@@ -62,21 +81,65 @@ impl Done {
         self.ranking.pos(self.node())
     }
 
-    /// These rows, and one more.
-    pub fn with(self, row: Vec<Entry>) -> Result<Done, AllocError>
-        ensures { IfOk result (λ done. done ≡ with_row self row.items) }
+    /// These rows, and one more, with its vias where the index has such.
+    pub fn with(self, row: Vec<Entry>, row_vias: &[u32]) -> Result<Done, AllocError>
+        requires { IfSome self.vias (λ vias. length vias + 1 < 2 ^ 32) }
+        ensures { IfOk result (λ done. done ≡ with_row self row.items row_vias.now) }
     {
-        let Done { ranking, mut rows } = self;
+        let Done {
+            ranking,
+            mut rows,
+            vias,
+        } = self;
         rows.push(row)?;
-        Ok(Done { ranking, rows })
+        let vias = with_more(vias, row_vias)?;
+        Ok(Done {
+            ranking,
+            rows,
+            vias,
+        })
     }
 
     /// The index, where each node has its row.
-    pub fn into_index(self) -> Index
-        requires { IsWellFormed self.order self.rows }
-        ensures { result ≡ self }
+    pub fn into_stored(self) -> StoredIndex
+        requires rows { IsWellFormed self.order self.rows }
+        requires vias { IfSome self.vias (HaveVias self.rows) }
+        ensures { result ≡ stored_index self.order self.rows self.vias }
     {
-        let Done { ranking, rows } = self;
-        Index::new(ranking, RowList::from_rows(rows))
+        let Done {
+            ranking,
+            rows,
+            vias,
+        } = self;
+        let index = Index::new(ranking, RowList::from_rows(rows));
+        match vias {
+            None => StoredIndex::Plain(index),
+            Some(vias) => StoredIndex::Traced(TracedIndex::new(index, vias)),
+        }
+    }
+}
+
+/// No lists of vias yet, of an index with vias or without; only the former takes memory.
+fn none_yet(alloc: Global, traced: bool) -> Result<Option<Vias>, AllocError>
+    ensures { IfOk result (λ vias. vias ≡ no_vias traced) }
+{
+    if !traced {
+        return Ok(None);
+    }
+    let vias = Vias::new(alloc)?;
+    Ok(Some(vias))
+}
+
+/// The vias of a row more, where the index has such.
+fn with_more(vias: Option<Vias>, row: &[u32]) -> Result<Option<Vias>, AllocError>
+    requires { IfSome vias (λ lists. length lists + 1 < 2 ^ 32) }
+    ensures { IfOk result (λ more. more ≡ more_vias vias row.now) }
+{
+    match vias {
+        None => Ok(None),
+        Some(mut lists) => {
+            lists.push_row(row)?;
+            Ok(Some(lists))
+        }
     }
 }

@@ -1,39 +1,72 @@
-ghost use Rattle.std.specs.Prelude.{◌≡◌, ℕ, ◌+◌, ◌*◌, ◌^◌, ◌<◌, ◌≤◌, ◌++◌, length, flat_map, IfOk, OnOk};
+ghost use Rattle.std.specs.Prelude.{◌≡◌, ℕ, ◌+◌, ◌*◌, ◌^◌, ◌<◌, ◌≤◌, ◌++◌, length, flat_map, IfSome, IfOk, OnOk};
+ghost use Rattle.std.specs.Option.{option_copied};
 ghost use Rattle.walk_laws.specs.Labelling.{label_row};
 ghost use Rattle.hub_index.specs.CompactRows.{row_of_parts};
-ghost use Rattle.index_file.specs.Layout.{before_rows, index_bytes, entry_bytes, row_bytes, run_bytes, word};
+ghost use Rattle.hub_index.specs.WellFormed.{IsWellFormed};
+ghost use Rattle.entry_vias.specs.RowVias.{HaveVias};
+ghost use Rattle.index_file.specs.Layout.{before_rows, stored_bytes, index_bytes, via_bytes, entry_bytes, traced_entry_bytes, row_bytes, traced_row_bytes, node_bytes, run_bytes, version_of, word};
 
+use crate::field::{LETTERS, PLAIN, TRACED};
 use byteorder::{BigEndian, ByteOrder};
+use entry_vias::{TracedIndex, Vias};
 use hub_index::{CompactEntry, Index, IndexRows};
 use std::alloc::{AllocError, Global};
 use walk_laws::Entry;
 
-/// The bytes of an index file: one pass over the index into one buffer of their size. The only error is that memory ran
+/// The bytes of an index file of version 1: one pass over the index into one buffer of their size. The only error is that memory ran
 /// out.
 pub fn encode(alloc: Global, index: &Index) -> Result<Vec<u8>, AllocError>
     ensures { IfOk result (λ bytes. bytes.items ≡ index_bytes index.now.order index.now.rows) }
 {
-    encode_rows(alloc, &index.rows())
+    encode_rows(alloc, &index.rows(), None)
 }
 
-/// The same of the rows that an index lends.
-pub fn encode_rows(alloc: Global, index: &IndexRows<'_>) -> Result<Vec<u8>, AllocError>
-    ensures { IfOk result (λ bytes. bytes.items ≡ index_bytes index.now.order index.now.rows) }
+/// The bytes of an index file of version 2, which has the vias: one pass over the index into one buffer of their size. The only
+/// error is that memory ran out.
+pub fn encode_via(alloc: Global, index: &TracedIndex) -> Result<Vec<u8>, AllocError>
+    ensures { IfOk result (λ bytes. bytes.items ≡ via_bytes index.now.order index.now.rows index.now.vias) }
+{
+    encode_rows(alloc, &index.index().rows(), Some(index.vias()))
+}
+
+/// The same of the rows that an index lends, with these vias or without.
+pub fn encode_rows(
+    alloc: Global,
+    index: &IndexRows<'_>,
+    vias: Option<&Vias>,
+) -> Result<Vec<u8>, AllocError>
+    requires { IfSome (option_copied vias) (HaveVias index.now.rows) }
+    ensures { IfOk result (λ bytes. bytes.items ≡ stored_bytes index.now.order index.now.rows (option_copied vias.entry)) }
 {
     let n = index.n();
-    let mut out = head_of(alloc, index, rows_size(index, 0, n))?;
-    push_rows(&mut out, index, 0, n)?;
+    let mut out = head_of(alloc, index, vias, rows_size(index, vias, 0, n))?;
+    push_rows(&mut out, index, vias, 0, n)?;
     Ok(out)
 }
 
-/// The bytes before the rows, in one buffer with room for so many more. The only error is that memory ran out.
-pub fn head_of(alloc: Global, index: &IndexRows<'_>, room: usize) -> Result<Vec<u8>, AllocError>
-    requires { room + 2 ^ 40 ≤ 2 ^ 64 }
-    ensures { IfOk result (λ bytes. bytes.items ≡ before_rows index.now.order) }
+/// The version of an index with vias, or without.
+fn version(vias: Option<&Vias>) -> u8
+    ensures { result ≡ version_of (option_copied vias.entry) }
 {
-    let mut out = Vec::with_capacity(alloc, 12 + 4 * index.n() as usize + room)?;
-    out.extend_from_slice(b"CHLABEL")?;
-    out.push(1)?;
+    match vias {
+        None => PLAIN,
+        Some(_) => TRACED,
+    }
+}
+
+/// The bytes before the rows, in one buffer with room for so many more. The only error is that memory ran out.
+pub fn head_of(
+    alloc: Global,
+    index: &IndexRows<'_>,
+    vias: Option<&Vias>,
+    room: usize,
+) -> Result<Vec<u8>, AllocError>
+    ensures { IfOk result (λ bytes. bytes.items ≡ before_rows (version_of (option_copied vias.entry)) index.now.order) }
+{
+    let head = 12 + 4 * index.n() as usize;
+    let mut out = Vec::with_capacity(alloc, room.saturating_add(head))?;
+    out.extend_from_slice(&LETTERS)?;
+    out.push(version(vias))?;
     push_word(&mut out, index.n())?;
     push_order(&mut out, index)?;
     Ok(out)
@@ -44,25 +77,29 @@ pub fn head_of(alloc: Global, index: &IndexRows<'_>, room: usize) -> Result<Vec<
 pub fn rows_of(
     alloc: Global,
     index: &IndexRows<'_>,
+    vias: Option<&Vias>,
     from: u32,
     to: u32,
 ) -> Result<Vec<u8>, AllocError>
     requires rising { from ≤ to }
     requires within { to ≤ length index.now.order }
-    ensures { IfOk result (λ bytes. bytes.items ≡ run_bytes index.now.rows from to) }
+    requires vias { IfSome (option_copied vias) (HaveVias index.now.rows) }
+    ensures { IfOk result (λ bytes. bytes.items ≡ run_bytes index.now.rows (option_copied vias.entry) from to) }
 {
-    let mut out = Vec::with_capacity(alloc, rows_size(index, from, to))?;
-    push_rows(&mut out, index, from, to)?;
+    let mut out = Vec::with_capacity(alloc, rows_size(index, vias, from, to))?;
+    push_rows(&mut out, index, vias, from, to)?;
     Ok(out)
 }
 
-/// How many bytes the rows of the nodes after `from` up to `to` have: 4 for a row, and 12 for an entry.
-fn rows_size(index: &IndexRows<'_>, from: u32, to: u32) -> usize
+/// How many bytes the rows of the nodes after `from` up to `to` have: 4 for a row, and for an entry 12, or 16 with its via. More
+/// than 2^64-1 are that many.
+fn rows_size(index: &IndexRows<'_>, vias: Option<&Vias>, from: u32, to: u32) -> usize
     requires rising { from ≤ to }
     requires within { to ≤ length index.now.order }
-    ensures { result + 2 ^ 40 ≤ 2 ^ 64 }
 {
-    4 * (to - from) as usize + 12 * count_entries(index, from, to)
+    let entry = if vias.is_some() { 16usize } else { 12 };
+    let entries = entry.saturating_mul(count_entries(index, from, to));
+    entries.saturating_add(4 * (to - from) as usize)
 }
 
 /// How many entries the rows of the nodes after `from` up to `to` have.
@@ -101,16 +138,42 @@ fn push_order(out: &mut Vec<u8>, index: &IndexRows<'_>) -> Result<(), AllocError
 }
 
 /// Puts the rows of the nodes after `from` up to `to` at the end.
-fn push_rows(out: &mut Vec<u8>, index: &IndexRows<'_>, from: u32, to: u32) -> Result<(), AllocError>
+fn push_rows(
+    out: &mut Vec<u8>,
+    index: &IndexRows<'_>,
+    vias: Option<&Vias>,
+    from: u32,
+    to: u32,
+) -> Result<(), AllocError>
     requires rising { from ≤ to }
     requires within { to ≤ length index.now.order }
-    ensures { OnOk result (out.new.items ≡ out.old.items ++ run_bytes index.now.rows from to) }
+    requires vias { IfSome (option_copied vias) (HaveVias index.now.rows) }
+    ensures { OnOk result (out.new.items ≡ out.old.items ++ run_bytes index.now.rows (option_copied vias.entry) from to) }
 {
     for p in from..to {
-        let (compact, full) = index.row(p + 1);
-        push_row(out, compact, full)?;
+        push_node(out, index, vias, p + 1)?;
     }
     Ok(())
+}
+
+/// Puts the row of the node `v`, a number from 1, at the end.
+fn push_node(
+    out: &mut Vec<u8>,
+    index: &IndexRows<'_>,
+    vias: Option<&Vias>,
+    v: u32,
+) -> Result<(), AllocError>
+    requires node { 1 ≤ v }
+    requires within { v ≤ length index.now.order }
+    requires vias { IfSome (option_copied vias) (HaveVias index.now.rows) }
+    ensures row { OnOk result (out.new.items ≡ out.old.items ++ node_bytes index.now.rows (option_copied vias.entry) v) }
+    ensures well_formed { IsWellFormed index.now.order index.now.rows }
+{
+    let (compact, full) = index.row(v);
+    match vias {
+        None => push_row(out, compact, full),
+        Some(vias) => push_traced_row(out, compact, full, vias.row(v)),
+    }
 }
 
 /// Puts the row in these parts at the end: the number of its entries, and the entries.
@@ -128,6 +191,27 @@ fn push_row(out: &mut Vec<u8>, compact: &[CompactEntry], full: &[Entry]) -> Resu
     Ok(())
 }
 
+/// Puts the row in these parts at the end, with its vias: the number of its entries, and each entry with its via.
+fn push_traced_row(
+    out: &mut Vec<u8>,
+    compact: &[CompactEntry],
+    full: &[Entry],
+    vias: &[u32],
+) -> Result<(), AllocError>
+    requires few { length (row_of_parts compact.now full.now) < 2 ^ 32 }
+    requires vias { length vias.now ≡ length (row_of_parts compact.now full.now) }
+    ensures { OnOk result (out.new.items ≡ out.old.items ++ traced_row_bytes (row_of_parts compact.now full.now, vias.now)) }
+{
+    push_word(out, vias.len() as u32)?;
+    for i in 0..compact.len() {
+        push_traced_entry(out, compact[i].widened(), vias[i])?;
+    }
+    for i in 0..full.len() {
+        push_traced_entry(out, full[i], vias[compact.len() + i])?;
+    }
+    Ok(())
+}
+
 /// Puts an entry at the end.
 fn push_entry(out: &mut Vec<u8>, entry: Entry) -> Result<(), AllocError>
     ensures { OnOk result (out.new.items ≡ out.old.items ++ entry_bytes entry) }
@@ -136,6 +220,14 @@ fn push_entry(out: &mut Vec<u8>, entry: Entry) -> Result<(), AllocError>
     BigEndian::write_u32(&mut bytes, entry.pos);
     BigEndian::write_u64(&mut bytes[4..], entry.dist);
     out.extend_from_slice(&bytes)
+}
+
+/// Puts an entry with its via at the end.
+fn push_traced_entry(out: &mut Vec<u8>, entry: Entry, via: u32) -> Result<(), AllocError>
+    ensures { OnOk result (out.new.items ≡ out.old.items ++ traced_entry_bytes (entry, via)) }
+{
+    push_entry(out, entry)?;
+    push_word(out, via)
 }
 
 /// Puts a number of four bytes at the end.

@@ -10,7 +10,7 @@ pub enum IndexFault {
     /// The byte at the offset `at`, below 7, isn't its letter of `CHLABEL`.
     #[error("index: magic {at}")]
     Magic { at: u64 },
-    /// The byte after the letters isn't 1.
+    /// The byte after the letters is neither 1 nor 2.
     #[error("index: version {byte}")]
     Version { byte: u8 },
     /// There are more than 2^30 nodes.
@@ -26,6 +26,10 @@ pub enum IndexFault {
     /// In the row of the node `v` the last distance isn't 0, or the one at another place, from 0, is 0 or above 2^62-1.
     #[error("index: distance {v} {place}")]
     Distance { v: u32, place: u32 },
+    /// In the row of the node `v`, of a file of version 2, the last via isn't 0, or the one at another place, from 0, is 0, `v`
+    /// or above the number of nodes.
+    #[error("index: via {v} {place}")]
+    Via { v: u32, place: u32 },
     /// A byte follows the end; `at` is its offset.
     #[error("index: long {at}")]
     Long { at: u64 },

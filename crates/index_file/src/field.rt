@@ -1,10 +1,10 @@
-ghost use Rattle.std.specs.Prelude.{◌≡◌, ℕ, ◌^◌, ◌<◌, ◌≤◌, true, length, Ok, IfOk};
+ghost use Rattle.std.specs.Prelude.{◌≡◌, ℕ, ◌+◌, ◌^◌, ◌<◌, ◌≤◌, true, length, is_some, Ok, IfOk, IfSome};
 ghost use Rattle.byteorder.specs.Endian.{big_number};
-ghost use Rattle.index_file.specs.Judging.{width, after_field, after_node, after_row, after_entry};
-ghost use Rattle.index_file.specs.Parts.{next_own, is_next_position, least_after, with_entry};
+ghost use Rattle.index_file.specs.Judging.{width, after_field, after_node, after_row, after_distance, after_entry};
+ghost use Rattle.index_file.specs.Parts.{next_own, is_next_position, is_next_distance, is_last, least_after, with_entry, with_via};
 ghost use Rattle.index_file.specs.Gives.{Gives};
 ghost use Rattle.index_file.specs.Sound.{IsSoundNext, AreNames, AreRows, AreReading};
-ghost use Rattle.index_file.specs.declared.next.Next.TheVariants.{Letter, Version, Size, Node, Count, Position, Distance};
+ghost use Rattle.index_file.specs.declared.next.Next.TheVariants.{Letter, Version, Size, Node, Count, Position, Distance, Via};
 
 use crate::done::Done;
 use crate::fault::IndexFault;
@@ -18,8 +18,11 @@ use walk_laws::Entry;
 /// The first bytes of an index file.
 pub const LETTERS: [u8; 7] = *b"CHLABEL";
 
-/// The version of the format.
-pub const VERSION: u8 = 1;
+/// The version of the format without vias.
+pub const PLAIN: u8 = 1;
+
+/// The version of the format with vias.
+pub const TRACED: u8 = 2;
 
 /// The most nodes of an index, 2^30.
 pub const MAX_NODES: u32 = 1073741824;
@@ -30,7 +33,11 @@ pub fn width(next: &Next) -> usize
 {
     match next {
         Next::Letter | Next::Version | Next::End(_) => 1,
-        Next::Size | Next::Node(_) | Next::Count(_) | Next::Position(_, _) => 4,
+        Next::Size(_)
+        | Next::Node(_)
+        | Next::Count(_)
+        | Next::Position(_, _)
+        | Next::Via(_, _, _) => 4,
         Next::Distance(_, _, _) => 8,
     }
 }
@@ -54,11 +61,12 @@ fn after_number(alloc: Global, at: u64, next: Next, x: u64) -> Result<Next, Inde
     match next {
         Next::Letter => after_letter(at, x as u8),
         Next::Version => after_version(x as u8),
-        Next::Size => after_size(alloc, x as u32),
+        Next::Size(traced) => after_size(alloc, traced, x as u32),
         Next::Node(names) => after_name(alloc, names, x as u32),
         Next::Count(done) => after_count(alloc, done, x as u32),
         Next::Position(done, part) => after_position(done, part, x as u32),
         Next::Distance(done, part, pos) => after_distance(done, part, pos, x),
+        Next::Via(done, part, entry) => after_via(done, part, entry, x as u32),
         Next::End(_) => Err(IndexFault::Long { at }),
     }
 }
@@ -80,20 +88,20 @@ fn after_letter(at: u64, byte: u8) -> Result<Next, IndexFault>
 fn after_version(byte: u8) -> Result<Next, IndexFault>
     ensures { Gives result (after_field 7 Version byte) }
 {
-    if byte == VERSION {
-        Ok(Next::Size)
-    } else {
-        Err(IndexFault::Version { byte })
+    match byte {
+        PLAIN => Ok(Next::Size(false)),
+        TRACED => Ok(Next::Size(true)),
+        _ => Err(IndexFault::Version { byte }),
     }
 }
 
-fn after_size(alloc: Global, n: u32) -> Result<Next, IndexFault>
-    ensures { Gives result (after_field 8 Size n) }
+fn after_size(alloc: Global, traced: bool, n: u32) -> Result<Next, IndexFault>
+    ensures { Gives result (after_field 8 (Size traced) n) }
 {
     if n > MAX_NODES {
         return Err(IndexFault::Size { n });
     }
-    after_names(alloc, Naming::new(alloc, n))
+    after_names(alloc, Naming::new(alloc, n, traced))
 }
 
 fn after_name(alloc: Global, names: Naming, v: u32) -> Result<Next, IndexFault>
@@ -116,7 +124,8 @@ fn after_names(alloc: Global, names: Naming) -> Result<Next, IndexFault>
     if names.len() < names.n() as usize {
         return Ok(Next::Node(names));
     }
-    let done = Done::new(alloc, names.into_order())?;
+    let traced = names.is_traced();
+    let done = Done::new(alloc, names.into_order(), traced)?;
     Ok(after_rows(done))
 }
 
@@ -167,7 +176,27 @@ fn after_distance(done: Done, part: PartRow, pos: u32, dist: u64) -> Result<Next
             place: part.len() as u32,
         });
     }
-    let next = after_entry(done, part, Entry { pos, dist })?;
+    let entry = Entry { pos, dist };
+    if done.is_traced() {
+        return Ok(Next::Via(done, part, entry));
+    }
+    let next = after_entry(done, part, entry)?;
+    Ok(next)
+}
+
+fn after_via(done: Done, mut part: PartRow, entry: Entry, via: u32) -> Result<Next, IndexFault>
+    requires reading { AreReading done part }
+    requires position { is_next_position (next_own done) part entry.pos ≡ true }
+    ensures { Gives result (after_field 0 (Via done part entry) via) }
+{
+    if !part.is_next_via(done.n(), done.node(), via) {
+        return Err(IndexFault::Via {
+            v: done.node(),
+            place: part.len() as u32,
+        });
+    }
+    part.push_via(via)?;
+    let next = after_entry(done, part, entry)?;
     Ok(next)
 }
 
@@ -175,11 +204,13 @@ fn after_distance(done: Done, part: PartRow, pos: u32, dist: u64) -> Result<Next
 fn after_entry(done: Done, mut part: PartRow, entry: Entry) -> Result<Next, AllocError>
     requires above { least_after part.entries ≤ entry.pos }
     requires more { length part.entries < part.count }
+    requires few { IfSome done.vias (λ vias. length vias + 1 < 2 ^ 32) }
     ensures { IfOk result (λ next. next ≡ after_entry done (with_entry part entry)) }
 {
     part.push(entry)?;
     if part.len() < part.count() as usize {
         return Ok(Next::Position(done, part));
     }
-    Ok(after_rows(done.with(part.into_entries())?))
+    let (row, row_vias) = part.into_parts();
+    Ok(after_rows(done.with(row, &row_vias)?))
 }

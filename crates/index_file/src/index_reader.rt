@@ -5,13 +5,13 @@ ghost use Rattle.index_file.specs.Gives.{Gives};
 
 use crate::fault::IndexFault;
 use crate::progress::Progress;
+use crate::stored_index::StoredIndex;
 use desk_io::{Feed, Reader};
-use hub_index::Index;
 use std::alloc::{AllocError, Global};
 use std::marker::Model;
 use std::mem;
 
-/// Reads an index file in any pieces. It is refused at the first field that is wrong, and then for good.
+/// Reads an index file of either version in any pieces. It is refused at the first field that is wrong, and then for good.
 #[derive(Debug, Drop)]
 pub struct IndexReader {
     alloc: Global,
@@ -82,7 +82,7 @@ impl Reader for IndexReader {
     ghost use Rattle.index_file.specs.declared.fault.IndexFault.TheVariants.{NoMemory};
     ghost use Rattle.index_file.specs.Cutting.{faults_last};
 
-    type Value = Index;
+    type Value = StoredIndex;
 
     ghost no_memory = { NoMemory };
 
@@ -90,7 +90,7 @@ impl Reader for IndexReader {
 
     ghost comes_to = { index_after };
 
-    fn finish(self) -> Result<Index, IndexFault> {
+    fn finish(self) -> Result<StoredIndex, IndexFault> {
         match self.state {
             Ok(progress) => progress.finish(),
             Err(fault) => Err(fault),

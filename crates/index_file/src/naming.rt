@@ -10,6 +10,8 @@ use std::marker::Model;
 pub struct Naming {
     n: u32,
     order: Vec<u32>,
+    /// Whether vias are to come with the entries.
+    traced: bool,
     /// The nodes of `order`.
     seen: HashSet<u32>,
 }
@@ -22,19 +24,20 @@ impl Model for Naming {
 
     ghost Value = { Names };
 
-    ghost view = { λ s. record { n = s.n; order = s.order.items } };
+    ghost view = { λ s. record { n = s.n; order = s.order.items; traced = s.traced } };
 
     ghost invariant = { λ s. (v : ℕ) → contains nat_eq s.seen v ≡ list_any (nat_eq v) s.order.items };
 }
 
 impl Naming {
-    /// No node of 1..n is named yet.
-    pub fn new(alloc: Global, n: u32) -> Naming
-        ensures { result ≡ record { n = n; order = [] } }
+    /// No node of 1..n is named yet, of an index with vias or without.
+    pub fn new(alloc: Global, n: u32, traced: bool) -> Naming
+        ensures { result ≡ record { n = n; order = []; traced = traced } }
     {
         Naming {
             n,
             order: Vec::new(alloc),
+            traced,
             seen: HashSet::new(alloc),
         }
     }
@@ -44,6 +47,13 @@ impl Naming {
         ensures { result ≡ self.now.n }
     {
         self.n
+    }
+
+    /// Whether vias are to come with the entries.
+    pub fn is_traced(&self) -> bool
+        ensures { result ≡ self.now.traced }
+    {
+        self.traced
     }
 
     /// How many are named.
@@ -60,6 +70,7 @@ impl Naming {
         let Naming {
             n,
             mut order,
+            traced,
             mut seen,
         } = self;
         if v == 0 || v > n {
@@ -69,7 +80,12 @@ impl Naming {
             return Ok(None);
         }
         order.push(v)?;
-        Ok(Some(Naming { n, order, seen }))
+        Ok(Some(Naming {
+            n,
+            order,
+            traced,
+            seen,
+        }))
     }
 
     /// The nodes that are named, highest rank first.

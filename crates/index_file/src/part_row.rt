@@ -1,5 +1,5 @@
 ghost use Rattle.std.specs.Prelude.{◌≡◌, ℕ, ◌≤◌, [], length, OnOk};
-ghost use Rattle.index_file.specs.Parts.{Part, least_after, is_last, is_next_position, is_next_distance, with_entry};
+ghost use Rattle.index_file.specs.Parts.{Part, least_after, is_last, is_next_position, is_next_distance, is_next_via, no_entries, with_entry, with_via};
 
 use std::alloc::{AllocError, Global};
 use std::marker::Model;
@@ -8,13 +8,15 @@ use walk_laws::Entry;
 /// The greatest distance of an entry, 2^62-1.
 pub const MAX_DISTANCE: u64 = 4611686018427387903;
 
-/// The entries of a row that isn't whole yet.
+/// The entries of a row that isn't whole yet, and their vias where the index has such.
 #[derive(Debug, Drop)]
 pub struct PartRow {
     count: u32,
     /// The least position above those of the entries.
     least: u64,
     entries: Vec<Entry>,
+    /// Empty where the index has none.
+    vias: Vec<u32>,
 }
 
 impl Model for PartRow {
@@ -23,7 +25,7 @@ impl Model for PartRow {
 
     ghost Value = { Part };
 
-    ghost view = { λ p. record { count = p.count; entries = p.entries.items } };
+    ghost view = { λ p. record { count = p.count; entries = p.entries.items; vias = p.vias.items } };
 
     ghost invariant = { λ p. p.least ≡ least_after p.entries.items };
 }
@@ -31,12 +33,13 @@ impl Model for PartRow {
 impl PartRow {
     /// A row of which so many entries are to come.
     pub fn new(alloc: Global, count: u32) -> PartRow
-        ensures { result ≡ record { count = count; entries = [] } }
+        ensures { result ≡ no_entries count }
     {
         PartRow {
             count,
             least: 0,
             entries: Vec::new(alloc),
+            vias: Vec::new(alloc),
         }
     }
 
@@ -86,11 +89,29 @@ impl PartRow {
         }
     }
 
+    /// Whether the via may be the next one in the row of the node `v`, in an index of `n` nodes.
+    pub fn is_next_via(&self, n: u32, v: u32, via: u32) -> bool
+        ensures { result ≡ is_next_via n v self.now via }
+    {
+        if self.is_last() {
+            via == 0
+        } else {
+            via >= 1 && via <= n && via != v
+        }
+    }
+
     /// Makes room for so many entries more.
     pub fn reserve(&mut self, more: usize) -> Result<(), AllocError>
         ensures { self.new ≡ self.old }
     {
         self.entries.reserve(more)
+    }
+
+    /// Makes room for so many vias more.
+    pub fn reserve_vias(&mut self, more: usize) -> Result<(), AllocError>
+        ensures { self.new ≡ self.old }
+    {
+        self.vias.reserve(more)
     }
 
     /// Puts the entry last; its position is above those before it.
@@ -103,10 +124,19 @@ impl PartRow {
         Ok(())
     }
 
-    /// The entries.
-    pub fn into_entries(self) -> Vec<Entry>
-        ensures { result.items ≡ self.entries }
+    /// Puts the via last.
+    pub fn push_via(&mut self, via: u32) -> Result<(), AllocError>
+        ensures ok { OnOk result (self.new ≡ with_via self.old via) }
     {
-        self.entries
+        self.vias.push(via)?;
+        Ok(())
+    }
+
+    /// The entries, and their vias.
+    pub fn into_parts(self) -> (Vec<Entry>, Vec<u32>)
+        ensures entries { result.0.items ≡ self.entries }
+        ensures vias { result.1.items ≡ self.vias }
+    {
+        (self.entries, self.vias)
     }
 }

@@ -1,7 +1,7 @@
-ghost use Rattle.std.specs.Prelude.{◌≡◌, ℕ, ◌+◌, ◌<◌, false, [], ◌∷◌, length, Ok, IfOk, OnOk, IfErr};
-ghost use Rattle.index_file.specs.Parts.{next_own, is_last};
-ghost use Rattle.index_file.specs.Judging.{start, width, fed, end_of};
-ghost use Rattle.index_file.specs.Gives.{Gives, Takes, Refuses, at_node, at_position};
+ghost use Rattle.std.specs.Prelude.{◌≡◌, ℕ, ◌+◌, ◌<◌, ◌≤◌, false, [], ◌∷◌, length, Ok, IfOk, OnOk, IfErr};
+ghost use Rattle.index_file.specs.Parts.{next_own, is_last, least_after, with_entry, with_via};
+ghost use Rattle.index_file.specs.Judging.{start, width, after_distance, after_entry, fed, end_of};
+ghost use Rattle.index_file.specs.Gives.{Gives, Takes, Refuses, at_node, at_position, at_via, entry_width};
 ghost use Rattle.index_file.specs.Sound.{AreReading, IsSound};
 
 use crate::done::Done;
@@ -10,9 +10,9 @@ use crate::field::{judge, width};
 use crate::naming::Naming;
 use crate::next::Next;
 use crate::part_row::PartRow;
+use crate::stored_index::StoredIndex;
 use byteorder::{BigEndian, ByteOrder};
-use hub_index::Index;
-use std::alloc::Global;
+use std::alloc::{AllocError, Global};
 use std::marker::Model;
 use walk_laws::Entry;
 
@@ -107,12 +107,12 @@ impl Progress {
     }
 
     /// The index, where the bytes end here.
-    pub fn finish(self) -> Result<Index, IndexFault>
+    pub fn finish(self) -> Result<StoredIndex, IndexFault>
         ensures { result ≡ end_of (Ok self) }
     {
         let Progress { next, held, at } = self;
         match next {
-            Next::End(done) => Ok(done.into_index()),
+            Next::End(done) => Ok(done.into_stored()),
             _ => Err(IndexFault::Short {
                 at: at + held.len() as u64,
             }),
@@ -188,6 +188,13 @@ fn take_names<'a>(
     Ok((names, at, rest))
 }
 
+/// How many bytes an entry has, with its via where the index has such.
+fn entry_width(done: &Done) -> usize
+    ensures { result ≡ entry_width done.now }
+{
+    if done.is_traced() { 16 } else { 12 }
+}
+
 /// The entries of the row that the bytes hold whole, but for the last one of the row.
 fn take_entries<'a>(
     done: &Done,
@@ -201,30 +208,63 @@ fn take_entries<'a>(
     ensures refused { IfErr result (Refuses (at_position done.now part at) bytes.now) }
 {
     let own = done.own();
+    let size = entry_width(done);
+    make_room(done, &mut part, bytes.len() / size)?;
     let mut rest = bytes;
-    let more = part.count() as usize - part.len();
-    part.reserve(more.min(bytes.len() / 12))?;
-    while rest.len() >= 12 && !part.is_last() {
-        let (field, left) = rest.split_at(12);
+    while rest.len() >= size && !part.is_last() {
+        let (field, left) = rest.split_at(size);
         take_entry(done, own, &mut part, field)?;
-        at += 12;
+        at += size as u64;
         rest = left;
     }
     Ok((part, at, rest))
 }
 
-/// Takes the next entry of a row, which isn't its last one, of its twelve bytes.
+/// Makes room for so many entries more, but not for more than the row has, and for their vias where the index has such.
+fn make_room(done: &Done, part: &mut PartRow, entries: usize) -> Result<(), AllocError>
+    requires { length part.old.entries ≤ part.old.count }
+    ensures { part.new ≡ part.old }
+{
+    let more = (part.count() as usize - part.len()).min(entries);
+    if done.is_traced() {
+        part.reserve_vias(more)?;
+    }
+    part.reserve(more)
+}
+
+/// Takes the next entry of a row, which isn't its last one, of its bytes.
 fn take_entry(done: &Done, own: u32, part: &mut PartRow, field: &[u8]) -> Result<(), IndexFault>
     requires reading { AreReading done.now part.old }
     requires own { own ≡ next_own done.now }
     requires more { is_last part.old ≡ false }
-    requires whole { length field.now ≡ 12 }
-    ensures taken { OnOk result ((at : ℕ) → fed (Ok (at_position done.now part.old at)) field.now ≡ Ok (at_position done.now part.new (at + 12))) }
+    requires whole { length field.now ≡ entry_width done.now }
+    ensures taken { OnOk result ((at : ℕ) → fed (Ok (at_position done.now part.old at)) field.now ≡ Ok (at_position done.now part.new (at + entry_width done.now))) }
     ensures refused { IfErr result (λ e. (at : ℕ) → Refuses (at_position done.now part.old at) field.now e) }
 {
+    let (head, tail) = field.split_at(12);
+    let entry = judge_entry(done, own, part, head)?;
+    if !done.is_traced() {
+        part.push(entry)?;
+        return Ok(());
+    }
+    let via = judge_via(done, part, entry, tail)?;
+    part.push_via(via)?;
+    part.push(entry)?;
+    Ok(())
+}
+
+/// Judges the twelve bytes of an entry's position and distance.
+fn judge_entry(done: &Done, own: u32, part: &PartRow, head: &[u8]) -> Result<Entry, IndexFault>
+    requires reading { AreReading done.now part.now }
+    requires own { own ≡ next_own done.now }
+    requires whole { length head.now ≡ 12 }
+    ensures above { IfOk result (λ e. least_after part.now.entries ≤ e.pos) }
+    ensures taken { IfOk result (λ e. (at : ℕ) → fed (Ok (at_position done.now part.now at)) head.now ≡ Ok (record { next = after_distance done.now part.now e; held = []; at = at + 12 })) }
+    ensures refused { IfErr result (λ e. (at : ℕ) → Refuses (at_position done.now part.now at) head.now e) }
+{
     let entry = Entry {
-        pos: BigEndian::read_u32(field),
-        dist: BigEndian::read_u64(&field[4..]),
+        pos: BigEndian::read_u32(head),
+        dist: BigEndian::read_u64(&head[4..]),
     };
     if !part.is_next_position(own, entry.pos) {
         return Err(IndexFault::Row {
@@ -238,6 +278,22 @@ fn take_entry(done: &Done, own: u32, part: &mut PartRow, field: &[u8]) -> Result
             place: part.len() as u32,
         });
     }
-    part.push(entry)?;
-    Ok(())
+    Ok(entry)
+}
+
+/// Judges the four bytes of the entry's via.
+fn judge_via(done: &Done, part: &PartRow, entry: Entry, tail: &[u8]) -> Result<u32, IndexFault>
+    requires reading { AreReading done.now part.now }
+    requires whole { length tail.now ≡ 4 }
+    ensures taken { IfOk result (λ y. (at : ℕ) → fed (Ok (at_via done.now part.now entry at)) tail.now ≡ Ok (record { next = after_entry done.now (with_via (with_entry part.now entry) y); held = []; at = at + 4 })) }
+    ensures refused { IfErr result (λ e. (at : ℕ) → Refuses (at_via done.now part.now entry at) tail.now e) }
+{
+    let via = BigEndian::read_u32(tail);
+    if !part.is_next_via(done.n(), done.node(), via) {
+        return Err(IndexFault::Via {
+            v: done.node(),
+            place: part.len() as u32,
+        });
+    }
+    Ok(via)
 }

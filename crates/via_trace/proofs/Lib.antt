@@ -3,3 +3,5 @@ pub mod Searched
 pub mod Ways
 pub mod Walked
 pub mod Told
+pub mod OneTrace
+pub mod EachTrace

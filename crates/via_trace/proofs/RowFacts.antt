@@ -37,7 +37,7 @@ module _ (index : TracedHubIndex) (well : IsWellFormed index.order index.rows) (
   up = AllPairs-from_increasing (map (λ e. e.pos) (label_row index.rows x)) row_is.rising
 
   -- a place of a position is the only one
-  one_place : (i j : ℕ) (e f : Entry) → slice_get (label_row index.rows x) i ≡ Some e → slice_get (label_row index.rows x) j ≡ Some f → e.pos ≡ f.pos → i ≡ j
+  pub one_place : (i j : ℕ) (e f : Entry) → slice_get (label_row index.rows x) i ≡ Some e → slice_get (label_row index.rows x) j ≡ Some f → e.pos ≡ f.pos → i ≡ j
   one_place i j e f here there same =
       let row = label_row index.rows x in
       let i_within = slice_get_within row i e here in

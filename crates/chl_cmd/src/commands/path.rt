@@ -6,7 +6,7 @@ ghost use Rattle.walk_laws.specs.Graph.{IsGraph};
 ghost use Rattle.chl_inputs.specs.Inputs.{ArePairsWithin};
 ghost use Rattle.chl_inputs.specs.Stages.{Conforms};
 ghost use Rattle.chl_inputs.specs.declared.stop.Stop.TheVariants.{NoMemory};
-ghost use Rattle.chl_cmd.specs.Commands.{AreAnswers, first_stop, path_stage, paths_stage, stop_at};
+ghost use Rattle.chl_cmd.specs.Commands.{AreAnswers, first_stop, path_stage, paths_stage, walk_stop};
 
 use super::text::text_output;
 use chl_inputs::{NotOf, Stop, read_graph, read_index, read_pairs};
@@ -20,7 +20,7 @@ use index_file::Pieces;
 use std::alloc::Global;
 use walk_laws::Graph;
 
-/// The lines of the walks of the pairs of a text in a graph, by the rows of an index file: the shortest walks, of which each
+/// The lines of the walks of the pairs of a text in a graph, by the rows of an index file, of either version: the shortest walks, of which each
 /// is the first in lexicographic order, where the index is that of the canonical hub labelling of the graph.
 pub fn path_output<D: Desk>(
     alloc: Global,
@@ -32,8 +32,8 @@ pub fn path_output<D: Desk>(
     ensures { Conforms D.Desk (path_stage graph.now index.now pairs.now) result desk.old desk.new }
 {
     let graph = read_graph(alloc, graph.text(), desk)?;
-    let index = read_index(alloc, index.text(), desk)?;
-    paths_output(alloc, &graph, &index, pairs.text(), desk)
+    let stored = read_index(alloc, index.text(), desk)?;
+    paths_output(alloc, &graph, stored.index(), pairs.text(), desk)
 }
 
 /// The lines of the walks of the pairs of a text in a graph, by the rows of an index that has as many nodes.
@@ -64,9 +64,9 @@ fn walks_of(alloc: Global, graph: &Graph, index: &Index, pairs: &Pairs) -> Resul
     requires graph { IsGraph graph.now.n graph.now.edges }
     requires index { IsWellFormed index.now.order index.now.rows }
     requires within { ArePairsWithin (length index.now.order) pairs.now }
-    ensures ok { IfOk result (λ walks. AreAnswers (IsPathOf graph.now index.now) pairs.now walks.items × (first_stop walks.items ≡ None)) }
+    ensures ok { IfOk result (λ walks. AreAnswers (IsPathOf graph.now index.now) pairs.now walks.items × (first_stop walk_stop walks.items ≡ None)) }
     ensures err { IfErr result (λ stop. (stop ≡ NoMemory)
-        ⊎ ((walks : List AnyPath) × AreAnswers (IsPathOf graph.now index.now) pairs.now walks × (first_stop walks ≡ Some stop))) }
+        ⊎ ((walks : List AnyPath) × AreAnswers (IsPathOf graph.now index.now) pairs.now walks × (first_stop walk_stop walks ≡ Some stop))) }
 {
     let mut walks = Vec::new(alloc);
     for pair in pairs.list() {
@@ -81,7 +81,7 @@ fn walks_of(alloc: Global, graph: &Graph, index: &Index, pairs: &Pairs) -> Resul
 
 /// The stop at a walk of an index of another graph.
 fn stop_of(walk: &Path) -> Option<Stop>
-    ensures { result ≡ stop_at walk.now }
+    ensures { result ≡ walk_stop walk.now }
 {
     match walk {
         Path::Unreachable | Path::Walk { .. } => None,

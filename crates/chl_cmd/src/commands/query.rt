@@ -17,7 +17,7 @@ use index_file::Pieces;
 use std::alloc::{AllocError, Global};
 use std::thread::Threads;
 
-/// The lines of what the rows of an index file say of the pairs of a text: right answers where the index is that of the
+/// The lines of what the rows of an index file, of either version, say of the pairs of a text: right answers where the index is that of the
 /// canonical hub labelling, and else no worse than what its rows have.
 pub fn query_output<R: Threads + Sync, D: Desk>(
     rt: &R,
@@ -28,9 +28,10 @@ pub fn query_output<R: Threads + Sync, D: Desk>(
 ) -> Result<Pieces, Stop>
     ensures { Conforms D.Desk (query_stage index.now pairs.now) result desk.old desk.new }
 {
-    let index = read_index(alloc, index.text(), desk)?;
+    let stored = read_index(alloc, index.text(), desk)?;
+    let index = stored.index();
     let pairs = read_pairs(alloc, pairs.text(), index.n(), desk)?;
-    text_output(alloc, replies_text(rt, alloc, &index, &pairs))
+    text_output(alloc, replies_text(rt, alloc, index, &pairs))
 }
 
 /// The lines of what the rows say of the pairs.

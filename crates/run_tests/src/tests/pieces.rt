@@ -9,20 +9,21 @@ fn expect_bytes<R: Abort + AllocGlobal + Threads + Wait + Sync>(
     rt: &R,
     line: &str,
     said: &str,
+    file: &[u8],
     bite: u32,
 ) -> Result<(), Fail> {
     let mut desk = desk_of(rt.alloc(), bite.max(1), &[])?;
     assert_eq!(rt; status_of(rt, line, &mut desk)?, Status::Done);
     assert_eq!(rt; desk.said(), said.as_bytes());
-    assert!(rt; !said.is_empty() || written(&desk) == Some(SQUARE_FILE));
+    assert_eq!(rt; written(&desk).unwrap_or(b""), file);
     Ok(())
 }
 
 #[test]
 fn each_command_gives_its_bytes(rt: HostRuntime) -> Result<(), Fail> {
-    for (line, said) in &COMMANDS {
+    for (line, said, file) in &COMMANDS {
         for bite in &BITES {
-            expect_bytes(&rt, line, said, *bite)?;
+            expect_bytes(&rt, line, said, file, *bite)?;
         }
     }
     Ok(())

@@ -19,8 +19,14 @@ returns-in-Query g c = rw c.in-Query.is c.query_output.ensures
 pub returns-in-Path : goal.returns-in-Path
 returns-in-Path g c = rw c.in-Path.is c.path_output.ensures
 
+pub returns-in-Trace : goal.returns-in-Trace
+returns-in-Trace g c = rw c.in-Trace.is c.trace_output.ensures
+
 pub returns-in-Audit : goal.returns-in-Audit
 returns-in-Audit g c = rw c.in-Audit.is c.audit_output.ensures
+
+pub returns-in-Upgrade : goal.returns-in-Upgrade
+returns-in-Upgrade g c = rw c.in-Upgrade.is c.upgrade_output.ensures
 
 pub returns-in-Degree : goal.returns-in-Degree
 returns-in-Degree g c = rw c.in-Degree.is c.degree_output.ensures

@@ -23,11 +23,13 @@ returns c =
     let second = without_subcommand _ _ _ first c.disable_help_subcommand.ensures in
     let third = wants_command _ _ _ second c.subcommand_required-bare.ensures in
     let one = c.with_command-program.ensures _ literal.list third c.files.ensures in
-    let two = c.with_command-program-2.ensures _ literal.build one c.built.ensures in
-    let three = c.with_command-program-3.ensures _ literal.solve two c.built-2.ensures in
+    let two = c.with_command-program-2.ensures _ literal.build one c.build.ensures in
+    let three = c.with_command-program-3.ensures _ literal.solve two c.built.ensures in
     let four = c.with_command-program-4.ensures _ literal.query three c.files-2.ensures in
     let five = c.with_command-program-5.ensures _ literal.path four c.files-3.ensures in
-    let six = c.with_command-program-6.ensures _ literal.audit five c.files-4.ensures in
-    let seven = c.with_command-program-7.ensures _ literal.degree six c.files-5.ensures in
-    let eight = c.with_command-program-8.ensures _ literal.rank seven c.files-6.ensures in
-    c.with_command.ensures _ literal.grid eight c.grid.ensures
+    let six = c.with_command-program-6.ensures _ literal.trace five c.files-4.ensures in
+    let seven = c.with_command-program-7.ensures _ literal.audit six c.files-5.ensures in
+    let eight = c.with_command-program-8.ensures _ literal.upgrade seven c.files-6.ensures in
+    let nine = c.with_command-program-9.ensures _ literal.degree eight c.files-7.ensures in
+    let ten = c.with_command-program-10.ensures _ literal.rank nine c.files-8.ensures in
+    c.with_command.ensures _ literal.grid ten c.grid.ensures

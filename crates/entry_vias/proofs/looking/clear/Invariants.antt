@@ -1,5 +1,5 @@
 use Rattle.std.proofs.Common.{◌≡◌, length, drop}
-use Rattle.entry_vias.specs.Sought.{HoldsNoOther}
+use Rattle.entry_vias.specs.Slots.{HoldsNoOther}
 use Rattle.entry_vias.proofs.looking.clear.Given as goal
 
 -- the table has nothing but entries to come

@@ -9,7 +9,7 @@ pub returns : goal.returns
 returns g t c =
     let J = Joined c.args.graph.now.edges in
     let rows = c.args.index.now.rows in
-    let mid = c.halfway-mid.result in
+    let mid = c.share_end-mid.result in
     let a = c.in_ok-first.field-0 in
     let b = c.in_ok-second.field-0 in
     let first : AreViasFrom J rows c.args.from mid a = IfOk-at_ok (AreViasFrom J rows c.args.from mid) c.in_ok-first.was c.join-first.ensures.first in

@@ -1,7 +1,7 @@
 use Rattle.std.proofs.Common.{◌≡◌, length}
 use Rattle.walk_laws.specs.Joined.{Joined}
 use Rattle.entry_vias.specs.ViaRanges.{AreViasFrom}
-use Rattle.entry_vias.specs.Sought.{IsEmpty}
+use Rattle.entry_vias.specs.Slots.{IsEmpty}
 use Rattle.entry_vias.proofs.making.vias_in_turn.Given as goal
 
 -- the vias of the rows so far

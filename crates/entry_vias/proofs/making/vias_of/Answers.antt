@@ -13,6 +13,6 @@ returns-clause-labelled g c =
     let graph = c.args.graph.now in
     let index = c.args.index.now in
     let well = c.n-2.ensures.well_formed in
-    IfOk-weaker c.vias_between.result (AreViasFrom (Joined graph.edges) index.rows 0 c.n-2.result) (λ vias. IsChl (Joined graph.edges) index.order index.rows → HaveVias index.rows vias)
+    IfOk-weaker c.vias_by.result (AreViasFrom (Joined graph.edges) index.rows 0 c.n-2.result) (λ vias. IsChl (Joined graph.edges) index.order index.rows → HaveVias index.rows vias)
     (λ vias are chl. HaveVias-canonical graph.n graph.edges index.order index.rows vias c.n.ensures.graph well.ranking c.requires chl (AreVias-all (Joined graph.edges) index.rows c.n-2.result vias (omega (arith, c.n-2.ensures.value, well.size)) are))
-    c.vias_between.ensures
+    c.vias_by.ensures

@@ -1,7 +1,5 @@
-use Rattle.std.proofs.Common.{◌<◌, ◌+◌, ◌≡◌, map, get_or, arith}
+use Rattle.std.proofs.Common.{map, arith}
 use Rattle.std.proofs.lemmas.List.Kept.{AllPairs-from_increasing}
-use Rattle.walk_laws.specs.declared.entry.Entry.{Entry}
-use Rattle.index_audit.proofs.Searched.{nothing}
 use Rattle.index_audit.proofs.Meets.{start, past_far, none_left, past, met, none_at_end}
 use Rattle.index_audit.proofs.covering.first_meet.Goals as goal
 use Rattle.index_audit.proofs.covering.first_meet.Goals.{else-other-entry-via-then-other-entry+else-entry-other, else-other-entry-via-else-other-entry}

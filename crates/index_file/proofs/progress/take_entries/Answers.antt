@@ -1,12 +1,16 @@
-use Rattle.std.proofs.Common.{arith}
+use Rattle.std.proofs.Common.{◌≡◌, Ok, sym, subst, ◌+◌, arith}
 use Rattle.std.proofs.lemmas.Result.{err_from_is_err_and}
-use Rattle.index_file.specs.Gives.{at_position}
+use Rattle.index_file.specs.Judging.{fed}
+use Rattle.index_file.specs.Gives.{at_position, entry_width}
 use Rattle.index_file.proofs.Sizes.{offset-le}
-use Rattle.index_file.proofs.Steps.{Runs-more, Refuses-part, Refuses-then}
+use Rattle.index_file.proofs.Steps.{Runs-more, Refuses-part, Refuses-then, entry_width-between}
 use Rattle.index_file.proofs.progress.take_entries.Goals as goal
 
+pub nonzero_div-bytes : goal.nonzero_div-bytes
+nonzero_div-bytes c = omega (arith, entry_width-between c.args.done.now, c.entry_width-size.ensures)
+
 pub overflow_add-at : goal.overflow_add-at
-overflow_add-at c = omega (arith, offset-le (at_position c.args.done.now c.loop-rest.part c.loop-rest.at) c.loop-rest.invariant.sound)
+overflow_add-at c = omega (arith, offset-le (at_position c.args.done.now c.loop-rest.part c.loop-rest.at) c.loop-rest.invariant.sound, entry_width-between c.args.done.now, c.entry_width-size.ensures)
 
 pub returns-in_err-take_entry-clause-refused : goal.returns-in_err-take_entry-clause-refused
 returns-in_err-take_entry-clause-refused c =
@@ -16,4 +20,6 @@ returns-in_err-take_entry-clause-refused c =
 
 pub loop-rest-preserved : goal.loop-rest-preserved
 loop-rest-preserved c =
-    Runs-more (at_position c.args.done.now c.args.part c.args.at) (at_position c.args.done.now c.loop-rest.part c.loop-rest.at) _ c.args.bytes.now c.loop-rest.rest.now c.split_at.result.0.now c.split_at.result.1.now c.loop-rest.invariant (λ i. omega (arith, c.type_inv.bytes i)) c.split_at.ensures.by_index.0 (c.in_ok-take_entry.ensures.taken c.loop-rest.at)
+    let size : entry_width c.args.done.now ≡ c.entry_width-size.result = sym c.entry_width-size.ensures in
+    let led = subst (λ k. fed (Ok (at_position c.args.done.now c.loop-rest.part c.loop-rest.at)) c.split_at.result.0.now ≡ Ok (at_position c.args.done.now c.take_entry.new.part (c.loop-rest.at + k))) size (c.in_ok-take_entry.ensures.taken c.loop-rest.at) in
+    Runs-more (at_position c.args.done.now c.args.part c.args.at) (at_position c.args.done.now c.loop-rest.part c.loop-rest.at) _ c.args.bytes.now c.loop-rest.rest.now c.split_at.result.0.now c.split_at.result.1.now c.loop-rest.invariant (λ i. omega (arith, c.type_inv.bytes i)) c.split_at.ensures.by_index.0 led

@@ -1,10 +1,24 @@
-use Rattle.std.proofs.Common.{arith}
-use Rattle.index_file.proofs.Sizes.{length-part}
-use Rattle.index_file.specs.Parts.{next_own}
+use Rattle.std.proofs.Common.{◌≡◌, Ok, true, is_some, ap, sym, ◌+◌, ◌∙◌}
+use Rattle.std.proofs.lemmas.Result.{err_from_is_err_and}
+use Rattle.index_file.proofs.Steps.{Refuses-part, fed-traced, fed-refused_via}
+use Rattle.index_file.specs.Parts.{Part, with_entry, with_via}
+use Rattle.index_file.specs.Gives.{at_position, entry_width}
 use Rattle.index_file.proofs.progress.take_entry.Goals as goal
 
-pub overflow_cast-result : goal.overflow_cast-result
-overflow_cast-result c = omega (arith, length-part (next_own c.args.done.now) c.args.part.now c.requires.reading.entries, c.len.ensures, c.ranges.own.fits, c.requires.own)
+pub returns-in_err-entry-clause-refused : goal.returns-in_err-entry-clause-refused
+returns-in_err-entry-clause-refused c =
+    let p = err_from_is_err_and c.from_residual.result c.from_residual.ensures.1 in
+    rw (p.1, p.2) (λ at. Refuses-part (at_position c.args.done.now c.args.part.now at) c.args.field.now c.split_at.result.0.now c.split_at.result.1.now _ c.split_at.ensures.by_index.0 (c.in_err-entry.ensures.refused at))
 
-pub overflow_cast-result-then-not-is_next_distance : goal.overflow_cast-result-then-not-is_next_distance
-overflow_cast-result-then-not-is_next_distance c = omega (arith, length-part (next_own c.args.done.now) c.args.part.now c.requires.reading.entries, c.len-then-not-is_next_distance.ensures, c.ranges.own.fits, c.requires.own)
+pub returns-in_err-via-clause-refused : goal.returns-in_err-via-clause-refused
+returns-in_err-via-clause-refused c =
+    let p = err_from_is_err_and c.from_residual-in_err-via.result c.from_residual-in_err-via.ensures.1 in
+    let traced : is_some c.args.done.now.vias ≡ true = sym c.is_traced.ensures ∙ c.if-not-is_traced.false in
+    rw (p.1, p.2) (λ at. fed-refused_via c.args.done.now c.args.part.now c.in_ok-entry.entry at c.args.field.now c.split_at.result.0.now c.split_at.result.1.now _ traced c.split_at.ensures.by_index.0 (c.in_ok-entry.ensures.taken at) (c.in_err-via.ensures.refused (at + 12)))
+
+pub returns-clause-taken : goal.returns-clause-taken
+returns-clause-taken c = λ at.
+    let traced : is_some c.args.done.now.vias ≡ true = sym c.is_traced.ensures ∙ c.if-not-is_traced.false in
+    let new : with_via (with_entry c.args.part.now c.in_ok-entry.entry) c.in_ok-via.via ≡ c.push-2.new.self = ap (λ (p : Part). with_entry p c.in_ok-entry.entry) (sym c.in_ok-push_via.ensures.ok) ∙ sym c.in_ok-push-2.ensures.ok in
+    fed-traced c.args.done.now c.args.part.now c.in_ok-entry.entry c.in_ok-via.via at c.args.field.now c.split_at.result.0.now c.split_at.result.1.now c.requires.more traced c.split_at.ensures.by_index.0 (c.in_ok-entry.ensures.taken at) (c.in_ok-via.ensures.taken (at + 12))
+    ∙ ap (λ (p : Part). Ok (at_position c.args.done.now p (at + entry_width c.args.done.now))) new

@@ -9,11 +9,11 @@ returns-in_err-graph g c = handed_on c.from_residual.ensures.1 (goes_reads_stop 
 pub returns-in_err-ranking : goal.returns-in_err-ranking
 returns-in_err-ranking g c = handed_on c.from_residual-in_err-ranking.ensures.1 (goes_reads (rw c.text.ensures at c.in_ok-graph.ensures) (goes_reads_stop (rw (c.text-2.ensures, c.n.ensures.value) at c.in_err-ranking.ensures.goes)))
 
-pub returns-in_err-index : goal.returns-in_err-index
-returns-in_err-index g c = handed_on c.from_residual-in_err-index.ensures.1 (goes_reads (rw c.text.ensures at c.in_ok-graph.ensures) (goes_reads (rw (c.text-2.ensures, c.n.ensures.value) at c.in_ok-ranking.ensures.goes)
-    (goes_reads_stop (rw c.text-3.ensures at c.in_err-index.ensures))))
+pub returns-in_err-stored : goal.returns-in_err-stored
+returns-in_err-stored g c = handed_on c.from_residual-in_err-stored.ensures.1 (goes_reads (rw c.text.ensures at c.in_ok-graph.ensures) (goes_reads (rw (c.text-2.ensures, c.n.ensures.value) at c.in_ok-ranking.ensures.goes)
+    (goes_reads_stop (rw c.text-3.ensures at c.in_err-stored.ensures))))
 
 pub returns : goal.returns
 returns g c =
     goes_reads (rw c.text.ensures at c.in_ok-graph.ensures) (goes_reads (rw (c.text-2.ensures, c.n.ensures.value) at c.in_ok-ranking.ensures.goes)
-    (goes_reads (rw c.text-3.ensures at c.in_ok-index.ensures) (goes_audited _ _ _ c.told.ensures.0 c.told.ensures.1 c.told.ensures.2)))
+    (goes_reads (rw c.text-3.ensures at c.in_ok-stored.ensures) (goes_audited _ _ _ c.told.ensures.0 c.told.ensures.1 c.told.ensures.2)))

@@ -1,6 +1,5 @@
-use Rattle.std.specs.Prelude.{Ok}
-use Rattle.std.proofs.Common.{ap, refl}
-use Rattle.chl_inputs.proofs.StagesInTurn.{goes_comes, goes_lost, goes_reads, goes_reads_stop, goes_works}
+use Rattle.chl_inputs.proofs.StagesInTurn.{goes_lost, goes_reads, goes_reads_stop}
+use Rattle.chl_cmd.proofs.FileAnswers.{goes_filed}
 use Rattle.chl_cmd.proofs.TextAnswers.{handed_on}
 use Rattle.chl_cmd.proofs.commands.build.build_output.Goals as goal
 
@@ -16,4 +15,4 @@ returns-in_err-bytes g c = handed_on c.from_residual-in_err-bytes.ensures.1 (goe
 pub returns : goal.returns
 returns g c =
     goes_reads (rw c.text.ensures at c.in_ok-graph.ensures) (goes_reads (rw (c.text-2.ensures, c.n.ensures.value) at c.in_ok-ranking.ensures.goes)
-    (goes_works c.in_ok-bytes.ensures.0 c.in_ok-bytes.ensures.1 (goes_comes (ap Ok c.in_ok-bytes.ensures.2) tt refl)))
+    (goes_filed _ _ _ c.args.version c.in_ok-bytes.ensures))

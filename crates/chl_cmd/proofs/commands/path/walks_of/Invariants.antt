@@ -1,5 +1,7 @@
-use Rattle.chl_cmd.proofs.WalkAnswers.{HasWalked}
+use Rattle.hub_query.specs.Paths.{IsPathOf}
+use Rattle.chl_cmd.specs.Commands.{walk_stop}
+use Rattle.chl_cmd.proofs.StoppingAnswers.{HasAnswered}
 use Rattle.chl_cmd.proofs.commands.path.walks_of.Given as goal
 
 abbrev pub invariant-loop-pair : goal.invariant-loop-pair
-invariant-loop-pair l = HasWalked l.graph l.index l.pairs l.pair-index l.walks.items
+invariant-loop-pair l = HasAnswered (IsPathOf l.graph l.index) walk_stop l.pairs l.pair-index l.walks.items

@@ -1,7 +1,7 @@
 use Rattle.std.proofs.Common.{ap, ◌∙◌}
 use Rattle.std.proofs.lemmas.Result.{IfOk-weaker}
 use Rattle.index_file.specs.Layout.{index_bytes}
-use Rattle.chl_cmd.proofs.commands.build.file_bytes.Goals as goal
+use Rattle.chl_cmd.proofs.commands.build.plain_bytes.Goals as goal
 
 pub returns-in-Gll : goal.returns-in-Gll
 returns-in-Gll g c = IfOk-weaker c.encode_by.result _ _ (λ bytes is. (
