@@ -9,7 +9,7 @@ use Rattle.chl_inputs.specs.Stages.{Conforms, Works}
 use Rattle.chl_inputs.proofs.StagesInTurn.{goes_comes, goes_works}
 use Rattle.chl_words.specs.declared.asked.Version.{Version}
 use Rattle.chl_words.specs.declared.asked.Version.TheVariants.{One, Two}
-use Rattle.chl_cmd.specs.Commands.{IsFileOf, file_stage}
+use Rattle.chl_answers.specs.Commands.{IsFileOf, file_stage}
 
 module _ {D : Type 0} {desk : Ghosts D} (g : WeightedGraph) (at bytes : List ℕ) {place : D} where
   pub goes_filed : (version : Version) → IsFileOf version g at bytes → Conforms desk (Works (λ rows. IsChl (Joined g.edges) at rows) (λ rows. file_stage version g at rows)) (Ok bytes) place place

@@ -11,7 +11,7 @@ use Rattle.walk_laws.specs.Graph.{WeightedGraph}
 use Rattle.walk_laws.specs.Joined.{Joined}
 use Rattle.walk_laws.specs.Labelling.{IsChl}
 use Rattle.walk_laws.proofs.LabelRows.{IsChl-unique}
-use Rattle.chl_cmd.specs.Commands.{IsGridText}
+use Rattle.chl_answers.specs.Commands.{IsGridText}
 
 -- totals are those of the labelling of a graph
 abbrev AreTotalsOf : WeightedGraph → List ℕ → Totals → Type 0

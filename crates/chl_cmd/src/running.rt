@@ -2,17 +2,17 @@ ghost use Rattle.std.specs.Prelude.{◌≡◌, ◌≢◌, ◌⊎◌, ℕ, List, 
 ghost use Rattle.desk_io.specs.Contents.{Tells};
 ghost use Rattle.chl_inputs.specs.declared.stop.Stop.{Stop};
 ghost use Rattle.chl_inputs.specs.Stages.{OpensInOrder};
-ghost use Rattle.chl_cmd.specs.Commands.{Decides, place_of, stage_of};
-ghost use Rattle.chl_cmd.specs.Outcome.{Runs, Gives, GivesPart, Stops, OpensNoOther, ChangesNoOther};
-ghost use Rattle.chl_cmd.specs.Statuses.{CarriesFaultsAlone, CountsInput, CountsOutput, HasNoOutput, status_of, status_after};
-ghost use Rattle.chl_cmd.specs.Words.{IsCommand, IsNoCommand};
+ghost use Rattle.chl_answers.specs.Commands.{Decides, place_of, stage_of};
+ghost use Rattle.chl_answers.specs.Outcome.{Runs, Gives, GivesPart, Stops, OpensNoOther, ChangesNoOther};
+ghost use Rattle.chl_answers.specs.Statuses.{CarriesFaultsAlone, CountsInput, CountsOutput, HasNoOutput, status_of, status_after};
+ghost use Rattle.chl_answers.specs.Words.{IsCommand, IsNoCommand};
 ghost use Rattle.chl_words.specs.Asking.{IsWithinLimits};
-ghost use Rattle.chl_cmd.specs.declared.status.Status.TheVariants.{Done, Usage, ReadFault, WriteFault, NoMemory};
+ghost use Rattle.chl_answers.specs.declared.status.Status.TheVariants.{Done, Usage, ReadFault, WriteFault, NoMemory};
 ghost use Rattle.chl_words.specs.declared.asked.Asked.{Asked as Command};
 
-use crate::commands::{out_file, output};
-use crate::giving::give;
-use crate::status::{Status, stopped};
+use crate::commands::output;
+use chl_answers::{Status, stopped};
+use chl_outputs::{give, out_file};
 use chl_words::{AskFault, Asked, read_words};
 use desk_io::{Desk, DeskFault, Gate};
 use std::alloc::Global;
@@ -81,6 +81,23 @@ pub fn run<R: Threads + Wait + Sync, D: Desk, G: Gate + Sync>(
 
     // No status carries a reader's want of memory: that is always NoMemory.
     ensures faults_alone { CarriesFaultsAlone result }
+{
+    run_words(rt, alloc, words, desk, gate)
+}
+
+/// Runs the command that the words ask for, as a run of that command may go; where they are none, nothing changes. Want of memory may come at any time.
+fn run_words<R: Threads + Wait + Sync, D: Desk, G: Gate + Sync>(
+    rt: &R,
+    alloc: Global,
+    words: &[String],
+    desk: &mut D,
+    gate: &G,
+) -> Status
+    ensures no_command { result ≡ Usage → IsNoCommand (map string_bytes words.now) }
+    ensures usage { IsNoCommand (map string_bytes words.now)
+        → ((result ≡ Usage) ⊎ (result ≡ NoMemory)) × (desk.new ≡ desk.old) }
+    ensures runs { (asked : Command) → IsCommand (map string_bytes words.now) asked
+        → Runs D.Desk asked result desk.old desk.new }
 {
     match read_words(alloc, words) {
         Ok(asked) => carry_out(rt, alloc, &asked, desk, gate),

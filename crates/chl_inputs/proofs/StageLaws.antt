@@ -1,13 +1,13 @@
 -- What follows of a stage from the way it went, and when the files decide one thing of it.
-use Rattle.std.proofs.Common.{◌≡◌, ◌⊎◌, inl, inr, ℕ, Bool, List, [], refl, sym, ap, subst, ◌∙◌}
-use Rattle.std.specs.Prelude.{Option, Some, None, Result, Ok, Err}
+use Rattle.std.proofs.Common.{◌≡◌, inl, inr, Bool, [], refl, sym, ap, subst, ◌∙◌}
+use Rattle.std.specs.Prelude.{Result, Ok, Err}
 use Rattle.desk_io.specs.Contents.{Contents, Files, opened}
-use Rattle.chl_inputs.specs.Inputs.{Input, value_at}
-use Rattle.chl_inputs.specs.Stages.{Stage, Comes, Works, Reads, After, Decided, Conformed, ReadsAll, OpensInOrder, ReadsPart}
+use Rattle.chl_inputs.specs.Inputs.{value_at}
+use Rattle.chl_inputs.specs.Stages.{Stage, Comes, Works, Reads, After, Decided, Conformed, ReadsAll, OpensInOrder}
 use Rattle.chl_inputs.specs.Stops.{MayStop}
 use Rattle.chl_inputs.specs.declared.stop.Stop.{Stop}
 use Rattle.chl_inputs.specs.declared.stop.Stop.TheVariants.{NoMemory}
-use Rattle.chl_inputs.proofs.StagesInTurn.{same_value, same_stop_in, no_stop_in}
+use Rattle.chl_inputs.proofs.StagesInTurn.{same_stop_in, no_stop_in}
 
 -- a stop that is decided after one that is
 may_stop : (steady : Bool) (stop : Stop) {P Q : Type 0} → (P → Q) → MayStop steady stop P → MayStop steady stop Q

@@ -1,9 +1,9 @@
 -- Two stages in turn are a stage.
-use Rattle.std.proofs.Common.{◌≡◌, ◌⊎◌, inl, inr, ℕ, [], refl, sym, ap, subst, ◌∙◌}
-use Rattle.std.specs.Prelude.{Option, Some, None, Result, Ok, Err, IfErr}
-use Rattle.desk_io.specs.Contents.{Contents, Tells, opened}
+use Rattle.std.proofs.Common.{◌≡◌, inl, inr, ℕ, [], refl, sym, ap, subst, ◌∙◌}
+use Rattle.std.specs.Prelude.{Result, Ok, Err, IfErr}
+use Rattle.desk_io.specs.Contents.{Contents, opened}
 use Rattle.desk_io.specs.declared.desk.Desk.{Ghosts}
-use Rattle.chl_inputs.specs.Inputs.{Input, value_at}
+use Rattle.chl_inputs.specs.Inputs.{Input}
 use Rattle.chl_inputs.specs.Stages.{Stage, Comes, Works, Reads, reading, in_turn, Conformed, CountsStop, Conforms}
 use Rattle.chl_inputs.specs.Stops.{HasMemoryOnce}
 use Rattle.chl_inputs.specs.declared.stop.Stop.{Stop}

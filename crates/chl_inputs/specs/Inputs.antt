@@ -1,5 +1,5 @@
 -- The inputs of a command, and what each comes to.
-use Rattle.std.specs.Prelude.{◌≤◌, ℕ, List, All, length, take, nat_lt, if◌then◌else◌, Option, Some, None, Result, Ok, Err}
+use Rattle.std.specs.Prelude.{◌≤◌, ℕ, true, false, List, All, length, take, nat_lt, if◌then◌else◌, Option, Some, None, Result, Ok, Err}
 use Rattle.std.specs.Option.{option_map}
 use Rattle.std.specs.FinMap as finite_map
 use Rattle.desk_io.specs.Contents.{Files}
@@ -8,9 +8,10 @@ use Rattle.dimacs_text.specs.GraphText.{graph_of_text, graph_fault_within}
 use Rattle.dimacs_text.specs.PairsText.{pairs_of_text, pairs_fault_within}
 use Rattle.index_file.specs.Judging.{index_of, fault_within}
 use Rattle.index_file.specs.declared.stored_index.StoredIndex.{StoredIndex}
+use Rattle.order_text.specs.NodesText.{nodes_of_text, nodes_fault_within}
 use Rattle.order_text.specs.OrderText.{order_of_text, order_fault_within}
 use Rattle.walk_laws.specs.Graph.{WeightedGraph}
-use Rattle.chl_inputs.specs.Stops.{graph_stop, order_stop, pairs_stop, index_stop}
+use Rattle.chl_inputs.specs.Stops.{graph_stop, order_stop, pairs_stop, points_stop, sources_stop, index_stop}
 use Rattle.chl_inputs.specs.declared.stop.Stop.{Stop}
 use Rattle.chl_inputs.specs.declared.stop.Stop.TheVariants.{TooLong, ReadFailed}
 
@@ -59,6 +60,14 @@ order_input n name = input_from (order_fault_within n) (order_of_text n) order_s
 -- a pairs text, of pairs of the nodes 1..n
 abbrev pub pairs_input : ℕ → List ℕ → Input (List (ℕ × ℕ))
 pairs_input n name = input_from (pairs_fault_within n) (pairs_of_text n) pairs_stop name
+
+-- the text of points, which are nodes of 1..n and may not repeat
+abbrev pub points_input : ℕ → List ℕ → Input (List ℕ)
+points_input n name = input_from (nodes_fault_within n false) (nodes_of_text n false) points_stop name
+
+-- and that of sources, which may
+abbrev pub sources_input : ℕ → List ℕ → Input (List ℕ)
+sources_input n name = input_from (nodes_fault_within n true) (nodes_of_text n true) sources_stop name
 
 -- an index file, of either version
 abbrev pub index_input : List ℕ → Input StoredIndex

@@ -1,6 +1,6 @@
 -- A stage of a command: what it reads and works out in turn, what the files decide of it, and how a call may go that carries
 -- it out.
-use Rattle.std.specs.Prelude.{◌≡◌, ◌⊎◌, ℕ, List, [], ◌++◌, length, ◌≤◌, Option, Some, None, Result, Ok, Err, IfErr}
+use Rattle.std.specs.Prelude.{◌≡◌, ◌⊎◌, ℕ, List, [], ◌++◌, length, ◌≤◌, Some, None, Result, Ok, Err, IfErr}
 use Rattle.std.specs.FinMap as finite_map
 use Rattle.desk_io.specs.Contents.{Contents, Files, Tells, opened}
 use Rattle.desk_io.specs.Counts.{Rises}

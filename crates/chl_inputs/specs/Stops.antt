@@ -13,7 +13,7 @@ use Rattle.index_file.specs.declared.fault.IndexFault.TheVariants as index_fault
 use Rattle.order_text.specs.declared.order_fault.OrderFault.{OrderFault}
 use Rattle.order_text.specs.declared.order_fault.OrderFault.TheVariants as order_faults
 use Rattle.chl_inputs.specs.declared.stop.Stop.{Stop}
-use Rattle.chl_inputs.specs.declared.stop.Stop.TheVariants.{Graph, Overflow, Order, Pairs, Index, TooLong, ReadFailed, NoMemory}
+use Rattle.chl_inputs.specs.declared.stop.Stop.TheVariants.{Graph, Overflow, Order, Pairs, Points, From, Index, TooLong, ReadFailed, NoMemory}
 
 -- at a fault of a graph
 abbrev pub graph_stop : GrFault → Stop
@@ -30,6 +30,16 @@ order_stop fault = Order fault
 abbrev pub pairs_stop : PairsFault → Stop
 pairs_stop (pairs_faults.Text fault) = Pairs fault
 pairs_stop pairs_faults.NoMemory = NoMemory
+
+-- of points
+abbrev pub points_stop : OrderFault → Stop
+points_stop order_faults.NoMemory = NoMemory
+points_stop fault = Points fault
+
+-- of sources
+abbrev pub sources_stop : OrderFault → Stop
+sources_stop order_faults.NoMemory = NoMemory
+sources_stop fault = From fault
 
 -- of an index
 abbrev pub index_stop : IndexFault → Stop
@@ -51,6 +61,8 @@ opening_stop calls.NoMemory = NoMemory
 -- a fault that it carries is one of the input, and not want of memory
 abbrev pub HasMemoryOnce : Stop → Type 0
 HasMemoryOnce (Order fault) = fault ≢ order_faults.NoMemory
+HasMemoryOnce (Points fault) = fault ≢ order_faults.NoMemory
+HasMemoryOnce (From fault) = fault ≢ order_faults.NoMemory
 HasMemoryOnce (Index fault) = fault ≢ index_faults.NoMemory
 HasMemoryOnce stop = Unit {0}
 
@@ -72,6 +84,14 @@ pub pairs_memory_once : (fault : PairsFault) → HasMemoryOnce (pairs_stop fault
 pairs_memory_once (pairs_faults.Text fault) = tt
 pairs_memory_once pairs_faults.NoMemory = tt
 
+pub points_memory_once : (fault : OrderFault) → HasMemoryOnce (points_stop fault)
+points_memory_once order_faults.NoMemory = tt
+points_memory_once fault = λ same. cc
+
+pub sources_memory_once : (fault : OrderFault) → HasMemoryOnce (sources_stop fault)
+sources_memory_once order_faults.NoMemory = tt
+sources_memory_once fault = λ same. cc
+
 pub index_memory_once : (fault : IndexFault) → HasMemoryOnce (index_stop fault)
 index_memory_once index_faults.NoMemory = tt
 index_memory_once fault = λ same. cc
@@ -89,6 +109,14 @@ order_no_call fault = λ same. cc
 pub pairs_no_call : (fault : PairsFault) → pairs_stop fault ≢ ReadFailed
 pairs_no_call (pairs_faults.Text fault) = λ same. cc
 pairs_no_call pairs_faults.NoMemory = λ same. cc
+
+pub points_no_call : (fault : OrderFault) → points_stop fault ≢ ReadFailed
+points_no_call order_faults.NoMemory = λ same. cc
+points_no_call fault = λ same. cc
+
+pub sources_no_call : (fault : OrderFault) → sources_stop fault ≢ ReadFailed
+sources_no_call order_faults.NoMemory = λ same. cc
+sources_no_call fault = λ same. cc
 
 pub index_no_call : (fault : IndexFault) → index_stop fault ≢ ReadFailed
 index_no_call index_faults.NoMemory = λ same. cc

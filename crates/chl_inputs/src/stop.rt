@@ -30,9 +30,14 @@ pub enum Stop {
     Order(OrderFault),
     /// The pairs text has this first fault.
     Pairs(TextFault),
+    /// The text of the points has this first fault.
+    Points(OrderFault),
+    /// The text of the sources has this first fault.
+    From(OrderFault),
     /// The index file has this first fault.
     Index(IndexFault),
-    /// The index is not that of the graph under the order, and this is the first thing that is wrong with it.
+    /// The index is not that of the graph under the order, or its vias are wrong, or an index that is to be upgraded isn't the
+    /// graph's. This is the first thing that is wrong with it.
     Differs(Audit),
     /// The index, which is to be of the graph, is of another one.
     NotOfGraph(NotOf),

@@ -1,6 +1,7 @@
 ghost use Rattle.std.specs.Prelude.{◌≡◌};
 ghost use Rattle.chl_inputs.specs.Stops.{end_stop, opening_stop};
 
+use crate::nodes_texts::{PointsReader, SourcesReader};
 use crate::stop::Stop;
 use desk_io::{DeskFault, ReadEnd, Reader};
 use dimacs_text::{GrFault, GrReader, PairsFault, PairsReader};
@@ -89,6 +90,46 @@ impl StopsAt for PairsReader {
     ghost memory_once = { pairs_memory_once };
 
     ghost no_call = { pairs_no_call };
+}
+
+impl StopsAt for PointsReader {
+    ghost use Rattle.std.specs.Prelude.{refl};
+    ghost use Rattle.chl_inputs.specs.Stops.{points_stop, points_memory_once, points_no_call};
+
+    ghost stop_of = { points_stop };
+
+    fn stop(fault: OrderFault) -> Stop {
+        match fault {
+            OrderFault::NoMemory => Stop::NoMemory,
+            fault => Stop::Points(fault),
+        }
+    }
+
+    ghost want = { refl };
+
+    ghost memory_once = { points_memory_once };
+
+    ghost no_call = { points_no_call };
+}
+
+impl StopsAt for SourcesReader {
+    ghost use Rattle.std.specs.Prelude.{refl};
+    ghost use Rattle.chl_inputs.specs.Stops.{sources_stop, sources_memory_once, sources_no_call};
+
+    ghost stop_of = { sources_stop };
+
+    fn stop(fault: OrderFault) -> Stop {
+        match fault {
+            OrderFault::NoMemory => Stop::NoMemory,
+            fault => Stop::From(fault),
+        }
+    }
+
+    ghost want = { refl };
+
+    ghost memory_once = { sources_memory_once };
+
+    ghost no_call = { sources_no_call };
 }
 
 impl StopsAt for IndexReader {

@@ -1,1 +1,3 @@
+mod AnswerParts
+mod HitParts
 mod PartLines

@@ -3,3 +3,4 @@ pub mod PrintedAnswers
 pub mod PrintedOrders
 pub mod PrintedWalks
 pub mod PrintedGrids
+pub mod PrintedHits

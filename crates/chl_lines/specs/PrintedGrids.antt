@@ -1,4 +1,4 @@
--- The printed lines of a grid whose index was built by each construction. Each line is ended by one LF.
+-- The printed lines of a grid whose index was built by three of the constructions. Each line is ended by one LF.
 use Rattle.std.specs.Prelude.{ℕ, List, [], ◌∷◌, ◌++◌, codes}
 use Rattle.std.specs.Fmt.{decimal}
 use Rattle.grid_work.specs.declared.totals.Totals.{Totals}

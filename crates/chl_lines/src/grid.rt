@@ -6,7 +6,7 @@ use grid_work::Totals;
 use itoa::Buffer;
 use std::alloc::{AllocError, Global};
 
-/// What there is to say of a grid whose index was built by each construction.
+/// What there is to say of a grid whose index was built by three of the constructions.
 #[derive(Clone, Copy, Debug, PartialEq, Eq)]
 pub struct GridReport {
     pub side: u32,

@@ -123,7 +123,10 @@ fn lines_in_order(
 }
 
 /// The texts of all parts, one after another. The only error is that memory ran out.
-fn join_texts(alloc: Global, parts: Vec<Result<Vec<u8>, AllocError>>) -> Result<Vec<u8>, AllocError>
+pub(crate) fn join_texts(
+    alloc: Global,
+    parts: Vec<Result<Vec<u8>, AllocError>>,
+) -> Result<Vec<u8>, AllocError>
     ensures { IfOk result (λ text. AreJoined (λ part. part.items) parts.items text.items) }
 {
     let mut text = Vec::new(alloc);

@@ -5,10 +5,10 @@ use Rattle.std.specs.Option.{option_zip}
 use Rattle.std.specs.Str.{bytes_eq}
 use Rattle.std.proofs.lemmas.Bool.{leb-true}
 use Rattle.clap.specs.Words.{Kinds, Row, Text, fault_of, subcommand_of}
-use Rattle.chl_words.specs.Asking.{◌&◌, AreWithinLimits, IsWithinLimits, Values, any_number_of, asked_by, asked_in, asked_of, audit_of, build_of, construction_of, degree_of, greatest_seed, grid_of, list_of, longest_side, most_planted, most_roots, most_workers, number_in, path_of, query_of, rank_of, solve_of, trace_of, unless_refused, upgrade_of, values_in, within}
+use Rattle.chl_words.specs.Asking.{◌&◌, AreWithinLimits, IsWithinLimits, Values, any_number_of, asked_by, asked_in, asked_of, audit_of, build_of, construction_of, degree_of, greatest_seed, grid_of, list_of, longest_side, most_planted, most_points, most_roots, most_workers, near_of, number_in, path_of, query_of, rank_of, solve_of, trace_of, unless_refused, upgrade_of, values_in, within}
 use Rattle.chl_words.specs.Literal.{program}
 use Rattle.chl_words.specs.declared.asked.Asked.{Asked}
-use Rattle.chl_words.specs.declared.asked.Asked.TheVariants.{List as ListRows, Build, Solve, Query, Path, Trace, Audit, Upgrade, Degree, Rank, Grid}
+use Rattle.chl_words.specs.declared.asked.Asked.TheVariants.{List as ListRows, Build, Solve, Query, Path, Trace, Near, Audit, Upgrade, Degree, Rank, Grid}
 use Rattle.chl_words.specs.declared.asked.Construction.{Construction}
 use Rattle.chl_words.specs.declared.asked.Version.{Version}
 
@@ -58,18 +58,23 @@ free f a is = mapped (λ _. Unit {0}) IsWithinLimits f a (anything a) (λ x _. i
 built : {A : Type 0} (f : A × Construction → Asked) (a : Option A) (value : Values) → ((x : A) (b : Construction) → AreWithinLimits b.workers b.cut → IsWithinLimits (f (x, b))) → IfSome (option_map f (a & construction_of value)) IsWithinLimits
 built f a value is = mapped _ IsWithinLimits f _ (zipped _ _ a _ (anything a) (construction_within value)) (λ p h. is p.0 p.1 h.1)
 
+abbrev Two : Type 0
+Two = Text × Text
+
+abbrev Three : Type 0
+Three = Two × Text
+
+near_within : (value : Values) → IfSome (near_of value) IsWithinLimits
+near_within value =
+    mapped (λ p. Unit {0} × IsBetween 1 most_points p.1) IsWithinLimits (λ (p : Three × ℕ). Near p.0.0.0 p.0.0.1 p.0.1 p.1) _
+    (zipped _ _ _ _ (anything _) (between 1 most_points (value (codes "k")))) (λ p is. is.1)
+
 grid_within : (value : Values) → IfSome (grid_of value) IsWithinLimits
 grid_within value =
     mapped (λ p. (IsBetween 1 longest_side p.0.0 × IsBetween 0 greatest_seed p.0.1) × IsBetween 1 most_workers p.1) IsWithinLimits
     (λ (p : (ℕ × ℕ) × ℕ). Grid (record { side = p.0.0; seed = p.0.1; workers = p.1 })) _
     (zipped _ _ _ _ (zipped _ _ _ _ (between 1 longest_side (value (codes "side"))) (between 0 greatest_seed (value (codes "seed")))) (between 1 most_workers (value (codes "workers"))))
     (λ p h. (h.0.0.0, h.0.0.1, h.0.1.1, h.1.0, h.1.1))
-
-abbrev Two : Type 0
-Two = Text × Text
-
-abbrev Three : Type 0
-Three = Two × Text
 
 -- something that may be asked for, within its limits
 abbrev Within : Type 0
@@ -86,11 +91,12 @@ all name value =
     (or_else name (codes "query") (query_of value, free (λ (p : Two). Query p.0 p.1) _ (λ _. tt))
     (or_else name (codes "path") (path_of value, free (λ (p : Three). Path p.0.0 p.0.1 p.1) _ (λ _. tt))
     (or_else name (codes "trace") (trace_of value, free (λ (p : Two). Trace p.0 p.1) _ (λ _. tt))
+    (or_else name (codes "near") (near_of value, near_within value)
     (or_else name (codes "audit") (audit_of value, free (λ (p : Three). Audit p.0.0 p.0.1 p.1) _ (λ _. tt))
     (or_else name (codes "upgrade") (upgrade_of value, free (λ (p : Three). Upgrade p.0.0 p.0.1 p.1) _ (λ _. tt))
     (or_else name (codes "degree") (degree_of value, free Degree _ (λ _. tt))
     (or_else name (codes "rank") (rank_of value, free Rank _ (λ _. tt))
-    (or_else name (codes "grid") (grid_of value, grid_within value) (None, tt)))))))))))
+    (or_else name (codes "grid") (grid_of value, grid_within value) (None, tt))))))))))))
 
 asked_within : (name : Text) (value : Values) → IfSome (asked_of name value) IsWithinLimits
 asked_within name value = (all name value).1

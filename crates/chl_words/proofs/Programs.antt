@@ -119,6 +119,10 @@ trace_is : IsJudged literal.trace
 unfolding clap_on_literals
 trace_is = record { enters = record { walks = refl; turns = refl; found = refl }; distinct = (refl, (refl, tt)); pass = (refl, (refl, tt)) }
 
+near_is : IsJudged literal.near
+unfolding clap_on_literals
+near_is = record { enters = record { walks = refl; turns = refl; found = refl }; distinct = (refl, (refl, (refl, (refl, tt)))); pass = (refl, (refl, (refl, (refl, tt)))) }
+
 audit_is : IsJudged literal.audit
 unfolding clap_on_literals
 audit_is = record { enters = record { walks = refl; turns = refl; found = refl }; distinct = (refl, (refl, (refl, tt))); pass = (refl, (refl, (refl, tt))) }
@@ -146,9 +150,10 @@ is_judged s (suc (suc zero), lt, is) = subst IsJudged is solve_is
 is_judged s (suc (suc (suc zero)), lt, is) = subst IsJudged is query_is
 is_judged s (suc (suc (suc (suc zero))), lt, is) = subst IsJudged is path_is
 is_judged s (suc (suc (suc (suc (suc zero)))), lt, is) = subst IsJudged is trace_is
-is_judged s (suc (suc (suc (suc (suc (suc zero))))), lt, is) = subst IsJudged is audit_is
-is_judged s (suc (suc (suc (suc (suc (suc (suc zero)))))), lt, is) = subst IsJudged is upgrade_is
-is_judged s (suc (suc (suc (suc (suc (suc (suc (suc zero))))))), lt, is) = subst IsJudged is degree_is
-is_judged s (suc (suc (suc (suc (suc (suc (suc (suc (suc zero)))))))), lt, is) = subst IsJudged is rank_is
-is_judged s (suc (suc (suc (suc (suc (suc (suc (suc (suc (suc zero))))))))), lt, is) = subst IsJudged is grid_is
-is_judged s (suc (suc (suc (suc (suc (suc (suc (suc (suc (suc (suc k)))))))))), lt, is) = absurd (omega arith)
+is_judged s (suc (suc (suc (suc (suc (suc zero))))), lt, is) = subst IsJudged is near_is
+is_judged s (suc (suc (suc (suc (suc (suc (suc zero)))))), lt, is) = subst IsJudged is audit_is
+is_judged s (suc (suc (suc (suc (suc (suc (suc (suc zero))))))), lt, is) = subst IsJudged is upgrade_is
+is_judged s (suc (suc (suc (suc (suc (suc (suc (suc (suc zero)))))))), lt, is) = subst IsJudged is degree_is
+is_judged s (suc (suc (suc (suc (suc (suc (suc (suc (suc (suc zero))))))))), lt, is) = subst IsJudged is rank_is
+is_judged s (suc (suc (suc (suc (suc (suc (suc (suc (suc (suc (suc zero)))))))))), lt, is) = subst IsJudged is grid_is
+is_judged s (suc (suc (suc (suc (suc (suc (suc (suc (suc (suc (suc (suc k))))))))))), lt, is) = absurd (omega arith)

@@ -10,7 +10,7 @@ use Rattle.chl_words.specs.declared.asked.By.{By}
 use Rattle.chl_words.specs.declared.asked.Construction.{Construction}
 use Rattle.chl_words.specs.declared.asked.By.TheVariants.{Plant, Lcc, Gll, Hybrid}
 use Rattle.chl_words.specs.declared.asked.Asked.{Asked}
-use Rattle.chl_words.specs.declared.asked.Asked.TheVariants.{List as ListRows, Build, Solve, Query, Path, Trace, Audit, Upgrade, Degree, Rank, Grid}
+use Rattle.chl_words.specs.declared.asked.Asked.TheVariants.{List as ListRows, Build, Solve, Query, Path, Trace, Near, Audit, Upgrade, Degree, Rank, Grid}
 use Rattle.chl_words.specs.declared.asked.Version.{Version}
 use Rattle.chl_words.specs.declared.asked.Version.TheVariants.{One, Two}
 
@@ -59,6 +59,10 @@ most_planted = 2 ^ 30
 abbrev pub latest_version : ℕ
 latest_version = 2
 
+-- how many points may be asked for
+abbrev pub most_points : ℕ
+most_points = 2 ^ 20
+
 -- how long the side of a grid may be, and how great the seed of its weights
 abbrev pub longest_side : ℕ
 longest_side = 256
@@ -106,6 +110,9 @@ path_of value = option_map (λ p. Path p.0.0 p.0.1 p.1) (value (codes "graph") &
 abbrev pub trace_of : Values → Option Asked
 trace_of value = option_map (λ p. Trace p.0 p.1) (value (codes "index") & value (codes "pairs"))
 
+abbrev pub near_of : Values → Option Asked
+near_of value = option_map (λ p. Near p.0.0.0 p.0.0.1 p.0.1 p.1) (value (codes "index") & value (codes "points") & value (codes "from") & number_in 1 most_points (value (codes "k")))
+
 abbrev pub audit_of : Values → Option Asked
 audit_of value = option_map (λ p. Audit p.0.0 p.0.1 p.1) (value (codes "graph") & value (codes "order") & value (codes "index"))
 
@@ -130,12 +137,13 @@ asked_of name value =
     else (if bytes_eq name (codes "query") then query_of value
     else (if bytes_eq name (codes "path") then path_of value
     else (if bytes_eq name (codes "trace") then trace_of value
+    else (if bytes_eq name (codes "near") then near_of value
     else (if bytes_eq name (codes "audit") then audit_of value
     else (if bytes_eq name (codes "upgrade") then upgrade_of value
     else (if bytes_eq name (codes "degree") then degree_of value
     else (if bytes_eq name (codes "rank") then rank_of value
     else (if bytes_eq name (codes "grid") then grid_of value
-    else None))))))))))
+    else None)))))))))))
 
 -- the values of the options in what was found
 abbrev pub values_in : List Row → Values
@@ -163,9 +171,10 @@ AreWithinLimits workers cut = (1 ≤ workers) × (workers ≤ most_workers) × (
 abbrev pub IsGridWithinLimits : ℕ → ℕ → ℕ → Type 0
 IsGridWithinLimits side seed workers = (1 ≤ side) × (side ≤ longest_side) × (seed ≤ greatest_seed) × (1 ≤ workers) × (workers ≤ most_workers)
 
--- those of a command are
+-- those of a command are, and so is the number of points that are asked for
 abbrev pub IsWithinLimits : Asked → Type 0
 IsWithinLimits (Build graph order out version built) = AreWithinLimits built.workers built.cut
 IsWithinLimits (Solve graph order pairs built) = AreWithinLimits built.workers built.cut
+IsWithinLimits (Near index points from k) = (1 ≤ k) × (k ≤ most_points)
 IsWithinLimits (Grid grid) = IsGridWithinLimits grid.side grid.seed grid.workers
 IsWithinLimits asked = Unit {0}

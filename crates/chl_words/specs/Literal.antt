@@ -80,6 +80,9 @@ path = files (codes "path") (codes "graph" ∷ codes "index" ∷ codes "pairs" �
 abbrev pub trace : Shape
 trace = files (codes "trace") (codes "index" ∷ codes "pairs" ∷ [])
 
+abbrev pub near : Shape
+near = with_option (files (codes "near") (codes "index" ∷ codes "points" ∷ codes "from" ∷ [])) (number_needed (codes "k") 1 (2 ^ 20))
+
 abbrev pub audit : Shape
 audit = files (codes "audit") (codes "graph" ∷ codes "order" ∷ codes "index" ∷ [])
 
@@ -96,7 +99,7 @@ abbrev pub grid : Shape
 grid = command (codes "grid") (number_needed (codes "side") 1 256 ∷ number_needed (codes "seed") 0 2147483647 ∷ workers ∷ [])
 
 abbrev pub commands : List Shape
-commands = list ∷ build ∷ solve ∷ query ∷ path ∷ trace ∷ audit ∷ upgrade ∷ degree ∷ rank ∷ grid ∷ []
+commands = list ∷ build ∷ solve ∷ query ∷ path ∷ trace ∷ near ∷ audit ∷ upgrade ∷ degree ∷ rank ∷ grid ∷ []
 
 -- the program: it takes one of its commands, and has no help
 abbrev pub program : App

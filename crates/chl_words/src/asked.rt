@@ -53,7 +53,7 @@ pub enum By {
 pub enum Version {
     /// Each entry has a position and a distance.
     One,
-    /// It has its via, too: the node before its own on a shortest walk from the hub.
+    /// Each has its via, too: the node before its own on a shortest walk from the hub.
     Two,
 }
 
@@ -63,7 +63,7 @@ pub struct Construction {
     pub by: By,
     /// How many workers build: 1..64.
     pub workers: u32,
-    /// How many roots a worker takes at a time: 1..2^30.
+    /// How work is cut: how many roots a batch may have, or how many entries a worker puts at least in a superstep. 1..2^30.
     pub cut: u32,
     /// How many of the first roots are planted: 0..2^30. Only [`By::Hybrid`] has a use for it.
     pub eta: u32,
@@ -119,6 +119,16 @@ pub enum Asked {
     Trace {
         index: Name,
         pairs: Name,
+    },
+    /// Say which points are nearest to each source, by the rows of an index.
+    Near {
+        index: Name,
+        /// The text of the points, nodes that don't repeat.
+        points: Name,
+        /// The text of the sources, nodes that may repeat.
+        from: Name,
+        /// How many points are said of a source at most: 1..2^20.
+        k: u32,
     },
     /// Say whether an index is that of a graph under an order, or the first thing that is wrong with it.
     Audit {

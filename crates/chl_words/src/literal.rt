@@ -21,6 +21,9 @@ pub const MOST_PLANTED: u32 = 1 << 30;
 /// The latest version of an index file.
 pub const LATEST_VERSION: u32 = 2;
 
+/// The most points that may be asked for.
+pub const MOST_POINTS: u32 = 1 << 20;
+
 /// The longest side of a grid.
 pub const LONGEST_SIDE: u32 = 256;
 
@@ -47,6 +50,7 @@ pub fn program<'a>(alloc: Global) -> Result<Command<'a>, AllocError>
     let program = with_command(program, files(alloc, "query", &["index", "pairs"]));
     let program = with_command(program, files(alloc, "path", &["graph", "index", "pairs"]));
     let program = with_command(program, files(alloc, "trace", &["index", "pairs"]));
+    let program = with_command(program, near(alloc));
     let program = with_command(program, files(alloc, "audit", &["graph", "order", "index"]));
     let program = with_command(program, files(alloc, "upgrade", &["graph", "index", "out"]));
     let program = with_command(program, files(alloc, "degree", &["graph"]));
@@ -81,6 +85,14 @@ fn build<'a>(alloc: Global) -> Result<Command<'a>, AllocError>
 {
     let command = built(alloc, "build", &["graph", "order", "out"]);
     with_option(command, version(alloc))
+}
+
+/// The command that says the nearest points, of which it is to be told how many.
+fn near<'a>(alloc: Global) -> Result<Command<'a>, AllocError>
+    ensures { IfOk result (IsProgram (command_alone literal.near)) }
+{
+    let command = files(alloc, "near", &["index", "points", "from"]);
+    with_option(command, number_needed(alloc, "k", 1, MOST_POINTS))
 }
 
 fn grid<'a>(alloc: Global) -> Result<Command<'a>, AllocError>

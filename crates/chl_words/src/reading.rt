@@ -3,13 +3,14 @@ ghost use Rattle.std.specs.Option.{option_copied};
 ghost use Rattle.clap.specs.Words.{found_of, kind_of, rows_of, subcommand_rows_of};
 ghost use Rattle.clap.specs.declared.error.kind.ErrorKind.TheVariants.{OutOfMemory};
 ghost use Rattle.chl_words.specs.Asking as asking;
-ghost use Rattle.chl_words.specs.Asking.{IsWithinLimits, asked_in, asked_of, asked_by, audit_of, build_of, construction_of, degree_of, grid_of, list_of, number_in, path_of, query_of, rank_of, solve_of, trace_of, upgrade_of, values_in, version_of, workers_of};
+ghost use Rattle.chl_words.specs.Asking.{IsWithinLimits, asked_in, asked_of, asked_by, audit_of, build_of, construction_of, degree_of, grid_of, list_of, near_of, number_in, path_of, query_of, rank_of, solve_of, trace_of, upgrade_of, values_in, version_of, workers_of};
 ghost use Rattle.chl_words.specs.Reading.{IsRead};
 ghost use Rattle.chl_words.specs.declared.asked.AskFault.TheVariants.{Usage};
 
 use crate::asked::{AskFault, Asked, By, Construction, Grid, Name, Version};
 use crate::literal::{
-    GREATEST_SEED, LATEST_VERSION, LONGEST_SIDE, MOST_PLANTED, MOST_ROOTS, MOST_WORKERS, program,
+    GREATEST_SEED, LATEST_VERSION, LONGEST_SIDE, MOST_PLANTED, MOST_POINTS, MOST_ROOTS,
+    MOST_WORKERS, program,
 };
 use clap::error::ErrorKind;
 use clap::{ArgMatches, Error};
@@ -60,6 +61,7 @@ fn read_command(alloc: Global, name: &str, found: &ArgMatches<'_>) -> Result<Ask
         "query" => read_query(alloc, found),
         "path" => read_path(alloc, found),
         "trace" => read_trace(alloc, found),
+        "near" => read_near(alloc, found),
         "audit" => read_audit(alloc, found),
         "upgrade" => read_upgrade(alloc, found),
         "degree" => read_degree(alloc, found),
@@ -126,6 +128,17 @@ fn read_trace(alloc: Global, found: &ArgMatches<'_>) -> Result<Asked, AskFault>
     Ok(Asked::Trace {
         index: file(alloc, found, "index")?,
         pairs: file(alloc, found, "pairs")?,
+    })
+}
+
+fn read_near(alloc: Global, found: &ArgMatches<'_>) -> Result<Asked, AskFault>
+    ensures { IsRead (near_of (values_in (rows_of (found_of found.now)))) result }
+{
+    Ok(Asked::Near {
+        index: file(alloc, found, "index")?,
+        points: file(alloc, found, "points")?,
+        from: file(alloc, found, "from")?,
+        k: number(found, "k", 1, MOST_POINTS)?,
     })
 }
 

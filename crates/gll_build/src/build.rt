@@ -2,6 +2,7 @@ ghost use Rattle.std.specs.Prelude.{◌≡◌, ◌+◌, ◌^◌, ◌<◌, ◌≤
 ghost use Rattle.walk_laws.specs.Joined.{Joined};
 ghost use Rattle.walk_laws.specs.Labelling.{IsChl};
 ghost use Rattle.label_clean.specs.Below.{IsChlBelow};
+ghost use Rattle.gll_superstep.specs.Workers.{IsFirstSeat};
 
 use crate::scheduler::LastTable;
 use crate::workers::run_workers;
@@ -11,7 +12,8 @@ use hub_index::laws::the_labelling_is_well_formed;
 use hub_index::{Index, RowList, Shards, SplitIndex, SplitRows};
 use label_clean::laws::the_whole_is_the_labelling;
 use rank_table::Ranking;
-use renumbering::WorkingCopy;
+use renumbering::{Job, WorkingCopy};
+use root_claims::{ClaimSeat, Claims};
 use std::alloc::{AllocError, Global};
 use std::marker::Brand;
 use std::sync::Wait;
@@ -63,17 +65,8 @@ pub fn build_gll_split<R: Threads + Wait + Sync, G: Gate + Sync>(
 {
     let copy = WorkingCopy::new(alloc, graph, ranking)?;
     let none = RowList::new(alloc, copy.graph.n())?;
-    let rows = gll_rows_from(
-        rt,
-        alloc,
-        &copy.graph,
-        &copy.ranking,
-        none,
-        0,
-        workers,
-        cut,
-        gate,
-    )?;
+    let job = Job::new(alloc, &copy.graph, &copy.ranking, workers, cut);
+    let rows = grow_roots(rt, &job, none, 0, gate)?;
     copy.split_index(alloc, graph, ranking, rows)
 }
 
@@ -132,54 +125,80 @@ pub fn gll_rows_from<R: Threads + Wait + Sync, G: Gate + Sync>(
     requires cut_to { cut ≤ 2 ^ 30 }
     ensures { IfOk result (IsChl (Joined graph.now.edges) ranking.now) }
 {
-    let n = graph.n();
-    let ranked = ranking.n();
+    let job = Job::new(alloc, graph, ranking, workers, cut);
+    grow_roots(rt, &job, global, first, gate)
+}
+
+/// The rows of [`gll_rows_from`] on what a job has.
+pub fn grow_roots<R: Threads + Wait + Sync, G: Gate + Sync>(
+    rt: &R,
+    job: &Job<'_>,
+    global: RowList,
+    first: u32,
+    gate: &G,
+) -> Result<SplitRows, AllocError>
+    requires global { IsChlBelow job.now.graph.now.edges job.now.ranking.now first global }
+    requires first { first ≤ length job.now.ranking.now }
+    ensures { IfOk result (IsChl (Joined job.now.graph.now.edges) job.now.ranking.now) }
+{
+    let n = job.graph.n();
+    let ranked = job.ranking.n();
     prove!(n == ranked);
-    let plan = plan_for(n, workers);
-    let (rows, next) = steps::<Brand, R, G>(
-        rt, alloc, graph, ranking, plan, global, first, n, workers, cut, gate,
-    )?;
+    let plan = plan_for(n, job.workers);
+    let (claims, seat) = Claims::new(job.alloc, first, n, job.workers)?;
+    let (rows, next) = steps::<Brand, R, G>(rt, job, plan, global, first, n, &claims, seat, gate)?;
     prove!(next == n);
     the_whole_is_the_labelling();
     Ok(rows)
 }
 
 /// Supersteps of this build from a table that is the canonical hub labelling up to the position `first`, from 0, until the next
-/// root has the position `goal` or a later one: the labelling up to that root's position, and that position.
+/// root has the position `goal` or a later one: the labelling up to that root's position, and that position. The workers claim roots
+/// with seats that are split from this one.
 fn steps<B: Build + Send + Sync, R: Threads + Wait + Sync, G: Gate + Sync>(
     rt: &R,
-    alloc: Global,
-    graph: &Graph,
-    ranking: &Ranking,
+    job: &Job<'_>,
     plan: Shards,
     global: RowList,
     first: u32,
     goal: u32,
-    workers: u32,
-    cut: u32,
+    claims: &Claims,
+    seat: ClaimSeat,
     gate: &G,
 ) -> Result<(SplitRows, u32), AllocError>
-    requires edges { graph.now.edges ≡ B.edges }
-    requires order { ranking.now ≡ B.order }
-    requires nodes { length B.order ≡ graph.now.n }
+    requires edges { job.now.graph.now.edges ≡ B.edges }
+    requires order { job.now.ranking.now ≡ B.order }
     requires shards { plan.shift ≡ B.shift }
     requires shift { plan.shift ≤ 30 }
     requires global { IsChlBelow B.edges B.order first global }
     requires first { first ≤ length B.order }
     requires goal { goal ≡ B.goal }
-    requires workers_are { workers ≡ B.workers }
-    requires workers { (1 ≤ workers) × (workers ≤ 64) }
-    requires cut { 1 ≤ cut }
+    requires goal_to { goal ≤ length B.order }
+    requires workers { job.now.workers ≡ B.workers }
+    requires claims { claims.now ≡ B.claims }
+    requires claims_to { B.claims.n ≡ length B.order }
+    requires claims_for { B.claims.seats ≡ B.workers }
+    requires seat { IsFirstSeat B.claims first seat }
     ensures rows { IfOk result (λ r. IsChlBelow B.edges B.order r.1 r.0) }
     ensures far_enough { IfOk result (λ r. goal ≤ r.1) }
     ensures within { IfOk result (λ r. r.1 ≤ length B.order) }
 {
-    let context = BuildContext::<B>::new(rt, alloc, graph, ranking, plan, workers, cut, goal);
+    let context = BuildContext::<B>::new(
+        rt,
+        job.alloc,
+        job.graph,
+        job.ranking,
+        plan,
+        job.workers,
+        claims,
+        job.cut,
+        goal,
+    );
     let table = Table::of_rows(&context, &global, first)?;
     drop(global);
-    let LastTable { table } = run_workers(rt, &context, table, gate)?;
+    let LastTable { table } = run_workers(rt, &context, table, seat, gate)?;
     let next = table.first();
-    Ok((table.into_rows(alloc)?, next))
+    Ok((table.into_rows(job.alloc)?, next))
 }
 
 /// In shards of how many nodes a table of so many is cut: some four for each worker, so that each has as much to do as the
@@ -228,17 +247,17 @@ pub fn superstep<R: Threads + Wait + Sync, G: Gate + Sync>(
     let ranked = ranking.n();
     prove!(n == ranked && first < n);
     let plan = plan_for(n, workers);
+    let job = Job::new(alloc, graph, ranking, workers, cut);
+    let (claims, seat) = Claims::new(alloc, first, n, workers)?;
     let (rows, next) = steps::<Brand, R, G>(
         rt,
-        alloc,
-        graph,
-        ranking,
+        &job,
         plan,
         global,
         first,
         first + 1,
-        workers,
-        cut,
+        &claims,
+        seat,
         gate,
     )?;
     Ok((rows.into_rows(alloc)?, next))

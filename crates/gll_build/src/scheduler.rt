@@ -1,14 +1,19 @@
 //! What is to be done in a build, and what is done.
-ghost use Rattle.std.specs.Prelude.{◌≤◌};
+ghost use Rattle.std.specs.Prelude.{◌≡◌, ◌<◌, ◌≤◌, ◌++◌, ◌∷◌, [], IfErr, IfOk, Ok, false, length, true};
+ghost use Rattle.gll_merge.specs.Merging.{OneShard, are_filled, with_shard};
+ghost use Rattle.gll_superstep.specs.Workers.{IsFirstSeat};
 
 use gll_merge::{MergeTask, Merged, Merging, begin_merging, merged_table};
-use gll_superstep::{GrowTask, NextPool, Superstep, begin_superstep};
-use gll_table::{Build, BuildContext, Table, WorkerOutput, Workspace};
-use std::alloc::{AllocError, Global};
+use gll_superstep::{
+    EndedSuperstep, GrowTask, GrowTasks, Grown, Outputs, PoolSlot, begin_superstep, end_superstep,
+};
+use gll_table::{Build, BuildContext, Table, Workspaces};
+use root_claims::ClaimSeat;
+use std::alloc::AllocError;
 use std::hint::spin_loop;
 use std::mem::replace;
 use std::sync::atomic::{AtomicBool, AtomicU64, Ordering};
-use std::sync::{Arc, Mutex, Wait};
+use std::sync::{Mutex, Wait};
 use std::thread::yield_now;
 
 /// The table with which a build is over.
@@ -18,18 +23,80 @@ pub struct LastTable<B: Build> {
     ghost far_enough: { B.goal ≤ table.first },
 }
 
+/// Trees grow: the tasks that nobody has taken, and what workers have handed in. That of one worker at least is to come.
+#[derive(Drop)]
+pub struct Growing<B: Build> {
+    tasks: GrowTasks<B>,
+    outputs: Outputs<B>,
+    ghost to_come: { length outputs < B.workers },
+}
+
+/// What all workers have handed in at the end of a superstep.
+#[derive(Drop)]
+pub struct AllGrown<B: Build> {
+    outputs: Outputs<B>,
+    ghost all: { length outputs ≡ B.workers },
+}
+
+impl<B: Build> Growing<B> {
+    /// Adds what a worker hands in: if it is the last, nothing but all of it is left. The only error is that memory ran out.
+    fn with(
+        self,
+        context: &BuildContext<'_, B>,
+        one: Result<Grown<B>, AllocError>,
+    ) -> Result<Result<AllGrown<B>, Growing<B>>, AllocError>
+        ensures all { IfOk result (λ added. IfOk added (λ all. all.outputs ≡ self.outputs ++ one ∷ [])) }
+        ensures some { IfOk result (λ added. IfErr added (λ growing. growing.outputs ≡ self.outputs ++ one ∷ [])) }
+    {
+        let Growing { tasks, mut outputs } = self;
+        outputs.add(one)?;
+        if outputs.len() < context.workers as usize {
+            return Ok(Err(Growing { tasks, outputs }));
+        }
+        Ok(Ok(AllGrown { outputs }))
+    }
+}
+
+/// What was put is merged in the shards, of which one at least is to come; and the seat for the next superstep.
+#[derive(Drop)]
+pub struct MergingShards<B: Build> {
+    merging: Merging<B>,
+    seat: ClaimSeat,
+    ghost to_come: { are_filled merging.places ≡ false },
+    ghost seat_is: { IsFirstSeat B.claims merging.next seat },
+}
+
+/// All shards are merged.
+#[derive(Drop)]
+pub struct AllMerged<B: Build> {
+    merging: Merging<B>,
+    seat: ClaimSeat,
+    ghost all: { are_filled merging.places ≡ true },
+    ghost seat_is: { IsFirstSeat B.claims merging.next seat },
+}
+
+impl<B: Build> MergingShards<B> {
+    /// Adds a shard that is merged: if it is the last, nothing but all of them is left. The only error is that memory ran out, for the
+    /// shard or here.
+    fn with(self, one: Merged<B>) -> Result<Result<AllMerged<B>, MergingShards<B>>, AllocError>
+        ensures all { IfOk result (λ added. IfOk added (λ all. (shard : OneShard) × (one.shard ≡ Ok shard) × (all.merging.places ≡ with_shard self.merging.next self.merging.places shard))) }
+        ensures some { IfOk result (λ added. IfErr added (λ still. (shard : OneShard) × (one.shard ≡ Ok shard) × (still.merging.places ≡ with_shard self.merging.next self.merging.places shard))) }
+    {
+        let MergingShards { mut merging, seat } = self;
+        merging.add(one)?;
+        if merging.is_whole() {
+            return Ok(Ok(AllMerged { merging, seat }));
+        }
+        Ok(Err(MergingShards { merging, seat }))
+    }
+}
+
 /// What the workers of a build are at. A worker takes a task, and hands in what it has done; who hands in the last makes the
 /// next stage, while the others wait.
 #[derive(Drop)]
 pub enum Stage<B: Build> {
-    /// Trees grow: the superstep, the tasks that nobody has taken, and the outputs, as far as memory sufficed.
-    Growing {
-        superstep: Arc<Superstep<B>, Global>,
-        tasks: Vec<Option<GrowTask<B>>>,
-        outputs: Vec<Result<WorkerOutput<B>, AllocError>>,
-    },
-    /// What was put is merged in the shards.
-    Merging(Merging<B>),
+    Growing(Growing<B>),
+    Merging(MergingShards<B>),
     /// A worker makes the next stage.
     Advancing,
     /// The build is over: with a table, or since memory ran out.
@@ -40,15 +107,11 @@ impl<B: Build> Stage<B> {
     /// A task for the worker of this number, from 0, of so many.
     fn task(&mut self, me: u32, workers: u32) -> Task<B> {
         match self {
-            Stage::Growing {
-                superstep: _,
-                tasks,
-                outputs: _,
-            } => match take_from(tasks, me, workers) {
+            Stage::Growing(growing) => match growing.tasks.take(me, workers) {
                 Some(task) => Task::Grow(task),
                 None => Task::Wait,
             },
-            Stage::Merging(merging) => match take_from(&mut merging.tasks, me, workers) {
+            Stage::Merging(shards) => match shards.merging.take(me, workers) {
                 Some(task) => Task::Merge(task),
                 None => Task::Wait,
             },
@@ -56,31 +119,6 @@ impl<B: Build> Stage<B> {
             Stage::Over(_) => Task::End,
         }
     }
-
-    /// Adds a worker's output. It answers whether no other is to come.
-    fn add_output(&mut self, one: Result<WorkerOutput<B>, AllocError>) -> bool {
-        match self {
-            Stage::Growing {
-                superstep: _,
-                tasks,
-                outputs,
-            } => is_last(outputs, one, tasks.len()),
-            _ => false,
-        }
-    }
-
-    /// Adds a shard that is merged. It answers whether no other is to come.
-    fn add_merged(&mut self, one: Merged<B>) -> bool {
-        match self {
-            Stage::Merging(merging) => is_last(&mut merging.merged, one, merging.tasks.len()),
-            _ => false,
-        }
-    }
-}
-
-/// Adds one to those that are done of so many. It answers whether it was the last, or memory ran out for it.
-fn is_last<T: Drop>(done: &mut Vec<T>, one: T, count: usize) -> bool {
-    done.push(one).is_err() || done.len() >= count
 }
 
 /// What a worker is to do.
@@ -97,19 +135,26 @@ pub struct Scheduler<B: Build> {
     stage: Mutex<Stage<B>>,
     number: AtomicU64,
     /// The pool of the next superstep, where one was made.
-    next_pool: Mutex<Option<NextPool<B>>>,
+    next_pool: Mutex<PoolSlot<B>>,
     /// Whether nobody has made that pool yet, or is about to.
     wanted: AtomicBool,
 }
 
 impl<B: Build> Scheduler<B> {
-    /// The scheduler of a build that begins with this table. The only error is that memory ran out.
-    pub fn new(context: &BuildContext<'_, B>, table: Table<B>) -> Result<Scheduler<B>, AllocError> {
-        let workspaces = Vec::new(context.alloc);
+    /// The scheduler of a build that begins with this table, and with the seat of all workers. The only error is that memory ran out.
+    pub fn new(
+        context: &BuildContext<'_, B>,
+        table: Table<B>,
+        seat: ClaimSeat,
+    ) -> Result<Scheduler<B>, AllocError>
+        requires { IsFirstSeat B.claims table.first seat }
+    {
+        let workspaces = Workspaces::new(context.alloc);
+        let stage = growing_or_over(context, table, seat, workspaces, PoolSlot::empty())?;
         Ok(Scheduler {
-            stage: Mutex::new(growing_or_over(context, table, workspaces, None)?),
+            stage: Mutex::new(stage),
             number: AtomicU64::new(0),
-            next_pool: Mutex::new(None),
+            next_pool: Mutex::new(PoolSlot::empty()),
             wanted: AtomicBool::new(true),
         })
     }
@@ -125,49 +170,74 @@ impl<B: Build> Scheduler<B> {
         stage.task(me, workers)
     }
 
-    /// Hands in the output of a worker.
-    pub fn hand_in_output<R: Wait>(
+    /// Hands in what a worker has put.
+    pub fn hand_in_grown<R: Wait>(
         &self,
         rt: &R,
         context: &BuildContext<'_, B>,
-        one: Result<WorkerOutput<B>, AllocError>,
+        one: Result<Grown<B>, AllocError>,
     ) {
-        if let Stage::Growing {
-            superstep,
-            tasks: _,
-            outputs,
-        } = self.with_output(rt, one)
-        {
-            let next = merging(rt, context, superstep, outputs);
-            self.advance(rt, next);
+        if let Some(all) = self.add_grown(rt, context, one) {
+            self.advance(rt, merging(rt, context, all));
         }
     }
 
-    /// Adds a worker's output, and takes the stage out where no other is to come.
-    fn with_output<R: Wait>(&self, rt: &R, one: Result<WorkerOutput<B>, AllocError>) -> Stage<B> {
+    /// Adds what a worker has put, and takes the stage out where no other is to come, or where memory ran out.
+    fn add_grown<R: Wait>(
+        &self,
+        rt: &R,
+        context: &BuildContext<'_, B>,
+        one: Result<Grown<B>, AllocError>,
+    ) -> Option<Result<AllGrown<B>, AllocError>> {
         let mut stage = self.stage.lock(rt);
-        if stage.add_output(one) {
-            return replace(&mut *stage, Stage::Advancing);
+        match replace(&mut *stage, Stage::Advancing) {
+            Stage::Growing(growing) => match growing.with(context, one) {
+                Ok(Ok(all)) => Some(Ok(all)),
+                Ok(Err(growing)) => {
+                    *stage = Stage::Growing(growing);
+                    None
+                }
+                Err(fault) => Some(Err(fault)),
+            },
+            other => {
+                *stage = other;
+                Grown::let_go(one);
+                None
+            }
         }
-        Stage::Advancing
     }
 
     /// Hands in a shard that is merged.
     pub fn hand_in_merged<R: Wait>(&self, rt: &R, context: &BuildContext<'_, B>, one: Merged<B>) {
-        if let Stage::Merging(merging) = self.with_merged(rt, one) {
+        if let Some(all) = self.add_merged(rt, context, one) {
             let next_pool = self.take_next_pool(rt);
-            let next = after_merging(context, merging, next_pool);
-            self.advance(rt, next);
+            self.advance(rt, after_merging(context, all, next_pool));
         }
     }
 
-    /// Adds a shard that is merged, and takes the stage out where no other is to come.
-    fn with_merged<R: Wait>(&self, rt: &R, one: Merged<B>) -> Stage<B> {
+    /// Adds a shard that is merged, and takes the stage out where no other is to come, or where memory ran out.
+    fn add_merged<R: Wait>(
+        &self,
+        rt: &R,
+        context: &BuildContext<'_, B>,
+        one: Merged<B>,
+    ) -> Option<Result<AllMerged<B>, AllocError>> {
         let mut stage = self.stage.lock(rt);
-        if stage.add_merged(one) {
-            return replace(&mut *stage, Stage::Advancing);
+        match replace(&mut *stage, Stage::Advancing) {
+            Stage::Merging(shards) => match shards.with(one) {
+                Ok(Ok(all)) => Some(Ok(all)),
+                Ok(Err(shards)) => {
+                    *stage = Stage::Merging(shards);
+                    None
+                }
+                Err(fault) => Some(Err(fault)),
+            },
+            other => {
+                *stage = other;
+                one.let_go();
+                None
+            }
         }
-        Stage::Advancing
     }
 
     /// Makes the pool of the next superstep, unless somebody has or is about to: for a worker that has nothing else to do. Where
@@ -176,18 +246,18 @@ impl<B: Build> Scheduler<B> {
         if !self.wanted.swap(false, Ordering::SeqCst) {
             return;
         }
-        let Ok(made) = NextPool::new(context) else {
+        let Ok(made) = PoolSlot::new(context) else {
             return;
         };
         let mut next_pool = self.next_pool.lock(rt);
-        *next_pool = Some(made);
+        *next_pool = made;
     }
 
     /// Takes the pool that was made for the next superstep, if there is one, and asks for another.
-    fn take_next_pool<R: Wait>(&self, rt: &R) -> Option<NextPool<B>> {
+    fn take_next_pool<R: Wait>(&self, rt: &R) -> PoolSlot<B> {
         let mut next_pool = self.next_pool.lock(rt);
-        let made = next_pool.take();
-        if made.is_some() {
+        let made = replace(&mut *next_pool, PoolSlot::empty());
+        if made.is_made() {
             self.wanted.store(true, Ordering::SeqCst);
         }
         made
@@ -249,101 +319,49 @@ impl<B: Build> Scheduler<B> {
 /// How often a worker looks for the next stage in a round.
 const LOOKS: u32 = 64;
 
-/// Takes a task out, the worker's own share of them first.
-fn take_from<T: Drop>(tasks: &mut Vec<Option<T>>, me: u32, workers: u32) -> Option<T> {
-    let count = tasks.len();
-    let from = (me as usize).saturating_mul(count) / (workers.max(1) as usize);
-    for k in from..count {
-        if let Some(task) = tasks[k].take() {
-            return Some(task);
-        }
-    }
-    for k in 0..count {
-        if let Some(task) = tasks[k].take() {
-            return Some(task);
-        }
-    }
-    None
-}
-
-/// The stage in which trees grow over this table, or the end where it goes far enough. The only error is that memory ran out.
+/// The stage in which trees grow over this table, with the seat of all workers, or the end where the table goes far enough. The only
+/// error is that memory ran out.
 fn growing_or_over<B: Build>(
     context: &BuildContext<'_, B>,
     table: Table<B>,
-    workspaces: Vec<Workspace<B>>,
-    next_pool: Option<NextPool<B>>,
-) -> Result<Stage<B>, AllocError> {
+    seat: ClaimSeat,
+    workspaces: Workspaces<B>,
+    next_pool: PoolSlot<B>,
+) -> Result<Stage<B>, AllocError>
+    requires { IsFirstSeat B.claims table.first seat }
+{
     if table.first() >= context.goal {
         return Ok(Stage::Over(Ok(LastTable { table })));
     }
-    growing(context, table, workspaces, next_pool)
+    let tasks = begin_superstep(context, table, seat, workspaces, next_pool)?;
+    let outputs = Outputs::new(context)?;
+    Ok(Stage::Growing(Growing { tasks, outputs }))
 }
 
-/// The stage in which trees grow over this table, with this pool, or where there is none with a new one. The only error is that
-/// memory ran out.
-fn growing<B: Build>(
-    context: &BuildContext<'_, B>,
-    table: Table<B>,
-    workspaces: Vec<Workspace<B>>,
-    next_pool: Option<NextPool<B>>,
-) -> Result<Stage<B>, AllocError> {
-    let next_pool = pool_or_new(context, next_pool)?;
-    let (superstep, tasks) = begin_superstep(context, table, workspaces, next_pool)?;
-    let outputs = Vec::with_capacity(context.alloc, tasks.len())?;
-    Ok(Stage::Growing {
-        superstep,
-        tasks,
-        outputs,
-    })
-}
-
-/// The stage in which these outputs are merged in the table of the superstep. The only error is that memory ran out.
+/// The stage in which all that workers have put is merged in the table of their superstep. The only error is that memory ran out.
 fn merging<B: Build, R: Wait>(
     rt: &R,
     context: &BuildContext<'_, B>,
-    superstep: Arc<Superstep<B>, Global>,
-    outputs: Vec<Result<WorkerOutput<B>, AllocError>>,
+    all: Result<AllGrown<B>, AllocError>,
 ) -> Result<Stage<B>, AllocError> {
-    let table = alone(rt, superstep).into_table();
-    Ok(Stage::Merging(begin_merging(context, table, outputs)?))
+    let AllGrown { outputs } = all?;
+    let EndedSuperstep {
+        table,
+        outputs,
+        next,
+        seat,
+    } = end_superstep(rt, context, outputs)?;
+    let merging = begin_merging(context, table, outputs, next)?;
+    Ok(Stage::Merging(MergingShards { merging, seat }))
 }
 
 /// The stage after the shards are merged: trees grow over their table, or the end. The only error is that memory ran out.
 fn after_merging<B: Build>(
     context: &BuildContext<'_, B>,
-    merging: Merging<B>,
-    next_pool: Option<NextPool<B>>,
+    all: Result<AllMerged<B>, AllocError>,
+    next_pool: PoolSlot<B>,
 ) -> Result<Stage<B>, AllocError> {
-    let Merging {
-        tasks: _,
-        merged,
-        next,
-        workspaces,
-    } = merging;
-    let mut workspaces = workspaces;
-    let table = merged_table(context, merged, next, &mut workspaces)?;
-    growing_or_over(context, table, workspaces, next_pool)
-}
-
-/// The pool, or where there is none a new one. The only error is that memory ran out.
-fn pool_or_new<B: Build>(
-    context: &BuildContext<'_, B>,
-    next_pool: Option<NextPool<B>>,
-) -> Result<NextPool<B>, AllocError> {
-    match next_pool {
-        Some(next_pool) => Ok(next_pool),
-        None => NextPool::new(context),
-    }
-}
-
-/// The superstep, once all others have let go of it.
-fn alone<B: Build, R: Wait>(rt: &R, superstep: Arc<Superstep<B>, Global>) -> Superstep<B> {
-    let mut superstep = superstep;
-    for _ in rt.forever() {
-        match Arc::try_unwrap(superstep) {
-            Ok(superstep) => return superstep,
-            Err(again) => superstep = again,
-        }
-    }
-    unreachable!()
+    let AllMerged { merging, seat } = all?;
+    let (table, workspaces) = merged_table(context, merging)?;
+    growing_or_over(context, table, seat, workspaces, next_pool)
 }

@@ -1,23 +1,28 @@
 //! The workers of a build: each stays in a thread of its own from its beginning to its end.
 ghost use Rattle.std.specs.Prelude.{◌<◌};
+ghost use Rattle.gll_superstep.specs.Workers.{IsFirstSeat};
 ghost use Rattle.std.specs.Thread.{IsSend, IsSync};
 
 use crate::scheduler::{LastTable, Scheduler, Task};
 use desk_io::Gate;
 use gll_table::{Build, BuildContext, Table};
 use label_clean::Cleaner;
+use root_claims::ClaimSeat;
 use std::alloc::AllocError;
 use std::sync::Wait;
 use std::thread::{Threads, join_mut};
 
-/// What a build that begins with this table comes to. The only error is that memory ran out.
+/// What a build that begins with this table comes to, whose workers claim roots with seats that are split from this one. The only error is that memory ran out.
 pub fn run_workers<B: Build + Send + Sync, R: Threads + Wait + Sync, G: Gate + Sync>(
     rt: &R,
     context: &BuildContext<'_, B>,
     table: Table<B>,
+    seat: ClaimSeat,
     gate: &G,
-) -> Result<LastTable<B>, AllocError> {
-    let scheduler = Scheduler::new(context, table)?;
+) -> Result<LastTable<B>, AllocError>
+    requires { IsFirstSeat B.claims table.first seat }
+{
+    let scheduler = Scheduler::new(context, table, seat)?;
     all_work(rt, context, &scheduler, gate, context.workers);
     scheduler.last_table(rt, context.rounds)
 }
@@ -71,7 +76,7 @@ fn work<B: Build, R: Wait, G: Gate>(
     for _ in rt.forever() {
         let number = scheduler.number();
         match scheduler.take(rt, me, context.workers) {
-            Task::Grow(task) => scheduler.hand_in_output(rt, context, task.grow(rt, context, gate)),
+            Task::Grow(task) => scheduler.hand_in_grown(rt, context, task.grow(rt, context, gate)),
             Task::Merge(task) => scheduler.hand_in_merged(rt, context, task.merge(&mut cleaner)),
             Task::Wait => {
                 scheduler.make_next_pool(rt, context);

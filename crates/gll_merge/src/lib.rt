@@ -2,7 +2,7 @@
 //!
 //! [`begin_merging`] makes a [`MergeTask`] for each shard of a table, [`MergeTask::merge`] does it, and [`merged_table`] makes a table
 //! of the shards again. It stands on gll_table (the table, and what workers hand in), label_clean and hub_index. Its callers' clauses use
-//! `specs/Merging` (`IsMergingOf`, and what contracts see of a task and of a merged shard).
+//! `specs/Merging` (`AreTasksFrom`, and what contracts see of a task and of a merged shard).
 #![tactic(auto)]
 
 mod merge_tasks;

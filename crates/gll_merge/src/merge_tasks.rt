@@ -1,61 +1,122 @@
 //! What all workers put in a superstep becomes tasks to merge it in the table, shard by shard.
-ghost use Rattle.std.specs.Prelude.{◌≡◌, ℕ, ◌+◌, ◌<◌, ◌≤◌, List, [], ◌∷◌, ◌++◌, All, length, map, take, vec_len, IfOk, OnOk};
+ghost use Rattle.std.specs.Prelude.{◌≡◌, ℕ, ◌+◌, ◌<◌, ◌≤◌, List, [], ◌∷◌, ◌++◌, All, None, Ok, length, map, replicate, take, vec_len, IfOk, OnOk};
+ghost use Rattle.std.specs.List.Sorted.{IsPermutation};
 ghost use Rattle.hub_index.specs.Shards.{shard_count};
 ghost use Rattle.label_clean.specs.declared.hub_rows.HubEntry.{HubEntry};
 ghost use Rattle.label_clean.specs.HubRows.{AreGathered};
 ghost use Rattle.gll_table.specs.Partition.{ListsHubs};
-ghost use Rattle.gll_table.specs.Outputs.{all_put};
-ghost use Rattle.gll_merge.specs.Merging.{AreTasksFrom, IsMerge, IsMergingOf, lists_at};
+ghost use Rattle.table_seats.specs.Numbers.{numbers};
+ghost use Rattle.gll_table.specs.Outputs.{IsOutput, all_put, all_roots};
+ghost use Rattle.gll_merge.specs.Merging.{AreTasksFrom, IsMerge, OneShard, are_filled, lists_at, with_shard};
 ghost use Rattle.gll_table.specs.Tables.{AreShardsBelow, IsShardBelow};
 
 use crate::merging::{MergeTask, Merged, Shard};
-use gll_table::{
-    Build, BuildContext, Table, WorkerOutput, Workspace, collect_outputs, hubs_below, next_root,
-};
+use crate::putting_together::{places_for, put_at};
+use gll_table::{Build, BuildContext, Table, WorkerOutput, Workspaces, hubs_below, take_from};
 use hub_index::SplitRows;
 use label_clean::{HubRows, RunList};
 use std::alloc::{AllocError, Global};
-use std::marker::PhantomData;
+use std::marker::{Model, PhantomData};
 use std::sync::Arc;
 
-/// The shards of a table on their way up to the position `next`, from 0, of the next root: the tasks that nobody has taken, what is
-/// merged, and the workers' workspaces.
-#[derive(Drop)]
+/// The shards of a table on their way up to the position `next`, from 0, of the next root: the tasks that nobody has taken, the rows of
+/// each shard that is merged, at the place of its number, and the workers' workspaces. Contracts see them.
 pub struct Merging<B: Build> {
-    pub tasks: Vec<Option<MergeTask<B>>>,
-    pub merged: Vec<Merged<B>>,
-    pub next: u32,
-    pub workspaces: Vec<Workspace<B>>,
-    ghost within: { next ≤ length B.order },
+    pub(crate) tasks: Vec<Option<MergeTask<B>>>,
+    pub(crate) places: Vec<Option<SplitRows>>,
+    pub(crate) next: u32,
+    pub(crate) workspaces: Workspaces<B>,
 }
 
-/// For each shard of the table the task to merge what all workers put there. The error is that memory ran out, for one of them
-/// or here, that one of them grew trees over another table, or that the roots whose trees were grown aren't those that come next, each
-/// once.
+impl<B: Build> Model for Merging<B> {
+    ghost use Rattle.gll_merge.specs.Merging.{ArePlaced, MergingView};
+
+    ghost Value = { MergingView };
+
+    ghost view = { λ m. record { tasks = m.tasks.items; places = m.places.items; next = m.next; workspaces = m.workspaces } };
+
+    ghost invariant = { λ m. ArePlaced B.edges B.order B.shift m.next m.places.items };
+}
+
+// Written out, so that crates above prove no drop of what it holds.
+impl<B: Build> Drop for Merging<B> {
+    fn drop(self) {
+        let Merging {
+            tasks: _,
+            places: _,
+            next: _,
+            workspaces: _,
+        } = self;
+    }
+}
+
+impl<B: Build> Merging<B> {
+    /// Takes a task out for the worker of this number, from 0, of so many.
+    pub fn take(&mut self, me: u32, workers: u32) -> Option<MergeTask<B>>
+        ensures places { self.new.places ≡ self.old.places }
+        ensures next { self.new.next ≡ self.old.next }
+    {
+        take_from(&mut self.tasks, me, workers)
+    }
+
+    /// Adds a shard that is merged, and hands its lists back to the workspaces. A shard that has no place, or not this position, is
+    /// let go. The only error is that memory ran out, for the shard or here.
+    pub fn add(&mut self, one: Merged<B>) -> Result<(), AllocError>
+        ensures added { OnOk result ((shard : OneShard) × (one.shard ≡ Ok shard) × (self.new.places ≡ with_shard self.old.next self.old.places shard)) }
+        ensures next { self.new.next ≡ self.old.next }
+        ensures workspaces { self.new.workspaces ≡ self.old.workspaces }
+    {
+        let Merged { shard, lists } = one;
+        self.workspaces.hand_back(lists)?;
+        put_at(self.next, shard?, &mut self.places);
+        Ok(())
+    }
+
+    /// Whether each shard is merged.
+    pub fn is_whole(&self) -> bool
+        ensures { result ≡ are_filled self.now.places }
+    {
+        for place in &self.places {
+            if place.is_none() {
+                return false;
+            }
+        }
+        true
+    }
+}
+
+/// For each shard of the table the task to merge what all workers of the build have put there over it: that is of the roots from its
+/// first position up to the position `next`, from 0, each once. The only error is that memory ran out.
 pub fn begin_merging<B: Build>(
     context: &BuildContext<'_, B>,
     table: Table<B>,
-    outputs: Vec<Result<WorkerOutput<B>, AllocError>>,
+    outputs: Vec<WorkerOutput<B>>,
+    next: u32,
 ) -> Result<Merging<B>, AllocError>
-    ensures tasks { IfOk result (λ merging. IsMergingOf table outputs.items merging.next merging.tasks.items) }
-    ensures none_yet { IfOk result (λ merging. merging.merged.items ≡ []) }
-    ensures workspaces { IfOk result (λ merging. vec_len merging.workspaces ≡ vec_len outputs) }
+    requires workers { vec_len outputs ≡ B.workers }
+    requires up { table.first ≤ next }
+    requires within { next ≤ length B.order }
+    requires over { All (λ o. o.first ≡ table.first) outputs.items }
+    requires are { All (IsOutput B.edges B.order B.shift) outputs.items }
+    requires roots { IsPermutation (all_roots outputs.items) (numbers table.first next) }
+    ensures next { IfOk result (λ merging. merging.next ≡ next) }
+    ensures tasks { IfOk result (λ merging. AreTasksFrom 0 table.first next table.shards (map (λ o. o.parts) outputs.items) merging.tasks) }
+    ensures none_yet { IfOk result (λ merging. merging.places ≡ replicate (shard_count B.shift (length B.order)) None) }
+    ensures workspaces { IfOk result (λ merging. merging.workspaces ≡ vec_len outputs) }
 {
     let n = context.graph.n();
     let ranked = context.ranking.n();
     prove!(n == ranked);
     let alloc = context.alloc;
     let first = table.first();
-    let outputs = collect_outputs(alloc, first, outputs)?;
-    let next = next_root(alloc, first, n, &outputs)?;
     let hub_rows = rows_of_hubs(context, first, next, &outputs)?;
     let (workspaces, parts) = taken_apart(alloc, outputs)?;
     let shards = table.into_shards();
     let tasks = tasks_for(alloc, first, context.count, shards, next, parts, &hub_rows)?;
-    let merged = Vec::with_capacity(alloc, tasks.len())?;
+    let places = places_for(alloc, context.count)?;
     Ok(Merging {
         tasks,
-        merged,
+        places,
         next,
         workspaces,
     })
@@ -83,11 +144,11 @@ fn rows_of_hubs<B: Build>(
 fn taken_apart<B: Build>(
     alloc: Global,
     outputs: Vec<WorkerOutput<B>>,
-) -> Result<(Vec<Workspace<B>>, Vec<Vec<RunList>>), AllocError>
-    ensures workspaces { IfOk result (λ parts. vec_len parts.0 ≡ vec_len outputs) }
+) -> Result<(Workspaces<B>, Vec<Vec<RunList>>), AllocError>
+    ensures workspaces { IfOk result (λ parts. parts.0 ≡ vec_len outputs) }
     ensures parts { IfOk result (λ parts. map (λ d. d.items) parts.1.items ≡ map (λ o. o.parts) outputs.items) }
 {
-    let mut workspaces = Vec::with_capacity(alloc, outputs.len())?;
+    let mut workspaces = Workspaces::new(alloc);
     let mut parts = Vec::with_capacity(alloc, outputs.len())?;
     for output in outputs {
         add_parts(alloc, output, &mut workspaces, &mut parts)?;
@@ -99,15 +160,15 @@ fn taken_apart<B: Build>(
 fn add_parts<B: Build>(
     alloc: Global,
     output: WorkerOutput<B>,
-    workspaces: &mut Vec<Workspace<B>>,
+    workspaces: &mut Workspaces<B>,
     parts: &mut Vec<Vec<RunList>>,
 ) -> Result<(), AllocError>
-    ensures workspaces { OnOk result (vec_len workspaces.new ≡ vec_len workspaces.old + 1) }
+    ensures workspaces { OnOk result (workspaces.new ≡ workspaces.old + 1) }
     ensures parts { OnOk result (map (λ d. d.items) parts.new.items ≡ map (λ d. d.items) parts.old.items ++ output.parts ∷ []) }
 {
     let (workspace, lists) = output.into_parts(alloc);
     parts.push(lists)?;
-    workspaces.push(workspace)?;
+    workspaces.add(workspace)?;
     Ok(())
 }
 

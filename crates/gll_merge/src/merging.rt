@@ -67,6 +67,11 @@ impl<B: Build> Model for Merged<B> {
     ghost view = { λ m. record { shard = m.shard; lists = m.lists.items } };
 }
 
+impl<B: Build> Merged<B> {
+    /// Lets go of it, where the build is over for want of memory.
+    pub fn let_go(self) {}
+}
+
 impl<B: Build> MergeTask<B> {
     /// Merges the lists in the shard, which is the labelling up to the task's next position then. The lists come back in any case. The only
     /// error that stands in the shard's place is that memory ran out.

@@ -1,3 +1,5 @@
 pub mod DoneWorkers
 pub mod UncoveredPuts
 pub mod GrownLists
+pub mod FirstSeats
+pub mod JoinedOutputs

@@ -1,17 +1,17 @@
 -- The workers of a superstep: what each takes, and what each hands back.
-use Rattle.std.specs.Prelude.{◌≡◌, ◌⊎◌, ℕ, ◌+◌, ◌*◌, ◌≤◌, true, false, List, Result, [], None, All, IfOk, length}
+use Rattle.std.specs.Prelude.{◌≡◌, ◌⊎◌, ℕ, ◌+◌, ◌*◌, ◌≤◌, true, false, List, Option, Result, [], None, Some, All, IfOk, length}
 use Rattle.std.specs.declared.alloc.AllocError.{AllocError}
 use Rattle.walk_laws.specs.declared.graph.Edge.{Edge}
 use Rattle.walk_laws.specs.declared.entry.Entry.{Entry}
 use Rattle.hub_index.specs.declared.node_entry.NodeEntry.{NodeEntry}
 use Rattle.hub_index.specs.NodeEntries.{entries_of_node}
 use Rattle.hub_index.specs.Views.{IsNode}
-use Rattle.root_claims.specs.Seats.{Claimed, ClaimsId, IsSeatOf as IsClaimSeatOf}
+use Rattle.root_claims.specs.Seats.{Claimed, ClaimsId, IsSeatOf as IsClaimSeatOf, from}
 use Rattle.label_pool.specs.Seats.{PoolId, IsSeatOf, Seated}
 use Rattle.label_clean.specs.Needless.{IsNeedless}
 use Rattle.pool_view.specs.Fitting.{Fitting, IsFittingPool, edges_of, order_of}
 use Rattle.pool_view.specs.Putting.{IsListOf}
-use Rattle.gll_table.specs.Outputs.{IsPutBy}
+use Rattle.gll_table.specs.Outputs.{IsOutput, IsPutBy, Output, all_roots}
 use Rattle.gll_table.specs.Tables.{ShardedTable}
 use Rattle.gll_superstep.specs.declared.growing.Seats.{Seats}
 
@@ -27,6 +27,34 @@ pub record AreSeatsOf (claims : ClaimsId) (pool : PoolId Fitting) (left : ℕ) (
   pub pool_seat : IsSeatOf pool seats.pool
   pub claim_left : seats.claims.left ≡ left
   pub pool_left : seats.pool.left ≡ left
+
+-- the seat is that of all workers, and nobody has claimed a root from that position on, where one is left
+pub record IsFirstSeat (claims : ClaimsId) (first : ℕ) (seat : Claimed) : Type 0 where
+  pub seat_is : IsClaimSeatOf (from first claims) seat
+  pub all : seat.left + 1 ≡ claims.seats
+  pub got : seat.got ≡ []
+  pub over : seat.over ≡ true → first ≡ claims.n
+
+-- the output is what trees put over the table up to that position, and the seat has got their roots
+pub record IsGrownWith (edges : List Edge) (at : List ℕ) (shift : ℕ) (claims : ClaimsId) (first : ℕ) (seat : Claimed) (output : Output) : Type 0 where
+  pub seat_is : IsClaimSeatOf (from first claims) seat
+  pub left : seat.left ≡ 0
+  pub got : seat.got ≡ output.roots
+  pub first_is : output.first ≡ first
+  pub is : IsOutput edges at shift output
+
+-- the outputs are over the table up to that position, and the seat, which was joined from theirs, has got all their roots
+pub record AreJoined (edges : List Edge) (at : List ℕ) (shift : ℕ) (claims : ClaimsId) (first : ℕ) (seat : Claimed) (outputs : List Output) : Type 0 where
+  pub seat_is : IsClaimSeatOf (from first claims) seat
+  pub count : seat.left + 1 ≡ length outputs
+  pub got : seat.got ≡ all_roots outputs
+  pub over : All (λ o. o.first ≡ first) outputs
+  pub are : All (IsOutput edges at shift) outputs
+
+-- what was joined so far
+abbrev pub so_far : Option (List Output) → List Output
+so_far None = []
+so_far (Some outputs) = outputs
 
 -- nothing was done with the seats yet
 pub record AreNew (seats : Seats) : Type 0 where

@@ -1,9 +1,10 @@
 //! What a worker is to do in a superstep.
 
 use crate::growing::{Seats, grow_share};
+use crate::grown::Grown;
 use crate::superstep::Superstep;
 use desk_io::Gate;
-use gll_table::{Build, BuildContext, WorkerOutput, Workspace};
+use gll_table::{Build, BuildContext, WorkerOutput, Workspace, take_from};
 use std::alloc::{AllocError, Global};
 use std::marker::Model;
 use std::sync::{Arc, Wait};
@@ -27,6 +28,33 @@ impl<B: Build> Model for GrowTask<B> {
     ghost invariant = { λ t. AreSeatsOf t.superstep.value.claims t.superstep.value.pool 0 t.seats × AreNew t.seats };
 }
 
+/// The tasks of a superstep that nobody has taken. Contracts see how many there were.
+pub struct GrowTasks<B: Build> {
+    pub(crate) tasks: Vec<Option<GrowTask<B>>>,
+}
+
+impl<B: Build> Model for GrowTasks<B> {
+    ghost use Rattle.std.specs.Prelude.{ℕ, vec_len};
+
+    ghost Value = { ℕ };
+
+    ghost view = { λ t. vec_len t.tasks };
+}
+
+// Written out, so that crates above prove no drop of what it holds.
+impl<B: Build> Drop for GrowTasks<B> {
+    fn drop(self) {
+        let GrowTasks { tasks: _ } = self;
+    }
+}
+
+impl<B: Build> GrowTasks<B> {
+    /// Takes a task out for the worker of this number, from 0, of so many.
+    pub fn take(&mut self, me: u32, workers: u32) -> Option<GrowTask<B>> {
+        take_from(&mut self.tasks, me, workers)
+    }
+}
+
 impl<B: Build> GrowTask<B> {
     /// Claims roots and grows their trees until the worker is done, and then cuts what it put in parts for the shards. Its gate
     /// is told of each root when its tree begins, and when it ends with the number of entries put. The only error is that memory
@@ -36,14 +64,25 @@ impl<B: Build> GrowTask<B> {
         rt: &R,
         context: &BuildContext<'_, B>,
         gate: &G,
-    ) -> Result<WorkerOutput<B>, AllocError> {
+    ) -> Result<Grown<B>, AllocError> {
         let GrowTask {
             superstep,
             seats,
             workspace,
         } = self;
-        let (_, workspace, memory) = grow_share(rt, context, &superstep, seats, workspace, gate);
+        let (seats, workspace, memory) = grow_share(
+            rt, context, &superstep, seats, workspace, gate,
+        );
         memory?;
-        WorkerOutput::new(context, workspace, superstep.table.first())
+        let output = WorkerOutput::new(context, workspace, superstep.table.first())?;
+        let Seats {
+            claims: seat,
+            pool: _,
+        } = seats;
+        Ok(Grown {
+            superstep,
+            seat,
+            output,
+        })
     }
 }

@@ -1,7 +1,7 @@
 //! One worker of a superstep: the trees of the roots that its seat claims.
 ghost use Rattle.std.specs.Prelude.{◌≡◌, ◌⊎◌, ◌*◌, ◌<◌, ◌≤◌, ◌++◌, ◌∷◌, true, false, [], IsOk, IfOk, IfSome, IfNone, IsTrue, OnOk, length, nat_eq};
 ghost use Rattle.std.specs.List.{IsDistinct};
-ghost use Rattle.root_claims.specs.Seats.{IsSeatOf as IsClaimSeatOf};
+ghost use Rattle.root_claims.specs.Seats.{IsSeatAt, IsSeatOf as IsClaimSeatOf};
 ghost use Rattle.pruned_tree.specs.GrownBy.{HasGrown};
 ghost use Rattle.hub_index.specs.Shards.{sharded_rows};
 ghost use Rattle.pool_view.specs.Fitting.{edges_of, order_of};
@@ -107,12 +107,12 @@ fn grow_trees<B: Build, R: Wait, G: Gate>(
     gate: &G,
 ) -> Result<(), AllocError>
     requires work { work.old ≡ context.now.graph.now.n }
-    requires seat { IsClaimSeatOf superstep.now.claims seat.old }
+    requires seat { IsSeatAt context.now.claims.now seat.old }
     requires over { seat.old.over ≡ false }
     requires edges { edges_of view.old.seat.pool.fact ≡ context.now.graph.now.edges }
     requires order { order_of view.old.seat.pool.fact ≡ context.now.ranking.now }
     ensures work { work.new ≡ work.old }
-    ensures seat { IsClaimSeatOf superstep.now.claims seat.new }
+    ensures seat { seat.new.claims ≡ seat.old.claims }
     ensures left { seat.new.left ≡ seat.old.left }
     ensures begun { (seat.new.over ≡ true) ⊎ (1 ≤ length seat.new.got) }
     ensures listed { OnOk result (roots.old.items ≡ seat.old.got → roots.new.items ≡ seat.new.got) }
@@ -122,7 +122,7 @@ fn grow_trees<B: Build, R: Wait, G: Gate>(
 {
     let mut put = 0u64;
     for _ in rt.forever() {
-        match next_tree(context, superstep, seat, view, work, gate) {
+        match next_tree(context, seat, view, work, gate) {
             Ok(Some(tree)) => {
                 roots.push(tree.root)?;
                 let before = put;
@@ -175,19 +175,18 @@ struct Tree {
 /// then claimed, and the entries put stay.
 fn next_tree<B: Build, R: Wait, G: Gate>(
     context: &BuildContext<'_, B>,
-    superstep: &Superstep<B>,
     seat: &mut ClaimSeat,
     view: &mut PoolView<'_, R>,
     work: &mut Work,
     gate: &G,
 ) -> Result<Option<Tree>, AllocError>
     requires work { work.old ≡ context.now.graph.now.n }
-    requires seat { IsClaimSeatOf superstep.now.claims seat.old }
+    requires seat { IsSeatAt context.now.claims.now seat.old }
     requires over { seat.old.over ≡ false }
     requires edges { edges_of view.old.seat.pool.fact ≡ context.now.graph.now.edges }
     requires order { order_of view.old.seat.pool.fact ≡ context.now.ranking.now }
     ensures work { work.new ≡ work.old }
-    ensures seat { IsClaimSeatOf superstep.now.claims seat.new }
+    ensures seat { seat.new.claims ≡ seat.old.claims }
     ensures left { seat.new.left ≡ seat.old.left }
     ensures once { IsDistinct nat_eq seat.new.got }
     ensures begun { (seat.new.over ≡ true) ⊎ (1 ≤ length seat.new.got) }
@@ -198,7 +197,7 @@ fn next_tree<B: Build, R: Wait, G: Gate>(
     ensures grown { HasGrown context.now.graph.now.edges context.now.ranking.now (IsOk result) seat.old.got seat.new.got (puts_row view.old) (puts_row view.new) }
     ensures apart { StayUncovered context.now.ranking.now view.old.global (puts_row view.old) (puts_row view.new) }
 {
-    let p = match superstep.claims.claim(seat) {
+    let p = match context.claims.claim(seat) {
         Claim::Root(p) => p,
         Claim::End => return Ok(None),
     };

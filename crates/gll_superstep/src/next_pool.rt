@@ -55,6 +55,46 @@ impl<B: Build> NextPool<B> {
     }
 }
 
+/// A pool for the next superstep, where one was made.
+pub struct PoolSlot<B: Build> {
+    made: Option<NextPool<B>>,
+}
+
+// Written out, so that crates above prove no drop of what it holds.
+impl<B: Build> Drop for PoolSlot<B> {
+    fn drop(self) {
+        let PoolSlot { made: _ } = self;
+    }
+}
+
+impl<B: Build> PoolSlot<B> {
+    /// None.
+    pub fn empty() -> PoolSlot<B> {
+        PoolSlot { made: None }
+    }
+
+    /// A pool for the build's workers. The only error is that memory ran out.
+    pub fn new(context: &BuildContext<'_, B>) -> Result<PoolSlot<B>, AllocError> {
+        Ok(PoolSlot {
+            made: Some(NextPool::new(context)?),
+        })
+    }
+
+    /// Whether there is one.
+    pub fn is_made(&self) -> bool {
+        self.made.is_some()
+    }
+
+    /// The pool, or where there is none a new one. The only error is that memory ran out.
+    pub(crate) fn or_new(self, context: &BuildContext<'_, B>) -> Result<NextPool<B>, AllocError> {
+        let mut slot = self;
+        match slot.made.take() {
+            Some(next_pool) => Ok(next_pool),
+            None => NextPool::new(context),
+        }
+    }
+}
+
 /// How many cells the pool of a superstep has: the workers' cuts together, up to a bound.
 fn cells_for(workers: u32, cut: u32) -> u32
     requires { (1 ≤ workers) × (1 ≤ cut) }

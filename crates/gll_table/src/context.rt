@@ -6,13 +6,14 @@ use crate::named::Build;
 use hub_index::Shards;
 use rank_table::Ranking;
 use rayon::current_num_threads;
+use root_claims::Claims;
 use std::alloc::Global;
 use std::marker::PhantomData;
 use std::thread::Threads;
 use walk_laws::Graph;
 
 /// What all workers of a build know: the graph, a ranking of its nodes, how the table is cut in shards, how many workers there
-/// are, how many entries each puts at least in a superstep, and how far the build goes.
+/// are, the claims of the roots, how many entries each puts at least in a superstep, and how far the build goes.
 #[derive(Drop)]
 pub struct BuildContext<'a, B: Build> {
     pub alloc: Global,
@@ -22,6 +23,7 @@ pub struct BuildContext<'a, B: Build> {
     /// How many shards there are.
     pub count: u32,
     pub workers: u32,
+    pub claims: &'a Claims,
     pub cut: u32,
     /// The position, from 0, at which the build is over, or past which: that of the next root then.
     pub goal: u32,
@@ -37,8 +39,12 @@ pub struct BuildContext<'a, B: Build> {
     ghost workers_are: { workers ≡ B.workers },
     ghost some: { 1 ≤ workers },
     ghost few: { workers ≤ 64 },
+    ghost claims_are: { claims.now ≡ B.claims },
+    ghost claims_to: { B.claims.n ≡ length B.order },
+    ghost claims_for: { B.claims.seats ≡ B.workers },
     ghost cut_is: { 1 ≤ cut },
     ghost goal_is: { goal ≡ B.goal },
+    ghost goal_to: { goal ≤ length B.order },
 }
 
 impl<'a, B: Build> BuildContext<'a, B> {
@@ -50,6 +56,7 @@ impl<'a, B: Build> BuildContext<'a, B> {
         ranking: &'a Ranking,
         plan: Shards,
         workers: u32,
+        claims: &'a Claims,
         cut: u32,
         goal: u32,
     ) -> BuildContext<'a, B>
@@ -60,8 +67,12 @@ impl<'a, B: Build> BuildContext<'a, B> {
         requires shift { plan.shift ≤ 30 }
         requires workers_are { workers ≡ B.workers }
         requires workers { (1 ≤ workers) × (workers ≤ 64) }
+        requires claims { claims.now ≡ B.claims }
+        requires claims_to { B.claims.n ≡ length B.order }
+        requires claims_for { B.claims.seats ≡ B.workers }
         requires cut { 1 ≤ cut }
         requires goal { goal ≡ B.goal }
+        requires goal_to { goal ≤ length B.order }
         ensures { result.cut ≡ cut }
     {
         let n = graph.n();
@@ -72,6 +83,7 @@ impl<'a, B: Build> BuildContext<'a, B> {
             plan,
             count: plan.count(n),
             workers,
+            claims,
             cut,
             goal,
             rounds: rounds_for(rt, workers),

@@ -1,10 +1,8 @@
 //! What all workers have put in a superstep comes together.
-ghost use Rattle.std.specs.Prelude.{◌≡◌, ◌≤◌, ◌++◌, List, All, map, IfOk, OnOk};
-ghost use Rattle.std.specs.List.Sorted.{IsPermutation};
+ghost use Rattle.std.specs.Prelude.{◌≡◌, ◌++◌, List, IfOk, OnOk};
 ghost use Rattle.walk_laws.specs.Ranking.{IsRanking};
 ghost use Rattle.label_clean.specs.declared.hub_rows.HubEntry.{HubEntry};
-ghost use Rattle.table_seats.specs.Numbers.{numbers};
-ghost use Rattle.gll_table.specs.Outputs.{HavePutOver, IsOutput, all_put, all_roots};
+ghost use Rattle.gll_table.specs.Outputs.{HavePutOver, IsOutput, all_put};
 ghost use Rattle.gll_table.specs.Partition.{ListsHubs};
 
 use crate::context::BuildContext;
@@ -51,6 +49,7 @@ impl<B: Build> WorkerOutput<B> {
         ensures first { IfOk result (λ output. output.first ≡ first) }
         ensures roots { IfOk result (λ output. output.roots ≡ workspace.roots.items) }
         ensures list { IfOk result (λ output. output.list ≡ workspace.list.items) }
+        ensures is { IfOk result (IsOutput B.edges B.order B.shift) }
     {
         let mut workspace = workspace;
         let room = &mut workspace;
@@ -82,77 +81,6 @@ impl<B: Build> WorkerOutput<B> {
         let parts = replace(&mut workspace.parts, Vec::new(alloc));
         (workspace, parts)
     }
-}
-
-/// What all workers have put over the table up to the position `first`, from 0: each of these outputs, in their order. The error is
-/// that memory ran out for one of them, or here, or that one of them grew trees over another table.
-pub fn collect_outputs<B: Build>(
-    alloc: Global,
-    first: u32,
-    outputs: Vec<Result<WorkerOutput<B>, AllocError>>,
-) -> Result<Vec<WorkerOutput<B>>, AllocError>
-    ensures all { IfOk result (λ collected. map (λ o. Ok o) collected.items ≡ outputs.items) }
-    ensures first { IfOk result (λ collected. All (λ o. o.first ≡ first) collected.items) }
-    ensures are { IfOk result (λ collected. All (IsOutput B.edges B.order B.shift) collected.items) }
-{
-    let mut collected = Vec::with_capacity(alloc, outputs.len())?;
-    for output in outputs {
-        collected.push(output_over(first, output)?)?;
-    }
-    Ok(collected)
-}
-
-/// What a worker has put over the table up to the position `first`, from 0. The error is that memory ran out for it, or that it
-/// grew trees over another table.
-fn output_over<B: Build>(
-    first: u32,
-    output: Result<WorkerOutput<B>, AllocError>,
-) -> Result<WorkerOutput<B>, AllocError>
-    ensures same { IfOk result (λ o. Ok o ≡ output) }
-    ensures first { IfOk result (λ o. o.first ≡ first) }
-    ensures is { IfOk result (IsOutput B.edges B.order B.shift) }
-{
-    let output = output?;
-    if output.first != first {
-        return Err(AllocError);
-    }
-    Ok(output)
-}
-
-/// The position, from 0, of the root after those whose trees were grown, if these are the ones from `first` on, each once, and
-/// below `n`. The error is that they aren't, or that memory ran out.
-pub fn next_root<B: Build>(
-    alloc: Global,
-    first: u32,
-    n: u32,
-    outputs: &[WorkerOutput<B>],
-) -> Result<u32, AllocError>
-    requires { first ≤ n }
-    ensures up { IfOk result (λ next. first ≤ next) }
-    ensures within { IfOk result (λ next. next ≤ n) }
-    ensures roots { IfOk result (λ next. IsPermutation (all_roots outputs.now) (numbers first next)) }
-{
-    let mut roots = roots_of(alloc, outputs)?;
-    roots.sort_unstable();
-    let mut next = first;
-    for root in roots.iter() {
-        if *root != next || next >= n {
-            return Err(AllocError);
-        }
-        next += 1;
-    }
-    Ok(next)
-}
-
-/// The roots of all workers. The only error is that memory ran out.
-fn roots_of<B: Build>(alloc: Global, outputs: &[WorkerOutput<B>]) -> Result<Vec<u32>, AllocError>
-    ensures { IfOk result (λ roots. roots.items ≡ all_roots outputs.now) }
-{
-    let mut roots = Vec::new(alloc);
-    for output in outputs {
-        roots.extend_from_slice(&output.workspace.roots)?;
-    }
-    Ok(roots)
 }
 
 /// What all have put at the nodes with positions below the next root's, of hubs that rank above the node: that is all but each

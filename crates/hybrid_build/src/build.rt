@@ -6,7 +6,7 @@ use crate::halves::{HybridIndex, PlantedRows, planted_roots};
 use desk_io::Gate;
 use hub_index::{Index, SplitIndex};
 use rank_table::Ranking;
-use renumbering::WorkingCopy;
+use renumbering::{Job, WorkingCopy};
 use std::alloc::{AllocError, Global};
 use std::sync::Wait;
 use std::thread::Threads;
@@ -38,7 +38,8 @@ pub fn build_hybrid<R: Threads + Wait + Sync, G: Gate + Sync>(
     ensures order { IfOk result (λ index. index.order ≡ ranking.now) }
     ensures labelling { IfOk result (λ index. IsChl (Joined graph.now.edges) ranking.now index.rows) }
 {
-    let hybrid = both_halves(rt, alloc, graph, ranking, workers, cut, eta, gate)?;
+    let job = Job::new(alloc, graph, ranking, workers, cut);
+    let hybrid = both_halves(rt, &job, eta, gate)?;
     let index = hybrid.of_planted(planted_roots(eta, graph.n()));
     index.into_index(alloc)
 }
@@ -63,7 +64,8 @@ pub fn build_hybrid_split<R: Threads + Wait + Sync, G: Gate + Sync>(
     ensures order { IfOk result (λ index. index.order ≡ ranking.now) }
     ensures labelling { IfOk result (λ index. IsChl (Joined graph.now.edges) ranking.now index.rows) }
 {
-    let hybrid = both_halves(rt, alloc, graph, ranking, workers, cut, eta, gate)?;
+    let job = Job::new(alloc, graph, ranking, workers, cut);
+    let hybrid = both_halves(rt, &job, eta, gate)?;
     Ok(hybrid.of_planted(planted_roots(eta, graph.n())))
 }
 
@@ -71,33 +73,16 @@ pub fn build_hybrid_split<R: Threads + Wait + Sync, G: Gate + Sync>(
 /// the others pruned. The only error is that memory ran out.
 fn both_halves<R: Threads + Wait + Sync, G: Gate + Sync>(
     rt: &R,
-    alloc: Global,
-    graph: &Graph,
-    ranking: &Ranking,
-    workers: u32,
-    cut: u32,
+    job: &Job<'_>,
     eta: u32,
     gate: &G,
 ) -> Result<HybridIndex, AllocError>
-    requires nodes { length ranking.now ≡ graph.now.n }
-    requires workers_from { 1 ≤ workers }
-    requires workers_to { workers ≤ 64 }
-    requires cut_from { 1 ≤ cut }
-    requires cut_to { cut ≤ 2 ^ 30 }
-    ensures planted { IfOk result (λ hybrid. hybrid.planted ≡ min eta graph.now.n) }
-    ensures order { IfOk result (λ hybrid. hybrid.index.order ≡ ranking.now) }
-    ensures labelling { IfOk result (λ hybrid. IsChl (Joined graph.now.edges) ranking.now hybrid.index.rows) }
+    ensures planted { IfOk result (λ hybrid. hybrid.planted ≡ min eta job.now.graph.now.n) }
+    ensures order { IfOk result (λ hybrid. hybrid.index.order ≡ job.now.ranking.now) }
+    ensures labelling { IfOk result (λ hybrid. IsChl (Joined job.now.graph.now.edges) job.now.ranking.now hybrid.index.rows) }
 {
-    let copy = WorkingCopy::new(alloc, graph, ranking)?;
-    let planted = PlantedRows::new(
-        rt,
-        alloc,
-        &copy.graph,
-        &copy.ranking,
-        workers,
-        cut,
-        eta,
-        gate,
-    )?;
-    HybridIndex::grown_from(rt, alloc, copy, graph, ranking, planted, workers, cut, gate)
+    let copy = WorkingCopy::new(job.alloc, job.graph, job.ranking)?;
+    let copied = Job::new(job.alloc, &copy.graph, &copy.ranking, job.workers, job.cut);
+    let planted = PlantedRows::new(rt, &copied, eta, gate)?;
+    HybridIndex::grown_from(rt, job, copy, planted, gate)
 }

@@ -1,21 +1,19 @@
 //! The two halves of a build: the rows of the roots that are planted, and the index to which supersteps bring them. What each
 //! hands on names how many roots were planted, which nobody can say of the index alone.
-ghost use Rattle.std.specs.Prelude.{◌≡◌, ◌^◌, ◌<◌, ◌≤◌, length, min, IfOk};
+ghost use Rattle.std.specs.Prelude.{◌≡◌, ◌<◌, ◌≤◌, length, min, IfOk};
 ghost use Rattle.walk_laws.specs.Joined.{Joined};
 ghost use Rattle.walk_laws.specs.Labelling.{IsChl, IsPartChl};
 ghost use Rattle.renumbering.specs.Copies.{IsCopyOf};
 
 use desk_io::Gate;
-use gll_build::gll_rows_from;
+use gll_build::grow_roots;
 use hub_index::{RowList, SplitIndex};
-use plant_build::plant_first;
-use rank_table::Ranking;
-use renumbering::WorkingCopy;
-use std::alloc::{AllocError, Global};
+use plant_build::plant_roots;
+use renumbering::{Job, WorkingCopy};
+use std::alloc::AllocError;
 use std::marker::Model;
 use std::sync::Wait;
 use std::thread::Threads;
-use walk_laws::Graph;
 
 /// How many roots are planted of `n`: the first `eta`, or all where there are no more.
 pub fn planted_roots(eta: u32, n: u32) -> u32
@@ -44,24 +42,15 @@ impl PlantedRows {
     /// that memory ran out.
     pub fn new<R: Threads + Wait + Sync, G: Gate + Sync>(
         rt: &R,
-        alloc: Global,
-        graph: &Graph,
-        ranking: &Ranking,
-        workers: u32,
-        cut: u32,
+        job: &Job<'_>,
         eta: u32,
         gate: &G,
     ) -> Result<PlantedRows, AllocError>
-        requires nodes { length ranking.now ≡ graph.now.n }
-        requires workers_from { 1 ≤ workers }
-        requires workers_to { workers ≤ 64 }
-        requires cut_from { 1 ≤ cut }
-        requires cut_to { cut ≤ 2 ^ 30 }
-        ensures roots { IfOk result (λ planted. planted.roots ≡ min eta graph.now.n) }
-        ensures rows { IfOk result (λ planted. IsPartChl (Joined graph.now.edges) ranking.now (λ p. p < planted.roots) planted.rows) }
+        ensures roots { IfOk result (λ planted. planted.roots ≡ min eta job.now.graph.now.n) }
+        ensures rows { IfOk result (λ planted. IsPartChl (Joined job.now.graph.now.edges) job.now.ranking.now (λ p. p < planted.roots) planted.rows) }
     {
-        let roots = planted_roots(eta, graph.n());
-        let rows = plant_first(rt, alloc, graph, ranking, roots, workers, cut, gate)?;
+        let roots = planted_roots(eta, job.graph.n());
+        let rows = plant_roots(rt, job, roots, gate)?;
         Ok(PlantedRows { rows, roots })
     }
 }
@@ -87,42 +76,24 @@ impl HybridIndex {
     /// left. The only error is that memory ran out.
     pub fn grown_from<R: Threads + Wait + Sync, G: Gate + Sync>(
         rt: &R,
-        alloc: Global,
+        job: &Job<'_>,
         copy: WorkingCopy,
-        graph: &Graph,
-        ranking: &Ranking,
         planted: PlantedRows,
-        workers: u32,
-        cut: u32,
         gate: &G,
     ) -> Result<HybridIndex, AllocError>
-        requires nodes { length ranking.now ≡ graph.now.n }
-        requires copy { IsCopyOf graph.now ranking.now copy }
+        requires copy { IsCopyOf job.now.graph.now job.now.ranking.now copy }
         requires copied { length copy.ranking ≡ copy.graph.n }
-        requires within { planted.roots ≤ graph.now.n }
+        requires within { planted.roots ≤ job.now.graph.now.n }
         requires rows { IsPartChl (Joined copy.graph.edges) copy.ranking (λ p. p < planted.roots) planted.rows }
-        requires workers_from { 1 ≤ workers }
-        requires workers_to { workers ≤ 64 }
-        requires cut_from { 1 ≤ cut }
-        requires cut_to { cut ≤ 2 ^ 30 }
         ensures planted { IfOk result (λ hybrid. hybrid.planted ≡ planted.roots) }
-        ensures order { IfOk result (λ hybrid. hybrid.index.order ≡ ranking.now) }
-        ensures labelling { IfOk result (λ hybrid. IsChl (Joined graph.now.edges) ranking.now hybrid.index.rows) }
+        ensures order { IfOk result (λ hybrid. hybrid.index.order ≡ job.now.ranking.now) }
+        ensures labelling { IfOk result (λ hybrid. IsChl (Joined job.now.graph.now.edges) job.now.ranking.now hybrid.index.rows) }
     {
         let PlantedRows { rows, roots } = planted;
-        let all = gll_rows_from(
-            rt,
-            alloc,
-            &copy.graph,
-            &copy.ranking,
-            rows,
-            roots,
-            workers,
-            cut,
-            gate,
-        )?;
+        let copied = Job::new(job.alloc, &copy.graph, &copy.ranking, job.workers, job.cut);
+        let all = grow_roots(rt, &copied, rows, roots, gate)?;
         Ok(HybridIndex {
-            index: copy.split_index(alloc, graph, ranking, all)?,
+            index: copy.split_index(job.alloc, job.graph, job.ranking, all)?,
             planted: roots,
         })
     }

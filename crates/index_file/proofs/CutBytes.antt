@@ -4,7 +4,7 @@ use Rattle.desk_io.specs.Reader.{TakesPiece}
 use Rattle.index_file.specs.declared.fault.IndexFault.{IndexFault}
 use Rattle.index_file.specs.declared.fault.IndexFault.TheVariants.{NoMemory}
 use Rattle.index_file.specs.Judging.{Reached, fed, fault_of, end_of, fault_after, index_after}
-use Rattle.index_file.specs.Gives.{Gives}
+use Rattle.index_file.specs.Gives.{Gives, answer_of}
 use Rattle.index_file.specs.Cutting.{fed-append, fed-err, StandsAt-fault}
 
 abbrev refused_with : IndexFault → Result Reached IndexFault
@@ -35,15 +35,9 @@ TakesPiece-err old piece e refused same =
     (elim refused [ inl none ↦ inl none | inr faults ↦ inr (ap fault_of faults) ], λ before is. same before (fault_is old before is), λ more. StandsAt-fault (Err e) more e (fed-err e more))
 
 -- by what the code came to after the piece
-pub TakesPiece-gives_ok : (old r : Result Reached IndexFault) (piece : List ℕ) (p : Reached) → r ≡ Ok p → Gives r (fed old piece) → TakesPiece fault_after index_after NoMemory old piece (Ok tt) r
-TakesPiece-gives_ok old (Ok q) piece p is gives = TakesPiece-ok old piece q gives
-TakesPiece-gives_ok old (Err e) piece p is gives = absurd cc
-
-pub TakesPiece-gives_err : (old r : Result Reached IndexFault) (piece : List ℕ) (e : IndexFault) → r ≡ Err e → Gives r (fed old piece) → ((before : IndexFault) → old ≡ Err before → r ≡ Err before) → TakesPiece fault_after index_after NoMemory old piece (Err e) r
-TakesPiece-gives_err old (Ok q) piece e is gives same = absurd cc
-TakesPiece-gives_err old (Err d) piece e is gives same =
-    let this : d ≡ e = cc in
-    subst (λ f. TakesPiece fault_after index_after NoMemory old piece (Err f) (Err d)) this (TakesPiece-err old piece d gives (λ before was. let stays : refused_with d ≡ refused_with before = same before was in same_error d before stays))
+pub TakesPiece-gives : (old r : Result Reached IndexFault) (piece : List ℕ) → Gives r (fed old piece) → ((before : IndexFault) → old ≡ Err before → r ≡ Err before) → TakesPiece fault_after index_after NoMemory old piece (answer_of r) r
+TakesPiece-gives old (Ok p) piece gives same = TakesPiece-ok old piece p gives
+TakesPiece-gives old (Err e) piece gives same = TakesPiece-err old piece e gives (λ before was. let stays : refused_with e ≡ refused_with before = same before was in same_error e before stays)
   where
     same_error : (x y : IndexFault) → refused_with x ≡ refused_with y → x ≡ y
     same_error x y same = cc

@@ -1,5 +1,5 @@
 -- The layout of a well formed index is read as the index.
-use Rattle.std.proofs.Common.{◌≡◌, ◌≢◌, ℕ, suc, ◌+◌, ◌-◌, ◌^◌, ◌<◌, ◌≤◌, true, false, eqb, leb, ltb, Bool, List, [], ◌∷◌, ◌++◌, length, take, map, zip, get_or, All, Option, Some, None, is_some, Result, Ok, Err, refl, sym, ap, subst, ◌∙◌, append_assoc, arith}
+use Rattle.std.proofs.Common.{◌≡◌, ◌≢◌, ℕ, suc, ◌+◌, ◌-◌, ◌^◌, ◌<◌, ◌≤◌, true, false, eqb, leb, ltb, Bool, List, [], ◌∷◌, ◌++◌, length, take, map, zip, get_or, All, Option, Some, None, IfSome, is_some, Result, Ok, Err, refl, sym, ap, subst, ◌∙◌, append_assoc, arith}
 use Rattle.std.specs.Prelude.{nat_eq, not, ◌&&◌, flat_map}
 use Rattle.std.specs.List.{list_any}
 use Rattle.std.proofs.Math.Seq.{get_or-append_seam}
@@ -351,6 +351,14 @@ IsWellFormed-rows done are whole = record {
   size = whole;
   row = λ v from_one within. are.row v from_one (omega arith);
 }
+
+-- what vias they have may stand beside them
+have_vias : (n : ℕ) (rows : List (List Entry)) (all : Option (List (List ℕ))) → HaveTheirVias n rows all → length rows ≡ n → IfSome all (HaveVias rows)
+have_vias n rows None have whole = tt
+have_vias n rows (Some vias) have whole = HaveVias-rows n rows vias have whole
+
+pub HaveVias-done : (done : ReadRows) → AreRows done → length done.rows ≡ length done.order → IfSome done.vias (HaveVias done.rows)
+HaveVias-done done are whole = have_vias (length done.order) done.rows done.vias are.vias whole
 
 pub IsStored-rows : (done : ReadRows) → AreRows done → length done.rows ≡ length done.order → IsStored (stored_index done.order done.rows done.vias)
 IsStored-rows done are whole = IsStored-parts done.order done.rows done.vias (IsWellFormed-rows done are whole) are.vias

@@ -1,5 +1,5 @@
 -- Vias beside rows that are read: one more via, and one more row.
-use Rattle.std.proofs.Common.{◌≡◌, ◌≢◌, ℕ, ◌+◌, ◌-◌, ◌≤◌, Bool, true, false, eqb, leb, not, ◌&&◌, Option, Some, None, is_some, List, [], ◌∷◌, ◌++◌, length, get_or, refl, sym, ap, subst, inl, inr, arith}
+use Rattle.std.proofs.Common.{◌≡◌, ◌≢◌, ℕ, ◌+◌, ◌-◌, ◌≤◌, ◌<◌, ◌^◌, Bool, true, false, eqb, leb, not, ◌&&◌, Option, Some, None, IfSome, is_some, List, [], ◌∷◌, ◌++◌, length, get_or, refl, sym, ap, subst, inl, inr, arith}
 use Rattle.std.proofs.Math.ListN.{get_or-append}
 use Rattle.std.proofs.Math.Seq.{get_or-append_seam}
 use Rattle.std.proofs.lemmas.Bool.{eqb-true, eqb-false, leb-true, not-true, and_parts, cases_lt}
@@ -115,3 +115,11 @@ HaveVias-rows n rows vias have whole = record {
 -- how many lists
 pub length-vias : (n : ℕ) (rows : List (List Entry)) (vias : List (List ℕ)) → HaveTheirVias n rows (Some vias) → length vias ≡ length rows
 length-vias n rows vias have = have.size
+
+-- few enough for one more
+few_lists : (n : ℕ) (rows : List (List Entry)) (all : Option (List (List ℕ))) → HaveTheirVias n rows all → length rows + 1 < 2 ^ 32 → IfSome all (λ vias. length vias + 1 < 2 ^ 32)
+few_lists n rows None have few = tt
+few_lists n rows (Some vias) have few = omega (arith, have.size, few)
+
+pub few_vias : (done : ReadRows) (part : Part) → AreReading done part → IfSome done.vias (λ vias. length vias + 1 < 2 ^ 32)
+few_vias done part reading = few_lists (length done.order) done.rows done.vias reading.rows.vias (omega (arith, reading.rows.small, reading.more))

@@ -15,8 +15,8 @@ use Rattle.index_file.specs.Judging.{Reached, ◌>>=◌, width, after_field, aft
 use Rattle.index_file.specs.Cutting.{fed-append, fed-err}
 use Rattle.index_file.specs.Gives.{Takes, Refuses, at_node, at_position, at_via, entry_width}
 use Rattle.index_file.specs.Sound.{IsSound}
-use Rattle.index_file.proofs.Fields.{IsBytes, All-from_bytes, bytes_from_All, fed-field, fed-rest_of_field}
-use Rattle.index_file.proofs.SoundBytes.{Leads-bytes}
+use Rattle.index_file.proofs.Fields.{IsBytes, All-from_bytes, bytes_from_All, no_bytes, fed-field, fed-rest_of_field}
+use Rattle.index_file.proofs.SoundBytes.{width-some, Leads-bytes}
 
 -- ---- bytes
 
@@ -38,6 +38,9 @@ Takes-more old cur new bytes rest field left takes parts leads = record {
 
 pub Takes-then : (old cur new : Reached) (bytes rest left : List ℕ) → Takes old bytes cur rest → Takes cur rest new left → Takes old bytes new left
 Takes-then old cur new bytes rest left first second = Takes-more old cur new bytes rest second.taken left first second.parts second.leads
+
+pub Takes-le : (old : Reached) (bytes : List ℕ) (new : Reached) (left : List ℕ) → Takes old bytes new left → length left ≤ length bytes
+Takes-le old bytes new left takes = omega (arith, ap length takes.parts, length-append takes.taken left)
 
 -- a fault in the first part
 pub fed-part : (p : Reached) (rest field left : List ℕ) (e : IndexFault) → rest ≡ field ++ left → fed (Ok p) field ≡ Err e → fed (Ok p) rest ≡ Err e
@@ -255,6 +258,28 @@ module _ (next : Next) (at : ℕ) where
       let sound_there = IsSound-fed (record { next = next; held = held; at = at }) (record { next = new; held = []; at = at + length (held ++ b ∷ []) }) (b ∷ []) sound one led in
       let same : length (held ++ b ∷ []) ≡ size = ap length (sym is) ∙ sym long in
       subst (λ h. IsSound (record { next = new; held = h; at = at + size })) (sym none) (subst (λ k. IsSound (record { next = new; held = []; at = at + k })) same sound_there)
+
+-- no byte is held
+pub IsSound-emptied : (next : Next) (at : ℕ) (held : List ℕ) → IsSound (record { next = next; held = held; at = at }) → IsSound (record { next = next; held = []; at = at })
+IsSound-emptied next at held sound = record { fields = sound.fields; held = width-some next; fits = All-from_bytes [] no_bytes; offset = sound.offset }
+
+-- bytes of a field that isn't whole are held
+fed-kept : (next : Next) (at : ℕ) (held bytes : List ℕ) → length held + length bytes < width next → fed (Ok (record { next = next; held = held; at = at })) bytes ≡ Ok (record { next = next; held = held ++ bytes; at = at })
+fed-kept next at held [] short = ap (λ h. Ok (record { next = next; held = h; at = at })) (sym (append-nil held))
+fed-kept next at held (b ∷ bytes) short =
+    rw (ne_eqb (length held + 1) (width next) (λ same. omega arith))
+    (fed-kept next at (held ++ b ∷ []) bytes (omega (arith, length-append held (b ∷ []))) ∙ ap (λ h. Ok (record { next = next; held = h; at = at })) (append_assoc held (b ∷ []) bytes))
+
+pub fed-all_kept : (next : Next) (at : ℕ) (held : List ℕ) → length held < width next → fed (Ok (record { next = next; held = []; at = at })) held ≡ Ok (record { next = next; held = held; at = at })
+fed-all_kept next at held short = fed-kept next at [] held (omega (arith, short))
+
+-- so it makes no difference when they came
+pub fed-later : (next : Next) (at : ℕ) (held bytes : List ℕ) → length held < width next → fed (Ok (record { next = next; held = []; at = at })) (held ++ bytes) ≡ fed (Ok (record { next = next; held = held; at = at })) bytes
+fed-later next at held bytes short = fed-append (Ok (record { next = next; held = []; at = at })) held bytes ∙ ap (λ r. fed r bytes) (fed-all_kept next at held short)
+
+-- a reading that holds no byte
+pub stands_at : (next now : Next) (held : List ℕ) (at : ℕ) (self : Reached) → record { next = next; held = held; at = at } ≡ self → next ≡ now → held ≡ [] → record { next = now; held = []; at = at } ≡ self
+stands_at next now held at self is that none = ap (λ n. record { next = n; held = []; at = at }) (sym that) ∙ ap (λ h. record { next = next; held = h; at = at }) (sym none) ∙ is
 
 -- a list of one number
 pub single : (xs : List ℕ) → length xs ≡ 1 → xs ≡ get_or xs 0 0 ∷ []

@@ -12,6 +12,11 @@ abbrev pub Gives : {X : Type 0} → Result X IndexFault → Result X IndexFault 
 Gives (Ok x) defined = defined ≡ Ok x
 Gives (Err e) defined = (e ≡ NoMemory) ⊎ (defined ≡ Err e)
 
+-- the answer to a piece, where a reading stands after it
+abbrev pub answer_of : Result Reached IndexFault → Result (Unit {0}) IndexFault
+answer_of (Ok p) = Ok tt
+answer_of (Err e) = Err e
+
 -- at a node of the order, and at a position of a row
 abbrev pub at_node : Names → ℕ → Reached
 at_node names at = record { next = Node names; held = []; at = at }

@@ -1,4 +1,4 @@
-ghost use Rattle.std.specs.Prelude.{◌≡◌, ℕ, ◌+◌, ◌^◌, ◌<◌, ◌≤◌, ◌==◌, [], length, is_some, IfSome, IfOk};
+ghost use Rattle.std.specs.Prelude.{◌≡◌, ℕ, ◌+◌, ◌^◌, ◌<◌, ◌≤◌, ◌==◌, [], length, is_some, IfSome, IfOk, OnOk};
 ghost use Rattle.walk_laws.specs.Ranking.{IsRanking};
 ghost use Rattle.hub_index.specs.WellFormed.{IsWellFormed};
 ghost use Rattle.entry_vias.specs.RowVias.{HaveVias};
@@ -14,7 +14,7 @@ use std::marker::Model;
 use walk_laws::Entry;
 
 /// A ranking, the rows of its first nodes, and their vias where the index has such.
-#[derive(Debug, Drop)]
+#[derive(Drop)]
 pub struct Done {
     ranking: Ranking,
     rows: Vec<Vec<Entry>>,
@@ -81,23 +81,13 @@ impl Done {
         self.ranking.pos(self.node())
     }
 
-    /// These rows, and one more, with its vias where the index has such.
-    pub fn with(self, row: Vec<Entry>, row_vias: &[u32]) -> Result<Done, AllocError>
-        requires { IfSome self.vias (λ vias. length vias + 1 < 2 ^ 32) }
-        ensures { IfOk result (λ done. done ≡ with_row self row.items row_vias.now) }
+    /// Puts one row more last, with its vias where the index has such.
+    pub fn push(&mut self, row: Vec<Entry>, row_vias: &[u32]) -> Result<(), AllocError>
+        requires { IfSome self.old.vias (λ vias. length vias + 1 < 2 ^ 32) }
+        ensures { OnOk result (self.new ≡ with_row self.old row.items row_vias.now) }
     {
-        let Done {
-            ranking,
-            mut rows,
-            vias,
-        } = self;
-        rows.push(row)?;
-        let vias = with_more(vias, row_vias)?;
-        Ok(Done {
-            ranking,
-            rows,
-            vias,
-        })
+        self.rows.push(row)?;
+        push_vias(&mut self.vias, row_vias)
     }
 
     /// The index, where each node has its row.
@@ -130,16 +120,13 @@ fn none_yet(alloc: Global, traced: bool) -> Result<Option<Vias>, AllocError>
     Ok(Some(vias))
 }
 
-/// The vias of a row more, where the index has such.
-fn with_more(vias: Option<Vias>, row: &[u32]) -> Result<Option<Vias>, AllocError>
-    requires { IfSome vias (λ lists. length lists + 1 < 2 ^ 32) }
-    ensures { IfOk result (λ more. more ≡ more_vias vias row.now) }
+/// Puts the vias of a row last, where the index has such.
+fn push_vias(vias: &mut Option<Vias>, row: &[u32]) -> Result<(), AllocError>
+    requires { IfSome vias.old (λ lists. length lists + 1 < 2 ^ 32) }
+    ensures { OnOk result (vias.new ≡ more_vias vias.old row.now) }
 {
     match vias {
-        None => Ok(None),
-        Some(mut lists) => {
-            lists.push_row(row)?;
-            Ok(Some(lists))
-        }
+        None => Ok(()),
+        Some(lists) => lists.push_row(row),
     }
 }

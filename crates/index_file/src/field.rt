@@ -1,11 +1,12 @@
 ghost use Rattle.std.specs.Prelude.{◌≡◌, ℕ, ◌+◌, ◌^◌, ◌<◌, ◌≤◌, true, length, is_some, Ok, IfOk, IfSome};
 ghost use Rattle.byteorder.specs.Endian.{big_number};
 ghost use Rattle.index_file.specs.Judging.{width, after_field, after_node, after_row, after_distance, after_entry};
-ghost use Rattle.index_file.specs.Parts.{next_own, is_next_position, is_next_distance, is_last, least_after, with_entry, with_via};
+ghost use Rattle.index_file.specs.Parts.{next_own, is_next_position, least_after, with_row, with_entry, with_via};
 ghost use Rattle.index_file.specs.Gives.{Gives};
 ghost use Rattle.index_file.specs.Sound.{IsSoundNext, AreNames, AreRows, AreReading};
 ghost use Rattle.index_file.specs.declared.next.Next.TheVariants.{Letter, Version, Size, Node, Count, Position, Distance, Via};
 
+use crate::accepting::{accept_distance, accept_position, accept_via};
 use crate::done::Done;
 use crate::fault::IndexFault;
 use crate::naming::Naming;
@@ -156,13 +157,8 @@ fn after_position(done: Done, part: PartRow, pos: u32) -> Result<Next, IndexFaul
     requires { AreReading done part }
     ensures { Gives result (after_field 0 (Position done part) pos) }
 {
-    if part.is_next_position(done.own(), pos) {
-        return Ok(Next::Distance(done, part, pos));
-    }
-    Err(IndexFault::Row {
-        v: done.node(),
-        place: part.len() as u32,
-    })
+    accept_position(&done, done.own(), &part, pos)?;
+    Ok(Next::Distance(done, part, pos))
 }
 
 fn after_distance(done: Done, part: PartRow, pos: u32, dist: u64) -> Result<Next, IndexFault>
@@ -170,37 +166,41 @@ fn after_distance(done: Done, part: PartRow, pos: u32, dist: u64) -> Result<Next
     requires position { is_next_position (next_own done) part pos ≡ true }
     ensures { Gives result (after_field 0 (Distance done part pos) dist) }
 {
-    if !part.is_next_distance(dist) {
-        return Err(IndexFault::Distance {
-            v: done.node(),
-            place: part.len() as u32,
-        });
-    }
-    let entry = Entry { pos, dist };
+    accept_distance(&done, &part, dist)?;
+    Ok(distance_accepted(done, part, Entry { pos, dist })?)
+}
+
+/// After a distance that was accepted comes the via of the entry, where the index has such.
+fn distance_accepted(done: Done, part: PartRow, entry: Entry) -> Result<Next, AllocError>
+    requires reading { AreReading done part }
+    requires above { least_after part.entries ≤ entry.pos }
+    ensures { IfOk result (λ next. next ≡ after_distance done part entry) }
+{
     if done.is_traced() {
         return Ok(Next::Via(done, part, entry));
     }
-    let next = after_entry(done, part, entry)?;
-    Ok(next)
+    after_entry(done, part, entry)
 }
 
-fn after_via(done: Done, mut part: PartRow, entry: Entry, via: u32) -> Result<Next, IndexFault>
+fn after_via(done: Done, part: PartRow, entry: Entry, via: u32) -> Result<Next, IndexFault>
     requires reading { AreReading done part }
     requires position { is_next_position (next_own done) part entry.pos ≡ true }
     ensures { Gives result (after_field 0 (Via done part entry) via) }
 {
-    if !part.is_next_via(done.n(), done.node(), via) {
-        return Err(IndexFault::Via {
-            v: done.node(),
-            place: part.len() as u32,
-        });
-    }
-    part.push_via(via)?;
-    let next = after_entry(done, part, entry)?;
-    Ok(next)
+    accept_via(&done, &part, via)?;
+    Ok(via_accepted(done, part, entry, via)?)
 }
 
-/// After the last entry the row is done.
+fn via_accepted(done: Done, mut part: PartRow, entry: Entry, via: u32) -> Result<Next, AllocError>
+    requires reading { AreReading done part }
+    requires above { least_after part.entries ≤ entry.pos }
+    ensures { IfOk result (λ next. next ≡ after_entry done (with_entry (with_via part via) entry)) }
+{
+    part.push_via(via)?;
+    after_entry(done, part, entry)
+}
+
+/// After one entry more, which may be the last one.
 fn after_entry(done: Done, mut part: PartRow, entry: Entry) -> Result<Next, AllocError>
     requires above { least_after part.entries ≤ entry.pos }
     requires more { length part.entries < part.count }
@@ -208,9 +208,26 @@ fn after_entry(done: Done, mut part: PartRow, entry: Entry) -> Result<Next, Allo
     ensures { IfOk result (λ next. next ≡ after_entry done (with_entry part entry)) }
 {
     part.push(entry)?;
+    after_entries(done, part)
+}
+
+/// After the last entry the row is done.
+fn after_entries(done: Done, part: PartRow) -> Result<Next, AllocError>
+    requires most { length part.entries ≤ part.count }
+    requires few { IfSome done.vias (λ vias. length vias + 1 < 2 ^ 32) }
+    ensures { IfOk result (λ next. next ≡ after_entry done part) }
+{
     if part.len() < part.count() as usize {
         return Ok(Next::Position(done, part));
     }
+    after_whole_row(done, part)
+}
+
+fn after_whole_row(mut done: Done, part: PartRow) -> Result<Next, AllocError>
+    requires { IfSome done.vias (λ vias. length vias + 1 < 2 ^ 32) }
+    ensures { IfOk result (λ next. next ≡ after_row (with_row done part.entries part.vias)) }
+{
     let (row, row_vias) = part.into_parts();
-    Ok(after_rows(done.with(row, &row_vias)?))
+    done.push(row, &row_vias)?;
+    Ok(after_rows(done))
 }

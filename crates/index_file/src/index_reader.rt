@@ -1,7 +1,7 @@
 ghost use Rattle.std.specs.Prelude.{◌≡◌, ℕ, List, Err, IfOk};
 ghost use Rattle.index_file.specs.declared.fault.IndexFault.{IndexFault};
 ghost use Rattle.index_file.specs.Judging.{fed, fault_within, index_of};
-ghost use Rattle.index_file.specs.Gives.{Gives};
+ghost use Rattle.index_file.specs.Gives.{Gives, answer_of};
 
 use crate::fault::IndexFault;
 use crate::progress::Progress;
@@ -12,7 +12,7 @@ use std::marker::Model;
 use std::mem;
 
 /// Reads an index file of either version in any pieces. It is refused at the first field that is wrong, and then for good.
-#[derive(Debug, Drop)]
+#[derive(Drop)]
 pub struct IndexReader {
     alloc: Global,
     state: Result<Progress, IndexFault>,
@@ -53,12 +53,28 @@ impl Feed for IndexReader {
     ghost feed_gives = { TakesPiece fault_after index_after NoMemory };
 
     fn feed(&mut self, piece: &[u8]) -> Result<(), IndexFault> {
-        let state = mem::replace(&mut self.state, Err(IndexFault::NoMemory));
-        self.state = after(self.alloc, state, piece);
-        match &self.state {
-            Ok(_) => Ok(()),
-            Err(fault) => Err(*fault),
-        }
+        take(self.alloc, &mut self.state, piece);
+        answer(&self.state)
+    }
+}
+
+/// Takes the piece.
+fn take(alloc: Global, state: &mut Result<Progress, IndexFault>, piece: &[u8])
+    ensures gives { Gives state.new (fed state.old piece.now) }
+    ensures same { (before : IndexFault) → state.old ≡ Err before → state.new ≡ Err before }
+{
+    let was = mem::replace(state, Err(IndexFault::NoMemory));
+    let now = after(alloc, was, piece);
+    drop(mem::replace(state, now));
+}
+
+/// What a reader answers that stands there.
+fn answer(state: &Result<Progress, IndexFault>) -> Result<(), IndexFault>
+    ensures { result ≡ answer_of state.now }
+{
+    match state {
+        Ok(_) => Ok(()),
+        Err(fault) => Err(*fault),
     }
 }
 

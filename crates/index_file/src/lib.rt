@@ -9,6 +9,7 @@
 //! what any bytes stand for, or their first fault) and `specs/Stored` (`without_vias`).
 #![tactic(auto)]
 
+mod accepting;
 mod done;
 mod encodable;
 mod encoding;

@@ -6,7 +6,7 @@ use std::collections::HashSet;
 use std::marker::Model;
 
 /// The nodes of an order that isn't whole yet. It grows with the nodes that are named, whatever their numbers are.
-#[derive(Debug, Drop)]
+#[derive(Drop)]
 pub struct Naming {
     n: u32,
     order: Vec<u32>,

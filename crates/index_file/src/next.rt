@@ -4,7 +4,7 @@ use crate::part_row::PartRow;
 use walk_laws::Entry;
 
 /// Which field is the next one, with what the fields before it came to.
-#[derive(Debug, Drop)]
+#[derive(Drop)]
 pub enum Next {
     /// One of the seven letters.
     Letter,

@@ -9,7 +9,7 @@ use walk_laws::Entry;
 pub const MAX_DISTANCE: u64 = 4611686018427387903;
 
 /// The entries of a row that isn't whole yet, and their vias where the index has such.
-#[derive(Debug, Drop)]
+#[derive(Drop)]
 pub struct PartRow {
     count: u32,
     /// The least position above those of the entries.

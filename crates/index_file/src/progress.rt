@@ -1,9 +1,12 @@
-ghost use Rattle.std.specs.Prelude.{◌≡◌, ℕ, ◌+◌, ◌<◌, ◌≤◌, false, [], ◌∷◌, length, Ok, IfOk, OnOk, IfErr};
+ghost use Rattle.std.specs.Prelude.{◌≡◌, ℕ, ◌+◌, ◌<◌, ◌≤◌, false, [], ◌∷◌, length, All, Ok, Err, IfSome, IfNone, IfOk, OnOk, IfErr};
 ghost use Rattle.index_file.specs.Parts.{next_own, is_last, least_after, with_entry, with_via};
-ghost use Rattle.index_file.specs.Judging.{start, width, after_distance, after_entry, fed, end_of};
+ghost use Rattle.index_file.specs.Judging.{start, width, after_distance, after_entry, fed, end_of_fields, end_of};
 ghost use Rattle.index_file.specs.Gives.{Gives, Takes, Refuses, at_node, at_position, at_via, entry_width};
 ghost use Rattle.index_file.specs.Sound.{AreReading, IsSound};
+ghost use Rattle.index_file.specs.declared.fault.IndexFault.TheVariants.{Short};
+ghost use Rattle.index_file.specs.declared.next.Next.TheVariants.{End};
 
+use crate::accepting::{accept_distance, accept_position, accept_via};
 use crate::done::Done;
 use crate::fault::IndexFault;
 use crate::field::{judge, width};
@@ -18,7 +21,7 @@ use walk_laws::Entry;
 
 /// How far a reading has come: what the whole fields came to, the bytes of the field that isn't whole, and the offset at
 /// which that field begins.
-#[derive(Debug, Drop)]
+#[derive(Drop)]
 pub struct Progress {
     next: Next,
     held: Vec<u8>,
@@ -55,12 +58,22 @@ impl Progress {
         let mut progress = self;
         let mut rest = piece;
         while !rest.is_empty() {
-            let (stepped, left) = progress.step(alloc, rest)?;
-            let (moved, left) = stepped.run(left)?;
+            let (moved, left) = progress.advance(alloc, rest)?;
             progress = moved;
             rest = left;
         }
         Ok(progress)
+    }
+
+    /// Takes the next field, or a byte of it, and then at once what may be taken so.
+    fn advance<'a>(self, alloc: Global, rest: &'a [u8]) -> Result<(Progress, &'a [u8]), IndexFault>
+        requires { 0 < length rest.now }
+        ensures taken { IfOk result (λ r. Takes self rest.now r.0 r.1.now) }
+        ensures less { IfOk result (λ r. length r.1.now < length rest.now) }
+        ensures refused { IfErr result (Refuses self rest.now) }
+    {
+        let (stepped, left) = self.step(alloc, rest)?;
+        stepped.run(left)
     }
 
     /// Takes the next field, or a byte of it where the piece doesn't hold it whole.
@@ -92,16 +105,8 @@ impl Progress {
             return Ok((Progress { next, held, at }, rest));
         }
         match next {
-            Next::Node(names) => {
-                let (names, at, left) = take_names(names, at, rest)?;
-                let next = Next::Node(names);
-                Ok((Progress { next, held, at }, left))
-            }
-            Next::Position(done, part) => {
-                let (part, at, left) = take_entries(&done, part, at, rest)?;
-                let next = Next::Position(done, part);
-                Ok((Progress { next, held, at }, left))
-            }
+            Next::Node(names) => run_of_names(names, held, at, rest),
+            Next::Position(done, part) => run_of_entries(done, part, held, at, rest),
             next => Ok((Progress { next, held, at }, rest)),
         }
     }
@@ -111,11 +116,25 @@ impl Progress {
         ensures { result ≡ end_of (Ok self) }
     {
         let Progress { next, held, at } = self;
-        match next {
-            Next::End(done) => Ok(done.into_stored()),
-            _ => Err(IndexFault::Short {
+        match ended(next) {
+            Some(done) => Ok(done.into_stored()),
+            None => Err(IndexFault::Short {
                 at: at + held.len() as u64,
             }),
+        }
+    }
+}
+
+/// What all fields came to, where none is missing.
+fn ended(next: Next) -> Option<Done>
+    ensures end { IfSome result (λ done. next ≡ End done) }
+    ensures short { IfNone result ((size : ℕ) → end_of_fields size next ≡ Err (Short size)) }
+{
+    match next {
+        Next::End(done) => Some(done),
+        early => {
+            drop(early);
+            None
         }
     }
 }
@@ -152,14 +171,61 @@ fn gather(
     requires { IsSound (record { next = next; held = held.items; at = at }) }
     ensures { Gives result (fed (Ok (record { next = next; held = held.items; at = at })) (byte ∷ [])) }
 {
-    held.push(byte)?;
+    match held.push(byte) {
+        Ok(()) => gathered(alloc, next, held, at),
+        Err(_) => {
+            drop(next);
+            Err(IndexFault::NoMemory)
+        }
+    }
+}
+
+/// After the bytes of a field that are there so far.
+fn gathered(alloc: Global, next: Next, held: Vec<u8>, at: u64) -> Result<Progress, IndexFault>
+    requires sound { IsSound (record { next = next; held = []; at = at }) }
+    requires fits { All (λ b. b < 256) held.items }
+    requires most { length held.items ≤ width next }
+    ensures { Gives result (fed (Ok (record { next = next; held = []; at = at })) held.items) }
+{
     if held.len() < width(&next) {
         return Ok(Progress { next, held, at });
     }
-    let next = judge(alloc, at, next, &held)?;
-    let at = at + held.len() as u64;
-    held.clear();
-    Ok(Progress { next, held, at })
+    whole(alloc, next, Vec::new(alloc), at, &held)
+}
+
+/// Takes the nodes of the order that the bytes hold whole, but for the last one of all.
+fn run_of_names<'a>(
+    names: Naming,
+    held: Vec<u8>,
+    at: u64,
+    rest: &'a [u8],
+) -> Result<(Progress, &'a [u8]), IndexFault>
+    requires sound { IsSound (at_node names at) }
+    requires none { held.items ≡ [] }
+    ensures taken { IfOk result (λ r. Takes (at_node names at) rest.now r.0 r.1.now) }
+    ensures refused { IfErr result (Refuses (at_node names at) rest.now) }
+{
+    let (names, at, left) = take_names(names, at, rest)?;
+    let next = Next::Node(names);
+    Ok((Progress { next, held, at }, left))
+}
+
+/// Takes the entries of the row that the bytes hold whole, but for the last one of the row.
+fn run_of_entries<'a>(
+    done: Done,
+    part: PartRow,
+    held: Vec<u8>,
+    at: u64,
+    rest: &'a [u8],
+) -> Result<(Progress, &'a [u8]), IndexFault>
+    requires sound { IsSound (at_position done part at) }
+    requires none { held.items ≡ [] }
+    ensures taken { IfOk result (λ r. Takes (at_position done part at) rest.now r.0 r.1.now) }
+    ensures refused { IfErr result (Refuses (at_position done part at) rest.now) }
+{
+    let (part, at, left) = take_entries(&done, part, at, rest)?;
+    let next = Next::Position(done, part);
+    Ok((Progress { next, held, at }, left))
 }
 
 /// The nodes of the order that the bytes hold whole, but for the last one of all.
@@ -266,18 +332,8 @@ fn judge_entry(done: &Done, own: u32, part: &PartRow, head: &[u8]) -> Result<Ent
         pos: BigEndian::read_u32(head),
         dist: BigEndian::read_u64(&head[4..]),
     };
-    if !part.is_next_position(own, entry.pos) {
-        return Err(IndexFault::Row {
-            v: done.node(),
-            place: part.len() as u32,
-        });
-    }
-    if !part.is_next_distance(entry.dist) {
-        return Err(IndexFault::Distance {
-            v: done.node(),
-            place: part.len() as u32,
-        });
-    }
+    accept_position(done, own, part, entry.pos)?;
+    accept_distance(done, part, entry.dist)?;
     Ok(entry)
 }
 
@@ -289,11 +345,6 @@ fn judge_via(done: &Done, part: &PartRow, entry: Entry, tail: &[u8]) -> Result<u
     ensures refused { IfErr result (λ e. (at : ℕ) → Refuses (at_via done.now part.now entry at) tail.now e) }
 {
     let via = BigEndian::read_u32(tail);
-    if !part.is_next_via(done.n(), done.node(), via) {
-        return Err(IndexFault::Via {
-            v: done.node(),
-            place: part.len() as u32,
-        });
-    }
+    accept_via(done, part, via)?;
     Ok(via)
 }

@@ -10,12 +10,11 @@ use Rattle.lcc_build.specs.declared.share.Share.{Share}
 use Rattle.lcc_build.specs.declared.workers.Worker.{Worker}
 use Rattle.pruned_tree.specs.GrownBy.{IsGrownBy}
 
--- the ranking, the claims and the rows are of the nodes of the build's graph, and the rows are those of its edges under that ranking
+-- the claims and the rows are of the nodes of the build's graph, and the rows are those of its edges under its ranking
 pub record IsSoundGround (ground : Ground) : Type 0 where
-  pub nodes : length ground.ranking.now ≡ ground.graph.now.n
-  pub claims : ground.claims.now.n ≡ ground.graph.now.n
-  pub edges : ground.rows.now.edges ≡ ground.graph.now.edges
-  pub order : ground.rows.now.order ≡ ground.ranking.now
+  pub claims : ground.claims.now.n ≡ ground.job.now.graph.now.n
+  pub edges : ground.rows.now.edges ≡ ground.job.now.graph.now.edges
+  pub order : ground.rows.now.order ≡ ground.job.now.ranking.now
 
 -- the seats of the share are of the build's claims and rows, and so many may still be split from each
 pub record IsShareOf (ground : Ground) (left : ℕ) (share : Share) : Type 0 where
@@ -41,11 +40,11 @@ pub record IsReady (ground : Ground) (worker : Worker) : Type 0 where
   pub there : worker.share ≡ Some share
   pub of : IsShareOf ground 0 share
   pub new : IsNew share
-  pub work : worker.work ≡ ground.graph.now.n
+  pub work : worker.work ≡ ground.job.now.graph.now.n
 
 -- a worker that has grown all trees of its share
 pub record HasWorked (ground : Ground) (worker : Worker) : Type 0 where
   pub share : Share
   pub there : worker.share ≡ Some share
   pub of : IsShareOf ground 0 share
-  pub done : IsDone ground.graph.now.edges ground.ranking.now share
+  pub done : IsDone ground.job.now.graph.now.edges ground.job.now.ranking.now share

@@ -14,7 +14,7 @@ use label_clean::clean_in_place;
 use label_clean::laws::the_whole_is_the_labelling;
 use label_rows::Rows;
 use rank_table::Ranking;
-use renumbering::WorkingCopy;
+use renumbering::{Job, WorkingCopy};
 use root_claims::Claims;
 use std::alloc::{AllocError, Global};
 use std::sync::Wait;
@@ -46,7 +46,8 @@ pub fn build_lcc<R: Threads + Wait + Sync, G: Gate + Sync>(
     ensures labelling { IfOk result (λ index. IsChl (Joined graph.now.edges) ranking.now index.rows) }
 {
     let copy = WorkingCopy::new(alloc, graph, ranking)?;
-    let rows = labelled_rows(rt, alloc, &copy.graph, &copy.ranking, workers, gate)?;
+    let job = Job::new(alloc, &copy.graph, &copy.ranking, workers, 1);
+    let rows = labelled_rows(rt, &job, gate)?;
     the_whole_is_the_labelling();
     copy.index(alloc, graph, ranking, rows)
 }
@@ -54,56 +55,43 @@ pub fn build_lcc<R: Threads + Wait + Sync, G: Gate + Sync>(
 /// The rows of the labelling: by one worker those of the trees as they come, and by several what cleaning leaves of them.
 fn labelled_rows<R: Threads + Wait + Sync, G: Gate + Sync>(
     rt: &R,
-    alloc: Global,
-    graph: &Graph,
-    ranking: &Ranking,
-    workers: u32,
+    job: &Job<'_>,
     gate: &G,
 ) -> Result<RowList, AllocError>
-    requires nodes { length ranking.now ≡ graph.now.n }
-    requires workers_from { 1 ≤ workers }
-    requires workers_to { workers ≤ 64 }
-    ensures { IfOk result (λ rows. IsChlBelow graph.now.edges ranking.now (length ranking.now) rows) }
+    ensures { IfOk result (λ rows. IsChlBelow job.now.graph.now.edges job.now.ranking.now (length job.now.ranking.now) rows) }
 {
-    if workers == 1 {
-        return rows_in_order(alloc, graph, ranking, gate);
+    if job.workers == 1 {
+        return rows_in_order(job, gate);
     }
-    let raw = raw_rows(rt, alloc, graph, ranking, workers, gate)?;
-    clean_in_place(rt, alloc, ranking, raw)
+    let raw = raw_rows(rt, job, gate)?;
+    clean_in_place(rt, job.alloc, job.ranking, raw)
 }
 
 /// The rows that the trees of all roots leave, grown by so many workers: they have every canonical entry.
 fn raw_rows<R: Threads + Wait + Sync, G: Gate + Sync>(
     rt: &R,
-    alloc: Global,
-    graph: &Graph,
-    ranking: &Ranking,
-    workers: u32,
+    job: &Job<'_>,
     gate: &G,
 ) -> Result<RowList, AllocError>
-    requires nodes { length ranking.now ≡ graph.now.n }
-    requires workers_from { 1 ≤ workers }
-    requires workers_to { workers ≤ 64 }
-    ensures size { IfOk result (λ rows. length rows ≡ graph.now.n) }
-    ensures held { IfOk result (λ rows. HoldsBelow graph.now.edges ranking.now (length ranking.now) [] rows) }
+    ensures size { IfOk result (λ rows. length rows ≡ job.now.graph.now.n) }
+    ensures held { IfOk result (λ rows. HoldsBelow job.now.graph.now.edges job.now.ranking.now (length job.now.ranking.now) [] rows) }
 {
-    let n = graph.n();
-    let ranked = ranking.n();
+    let n = job.graph.n();
+    let ranked = job.ranking.n();
     prove!(n == ranked);
-    let (claims, claim_seat) = Claims::new(alloc, 0, n, workers)?;
-    let (rows, row_seat) = Rows::new(alloc, graph, ranking, workers)?;
+    let (claims, claim_seat) = Claims::new(job.alloc, 0, n, job.workers)?;
+    let (rows, row_seat) = Rows::new(job.alloc, job.graph, job.ranking, job.workers)?;
     let first = Share {
         claims: claim_seat,
         rows: row_seat,
         memory: Ok(()),
     };
     let ground = Ground {
-        graph,
-        ranking,
+        job,
         claims: &claims,
         rows: &rows,
     };
-    let whole = grown_share(rt, alloc, workers, &ground, first, gate)?;
+    let whole = grown_share(rt, &ground, first, gate)?;
     whole.memory?;
     claims.close(whole.claims);
     rows.close(whole.rows)
@@ -113,35 +101,29 @@ fn raw_rows<R: Threads + Wait + Sync, G: Gate + Sync>(
 /// error is that memory ran out before they began; in the share stands whether it sufficed for their trees.
 fn grown_share<R: Threads + Wait + Sync, G: Gate + Sync>(
     rt: &R,
-    alloc: Global,
-    workers: u32,
     ground: &Ground<'_>,
     first: Share,
     gate: &G,
 ) -> Result<Share, AllocError>
     requires ground { IsSoundGround ground.now }
-    requires workers { 1 ≤ workers }
-    requires share { IsShareOf ground.now (workers - 1) first }
+    requires share { IsShareOf ground.now (ground.now.job.now.workers - 1) first }
     requires new { IsNew first }
-    ensures share { IfOk result (IsShareOf ground.now (workers - 1)) }
-    ensures done { IfOk result (IsDone ground.now.graph.now.edges ground.now.ranking.now) }
+    ensures share { IfOk result (IsShareOf ground.now (ground.now.job.now.workers - 1)) }
+    ensures done { IfOk result (IsDone ground.now.job.now.graph.now.edges ground.now.job.now.ranking.now) }
 {
-    let mut seats = seated(alloc, workers, ground, first)?;
-    grow_all(rt, alloc, workers, ground, seats.as_mut_slice(), gate);
+    let mut seats = seated(ground, first)?;
+    grow_all(rt, ground, seats.as_mut_slice(), gate);
     Ok(joined(ground, seats))
 }
 
 /// Lets all workers grow trees, each in a thread of its own where one can be made.
 fn grow_all<R: Threads + Wait + Sync, G: Gate + Sync>(
     rt: &R,
-    alloc: Global,
-    workers: u32,
     ground: &Ground<'_>,
     seats: &mut [Worker],
     gate: &G,
 )
     requires ground { IsSoundGround ground.now }
-    requires workers { 1 ≤ workers }
     requires ready { All (IsReady ground.now) seats.old }
     ensures size { length seats.new ≡ length seats.old }
     ensures worked { All (HasWorked ground.now) seats.new }
@@ -149,6 +131,6 @@ fn grow_all<R: Threads + Wait + Sync, G: Gate + Sync>(
     let grow = |_place: usize, worker: &mut Worker|
         requires { IsSoundGround ground.now × IsReady ground.now worker.now }
         ensures { HasWorked ground.entry.now worker.exit.now }
-    { worker.grow_trees(rt, alloc, ground, gate) };
-    thread::for_each_mut(rt, seats, workers as usize, &grow);
+    { worker.grow_trees(rt, ground, gate) };
+    thread::for_each_mut(rt, seats, ground.job.workers as usize, &grow);
 }

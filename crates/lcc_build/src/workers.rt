@@ -6,7 +6,7 @@ use crate::ground::Ground;
 use crate::share::{Share, lcc_share};
 use desk_io::Gate;
 use pruned_tree::Work;
-use std::alloc::{AllocError, Global};
+use std::alloc::AllocError;
 use std::sync::Wait;
 
 /// A worker: its share of the claims and of the rows, which is away only while it works, and the memory in which it grows
@@ -19,13 +19,7 @@ pub struct Worker {
 
 impl Worker {
     /// Claims roots and grows their trees until none is left.
-    pub fn grow_trees<R: Wait, G: Gate>(
-        &mut self,
-        rt: &R,
-        alloc: Global,
-        ground: &Ground<'_>,
-        gate: &G,
-    )
+    pub fn grow_trees<R: Wait, G: Gate>(&mut self, rt: &R, ground: &Ground<'_>, gate: &G)
         requires ground { IsSoundGround ground.now }
         requires ready { IsReady ground.now self.old }
         ensures { HasWorked ground.now self.new }
@@ -33,9 +27,9 @@ impl Worker {
         if let Some(share) = self.share.take() {
             self.share = Some(lcc_share(
                 rt,
-                alloc,
-                ground.graph,
-                ground.ranking,
+                ground.job.alloc,
+                ground.job.graph,
+                ground.job.ranking,
                 ground.claims,
                 share.claims,
                 ground.rows,
@@ -48,29 +42,24 @@ impl Worker {
 }
 
 /// So many workers, whose shares are split from the first one. The only error is that memory ran out.
-pub fn seated(
-    alloc: Global,
-    workers: u32,
-    ground: &Ground<'_>,
-    first: Share,
-) -> Result<Vec<Worker>, AllocError>
-    requires workers { 1 ≤ workers }
-    requires share { IsShareOf ground.now (workers - 1) first }
+pub fn seated(ground: &Ground<'_>, first: Share) -> Result<Vec<Worker>, AllocError>
+    requires share { IsShareOf ground.now (ground.now.job.now.workers - 1) first }
     requires new { IsNew first }
-    ensures size { IfOk result (λ seated. vec_len seated ≡ workers) }
+    ensures size { IfOk result (λ seated. vec_len seated ≡ ground.now.job.now.workers) }
     ensures ready { IfOk result (λ seated. All (IsReady ground.now) seated.items) }
 {
+    let alloc = ground.job.alloc;
     let mut first = first;
-    let mut seated = Vec::with_capacity(alloc, workers as usize)?;
-    for _ in 1..workers {
+    let mut seated = Vec::with_capacity(alloc, ground.job.workers as usize)?;
+    for _ in 1..ground.job.workers {
         let share = split_off(ground, &mut first);
-        let work = Work::new(alloc, ground.graph.n())?;
+        let work = Work::new(alloc, ground.job.graph.n())?;
         seated.push(Worker {
             share: Some(share),
             work,
         })?;
     }
-    let work = Work::new(alloc, ground.graph.n())?;
+    let work = Work::new(alloc, ground.job.graph.n())?;
     seated.push(Worker {
         share: Some(first),
         work,
@@ -98,7 +87,7 @@ pub fn joined(ground: &Ground<'_>, workers: Vec<Worker>) -> Share
     requires some { 1 ≤ vec_len workers }
     requires worked { All (HasWorked ground.now) workers.items }
     ensures share { IsShareOf ground.now (vec_len workers - 1) result }
-    ensures done { IsDone ground.now.graph.now.edges ground.now.ranking.now result }
+    ensures done { IsDone ground.now.job.now.graph.now.edges ground.now.job.now.ranking.now result }
 {
     let mut workers = workers;
     let Some(last) = workers.pop() else {
@@ -116,7 +105,7 @@ pub fn joined(ground: &Ground<'_>, workers: Vec<Worker>) -> Share
 fn handed_back(ground: &Ground<'_>, worker: Worker) -> Share
     requires { HasWorked ground.now worker }
     ensures share { IsShareOf ground.now 0 result }
-    ensures done { IsDone ground.now.graph.now.edges ground.now.ranking.now result }
+    ensures done { IsDone ground.now.job.now.graph.now.edges ground.now.job.now.ranking.now result }
 {
     let Worker { share, work: _ } = worker;
     match share {
@@ -129,10 +118,10 @@ fn handed_back(ground: &Ground<'_>, worker: Worker) -> Share
 fn together(ground: &Ground<'_>, whole: Share, share: Share) -> Share
     requires whole { (left : ℕ) × IsShareOf ground.now left whole }
     requires share { IsShareOf ground.now 0 share }
-    requires whole_done { IsDone ground.now.graph.now.edges ground.now.ranking.now whole }
-    requires share_done { IsDone ground.now.graph.now.edges ground.now.ranking.now share }
+    requires whole_done { IsDone ground.now.job.now.graph.now.edges ground.now.job.now.ranking.now whole }
+    requires share_done { IsDone ground.now.job.now.graph.now.edges ground.now.job.now.ranking.now share }
     ensures share { (left : ℕ) → IsShareOf ground.now left whole → IsShareOf ground.now (left + 1) result }
-    ensures done { IsDone ground.now.graph.now.edges ground.now.ranking.now result }
+    ensures done { IsDone ground.now.job.now.graph.now.edges ground.now.job.now.ranking.now result }
 {
     let Share {
         claims: mut claim_seat,

@@ -1,2 +1,3 @@
+pub mod NodesText
 pub mod OrderLaws
 pub mod OrderText

@@ -1,7 +1,7 @@
 ghost use Rattle.std.specs.Prelude.{◌≡◌, ℕ, List, IfOk};
 
-use crate::node_lines::NodeLines;
 use crate::order_fault::OrderFault;
+use crate::order_lines::OrderLines;
 use desk_io::{Feed, Reader};
 use rank_table::Ranking;
 use std::alloc::{AllocError, Global};
@@ -11,7 +11,7 @@ use text_lines::TextReader;
 /// Reads an order text: one node of 1..n to a line, highest rank first. Blank lines and comments are skipped.
 #[derive(Drop)]
 pub struct OrderReader {
-    reader: TextReader<NodeLines>,
+    reader: TextReader<OrderLines>,
 }
 
 impl Model for OrderReader {
@@ -33,7 +33,7 @@ impl OrderReader {
         ensures comes_to { IfOk result (λ r. (bytes : List ℕ) → ⟦<OrderReader as Reader>⟧.comes_to r bytes ≡ order_of_text n bytes) }
     {
         Ok(OrderReader {
-            reader: TextReader::new(alloc, NodeLines::new(alloc, n))?,
+            reader: TextReader::new(alloc, OrderLines::new(alloc, n))?,
         })
     }
 }

@@ -15,7 +15,7 @@ use entry_sinks::{EntrySink, gather};
 use hub_index::{Index, RowList};
 use plant_tree::Planter;
 use rank_table::Ranking;
-use renumbering::WorkingCopy;
+use renumbering::{Job, WorkingCopy};
 use std::alloc::{AllocError, Global};
 use std::sync::Wait;
 use std::thread::{self, Threads};
@@ -45,16 +45,8 @@ pub fn build_plant<R: Threads + Wait + Sync, G: Gate + Sync>(
 {
     let copy = WorkingCopy::new(alloc, graph, ranking)?;
     let all = copy.graph.n();
-    let rows = plant_first(
-        rt,
-        alloc,
-        &copy.graph,
-        &copy.ranking,
-        all,
-        workers,
-        cut,
-        gate,
-    )?;
+    let job = Job::new(alloc, &copy.graph, &copy.ranking, workers, cut);
+    let rows = plant_roots(rt, &job, all, gate)?;
     copy.index(alloc, graph, ranking, rows)
 }
 
@@ -83,25 +75,29 @@ pub fn plant_first<R: Threads + Wait + Sync, G: Gate + Sync>(
     requires cut_to { cut ≤ 2 ^ 30 }
     ensures labelling { IfOk result (IsPartChl (Joined graph.now.edges) ranking.now (λ p. p < eta)) }
 {
-    let n = graph.n();
-    let batches = batches_for(eta, workers, cut);
-    let workers = workers.min(batches);
-    let mut crew = crew_of(alloc, n, batches, workers)?;
-    work(
-        rt,
-        alloc,
-        graph,
-        ranking,
-        eta,
-        batches,
-        gate,
-        &mut crew.members,
-        workers,
-    );
-    let (come, mut sinks) = collect(alloc, batches, crew)?;
-    let missing = plant_missing(alloc, graph, ranking, eta, batches, gate, &come)?;
+    let job = Job::new(alloc, graph, ranking, workers, cut);
+    plant_roots(rt, &job, eta, gate)
+}
+
+/// The rows of [`plant_first`] on what a job has.
+pub fn plant_roots<R: Threads + Wait + Sync, G: Gate + Sync>(
+    rt: &R,
+    job: &Job<'_>,
+    eta: u32,
+    gate: &G,
+) -> Result<RowList, AllocError>
+    requires roots { eta ≤ job.now.graph.now.n }
+    ensures labelling { IfOk result (IsPartChl (Joined job.now.graph.now.edges) job.now.ranking.now (λ p. p < eta)) }
+{
+    let n = job.graph.n();
+    let batches = batches_for(eta, job.workers, job.cut);
+    let workers = job.workers.min(batches);
+    let mut crew = crew_of(job.alloc, n, batches, workers)?;
+    work(rt, job, eta, batches, gate, &mut crew.members, workers);
+    let (come, mut sinks) = collect(job.alloc, batches, crew)?;
+    let missing = plant_missing(job, eta, batches, gate, &come)?;
     sinks.push(missing)?;
-    gather(rt, alloc, n, sinks)
+    gather(rt, job.alloc, n, sinks)
 }
 
 /// The batches that each worker is dealt, where there are roots enough. With many the workers end at nearly the same time.
@@ -123,21 +119,18 @@ fn batches_for(roots: u32, workers: u32, cut: u32) -> u32
 /// The workers plant the first so many roots, side by side.
 fn work<R: Threads + Wait + Sync, G: Gate + Sync>(
     rt: &R,
-    alloc: Global,
-    graph: &Graph,
-    ranking: &Ranking,
+    job: &Job<'_>,
     roots: u32,
     batches: u32,
     gate: &G,
     crew: &mut [PlantWorker],
     workers: u32,
 )
-    requires ready { All (IsReady graph.now.n) crew.old }
-    requires ranked { length ranking.now ≡ graph.now.n }
-    requires roots { roots ≤ length ranking.now }
+    requires ready { All (IsReady job.now.graph.now.n) crew.old }
+    requires roots { roots ≤ length job.now.ranking.now }
     requires few { batches ≤ 2 ^ 30 }
     requires workers { 1 ≤ workers }
-    ensures worked { All (HasWorked graph.now.edges ranking.now roots batches graph.now.n) crew.new }
+    ensures worked { All (HasWorked job.now.graph.now.edges job.now.ranking.now roots batches job.now.graph.now.n) crew.new }
     ensures shares { shares_of crew.new ≡ shares_of crew.old }
 {
     thread::for_each_mut(
@@ -145,49 +138,36 @@ fn work<R: Threads + Wait + Sync, G: Gate + Sync>(
         crew,
         workers as usize,
         &|_place: usize, worker: &mut PlantWorker|
-            requires { IsReady graph.now.n worker.now × (length ranking.now ≡ graph.now.n) × (roots ≤ length ranking.now) × (batches ≤ 2 ^ 30) }
-            ensures { HasWorked graph.entry.now.edges ranking.entry.now roots batches graph.entry.now.n worker.exit.now × (share_of worker.exit.now.hand ≡ share_of worker.entry.now.hand) }
-        { worker.plant(rt, alloc, graph, ranking, roots, batches, gate) },
+            requires { IsReady job.now.graph.now.n worker.now × (roots ≤ length job.now.ranking.now) × (batches ≤ 2 ^ 30) }
+            ensures { HasWorked job.entry.now.graph.now.edges job.entry.now.ranking.now roots batches job.entry.now.graph.now.n worker.exit.now × (share_of worker.exit.now.hand ≡ share_of worker.entry.now.hand) }
+        { worker.plant(rt, job, roots, batches, gate) },
     );
 }
 
 /// What the caller itself plants of the first so many roots: those of the batches that came from nobody. The only error is that
 /// memory ran out.
 fn plant_missing<G: Gate>(
-    alloc: Global,
-    graph: &Graph,
-    ranking: &Ranking,
+    job: &Job<'_>,
     roots: u32,
     batches: u32,
     gate: &G,
     come: &[bool],
 ) -> Result<EntrySink, AllocError>
-    requires ranked { length ranking.now ≡ graph.now.n }
-    requires roots { roots ≤ length ranking.now }
+    requires roots { roots ≤ length job.now.ranking.now }
     requires some { 1 ≤ batches }
     requires few { batches ≤ 2 ^ 30 }
     requires marks { length come.now ≡ batches }
-    ensures sink { IfOk result (λ sink. sink.n ≡ graph.now.n) }
-    ensures missing { IfOk result (λ sink. HoldsPart graph.now.edges ranking.now (IsMissing roots come.now) (sunk_at sink)) }
+    ensures sink { IfOk result (λ sink. sink.n ≡ job.now.graph.now.n) }
+    ensures missing { IfOk result (λ sink. HoldsPart job.now.graph.now.edges job.now.ranking.now (IsMissing roots come.now) (sunk_at sink)) }
 {
-    let n = graph.n();
-    let mut planter = Planter::new(alloc, n)?;
-    let mut sink = EntrySink::new(alloc, n)?;
+    let n = job.graph.n();
+    let mut planter = Planter::new(job.alloc, n)?;
+    let mut sink = EntrySink::new(job.alloc, n)?;
     for batch in 0..batches {
         if come[batch as usize] {
             continue;
         }
-        plant_batch(
-            alloc,
-            graph,
-            ranking,
-            roots,
-            batches,
-            batch,
-            gate,
-            &mut planter,
-            &mut sink,
-        )?;
+        plant_batch(job, roots, batches, batch, gate, &mut planter, &mut sink)?;
     }
     Ok(sink)
 }

@@ -8,10 +8,9 @@ use crate::hand::Hand;
 use desk_io::Gate;
 use entry_sinks::EntrySink;
 use plant_tree::Planter;
-use rank_table::Ranking;
+use renumbering::Job;
 use std::alloc::{AllocError, Global};
 use std::sync::Wait;
-use walk_laws::Graph;
 
 /// One worker: its hand, a planter, what it has put, the numbers of the batches that it has planted, and whether memory
 /// has sufficed.
@@ -43,18 +42,15 @@ impl PlantWorker {
     pub fn plant<R: Wait, G: Gate>(
         &mut self,
         rt: &R,
-        alloc: Global,
-        graph: &Graph,
-        ranking: &Ranking,
+        job: &Job<'_>,
         roots: u32,
         batches: u32,
         gate: &G,
     )
-        requires ready { IsReady graph.now.n self.old }
-        requires ranked { length ranking.now ≡ graph.now.n }
-        requires roots { roots ≤ length ranking.now }
+        requires ready { IsReady job.now.graph.now.n self.old }
+        requires roots { roots ≤ length job.now.ranking.now }
         requires batches { batches ≤ 2 ^ 30 }
-        ensures worked { HasWorked graph.now.edges ranking.now roots batches graph.now.n self.new }
+        ensures worked { HasWorked job.now.graph.now.edges job.now.ranking.now roots batches job.now.graph.now.n self.new }
         ensures share { share_of self.new.hand ≡ share_of self.old.hand }
     {
         for _ in rt.forever() {
@@ -64,10 +60,7 @@ impl PlantWorker {
             if batch >= batches {
                 continue;
             }
-            if self
-                .plant_one(alloc, graph, ranking, roots, batches, batch, gate)
-                .is_err()
-            {
+            if self.plant_one(job, roots, batches, batch, gate).is_err() {
                 self.memory = false;
                 return;
             }
@@ -77,19 +70,16 @@ impl PlantWorker {
     /// Plants what a batch has of the first so many roots, and notes its number. The only error is that memory ran out.
     fn plant_one<G: Gate>(
         &mut self,
-        alloc: Global,
-        graph: &Graph,
-        ranking: &Ranking,
+        job: &Job<'_>,
         roots: u32,
         batches: u32,
         batch: u32,
         gate: &G,
     ) -> Result<(), AllocError>
-        requires planter { self.old.planter ≡ graph.now.n }
-        requires worked { HasWorked graph.now.edges ranking.now roots batches graph.now.n self.old }
+        requires planter { self.old.planter ≡ job.now.graph.now.n }
+        requires worked { HasWorked job.now.graph.now.edges job.now.ranking.now roots batches job.now.graph.now.n self.old }
         requires memory { self.old.memory ≡ true }
-        requires ranked { length ranking.now ≡ graph.now.n }
-        requires roots { roots ≤ length ranking.now }
+        requires roots { roots ≤ length job.now.ranking.now }
         requires batches { batches ≤ 2 ^ 30 }
         requires batch { batch < batches }
         requires took { (x : ℕ) → times x self.old.numbers.items + (if batch == x then 1 else 0) ≤ got_from x (reaches self.old.hand) }
@@ -97,13 +87,11 @@ impl PlantWorker {
         ensures planter { self.new.planter ≡ self.old.planter }
         ensures memory { self.new.memory ≡ self.old.memory }
         ensures sink { self.new.sink.n ≡ self.old.sink.n }
-        ensures worked { OnOk result (HasWorked graph.now.edges ranking.now roots batches graph.now.n self.new) }
+        ensures worked { OnOk result (HasWorked job.now.graph.now.edges job.now.ranking.now roots batches job.now.graph.now.n self.new) }
         ensures numbers { OnErr result (self.new.numbers.items ≡ self.old.numbers.items) }
     {
         plant_batch(
-            alloc,
-            graph,
-            ranking,
+            job,
             roots,
             batches,
             batch,

@@ -4,15 +4,17 @@
 //! [`renumbered_ranking`] are a graph and a ranking by the new numbers, and [`rows_back`] gives each node the row that stands
 //! under its new number, [`split_rows_back`] of split rows. `laws` has the law that the labelling comes back so. It stands on
 //! walk_laws, rank_table and hub_index. Its callers' clauses use `number_in`, `renumbered` and `renumbered_edges`
-//! (specs/Renumbered).
+//! (specs/Renumbered). [`Job`] is what a build stands on.
 #![tactic(auto)]
 
+mod job;
 pub mod laws;
 mod renumbered;
 mod rows;
 mod search;
 mod working;
 
+pub use job::Job;
 pub use renumbered::{renumbered_graph, renumbered_ranking};
 pub use rows::{rows_back, split_rows_back};
 pub use search::bfs_order;

@@ -1,18 +1,19 @@
 ghost use Rattle.std.specs.Prelude.{◌≡◌, ℕ, ◌+◌, ◌^◌, ◌<◌, ◌≤◌, ◌||◌, true, false, [], ◌∷◌, ◌++◌, IsPermutation, IfOk, nat_eq};
 ghost use Rattle.std.specs.List.{IsDistinct};
 ghost use Rattle.table_seats.specs.Numbers.{numbers};
-ghost use Rattle.root_claims.specs.Seats.{IsSeatOf};
+ghost use Rattle.root_claims.specs.Seats.{IsSeatAt, IsSeatOf, from};
 ghost use Rattle.root_claims.specs.Answers.{IfRoot, IfEnd, is_end};
 
 use crate::claim::Claim;
-use crate::rule::{Bounds, Draws, Handing, Law, View};
+use crate::rule::{Bounds, Draws, Handing, Law, Settles, View};
 use atomic_table::{Seat, Table};
 use std::alloc::{AllocError, Global};
 use std::marker::Model;
 use table_seats::{SeatView, join_in, split_off};
 
 /// The numbers from a first one up to but not including `n`, which the seats of workers draw, each once. Positions of roots
-/// are such numbers. Contracts see which table it is, the first number, `n`, and how many seats there are.
+/// are such numbers. Contracts see which table it is, the first number, `n`, and how many seats there are. Where the last seat
+/// settles what was drawn ([`Claims::settle`]), its claims are from the next number on.
 ///
 /// ```text
 /// let (claims, mut one) = Claims::new(alloc, 0, n, 2)?;
@@ -86,11 +87,11 @@ impl Claims {
     /// Draws one number, once, by one atomic step. A number below `n` is the position of a root, from 0, which no seat got
     /// before; any other is the end, and then the seat is over and draws no more.
     pub fn claim(&self, seat: &mut ClaimSeat) -> Claim
-        requires seat { IsSeatOf self.now seat.old }
+        requires seat { IsSeatAt self.now seat.old }
         requires over { seat.old.over ≡ false }
-        ensures seat { IsSeatOf self.now seat.new }
+        ensures seat { seat.new.claims ≡ seat.old.claims }
         ensures left { seat.new.left ≡ seat.old.left }
-        ensures within { IfRoot result (λ p. (self.now.first ≤ p) × (p < self.now.n)) }
+        ensures within { IfRoot result (λ p. (seat.old.claims.first ≤ p) × (p < self.now.n)) }
         ensures root { IfRoot result (λ p. seat.new.got ≡ seat.old.got ++ p ∷ []) }
         ensures end { IfEnd result (seat.new.got ≡ seat.old.got) }
         ensures once { IsDistinct nat_eq seat.new.got }
@@ -107,13 +108,13 @@ impl Claims {
     /// Splits a new seat off, from which `give` more may be split; the old one loses those and one for the new seat
     /// itself. A seat that is over gives one that is over. It takes no memory.
     pub fn split(&self, seat: &mut ClaimSeat, give: u32) -> ClaimSeat
-        requires seat { IsSeatOf self.now seat.old }
+        requires seat { IsSeatAt self.now seat.old }
         requires enough { give < seat.old.left }
-        ensures seat { IsSeatOf self.now seat.new }
+        ensures seat { seat.new.claims ≡ seat.old.claims }
         ensures left { seat.new.left + give + 1 ≡ seat.old.left }
         ensures got { seat.new.got ≡ seat.old.got }
         ensures over { seat.new.over ≡ seat.old.over }
-        ensures new_seat { IsSeatOf self.now result }
+        ensures new_seat { result.claims ≡ seat.old.claims }
         ensures new_left { result.left ≡ give }
         ensures new_got { result.got ≡ [] }
         ensures new_over { result.over ≡ seat.old.over }
@@ -127,11 +128,12 @@ impl Claims {
     }
 
     /// Joins the other seat into this one, which gains what it got and what may be split from it, and is over where one of
-    /// them is. It takes no memory.
+    /// them is. Both drew from the same number on. It takes no memory.
     pub fn join(&self, seat: &mut ClaimSeat, other: ClaimSeat)
-        requires seat { IsSeatOf self.now seat.old }
-        requires other { IsSeatOf self.now other }
-        ensures seat { IsSeatOf self.now seat.new }
+        requires seat { IsSeatAt self.now seat.old }
+        requires other { IsSeatAt self.now other }
+        ensures seat { seat.new.claims ≡ seat.old.claims }
+        ensures alike { other.claims ≡ seat.old.claims }
         ensures left { seat.new.left ≡ seat.old.left + other.left + 1 }
         ensures got { seat.new.got ≡ seat.old.got ++ other.got }
         ensures once { IsDistinct nat_eq seat.new.got }
@@ -142,14 +144,32 @@ impl Claims {
         seat.left += left + 1;
     }
 
+    /// Settles what was drawn, by the last seat, into which all others were joined. It answers the next number that a draw would
+    /// give, or `n` where that is less: what the seat got are the numbers from the first up to but not including the answer, each
+    /// once. The seat has got nothing then, and its claims are from the answer on, which is `n` where it is over.
+    pub fn settle(&self, seat: &mut ClaimSeat) -> u32
+        requires seat { IsSeatAt self.now seat.old }
+        requires last { seat.old.left + 1 ≡ self.now.seats }
+        ensures seat { seat.new.claims ≡ from result seat.old.claims }
+        ensures left { seat.new.left ≡ seat.old.left }
+        ensures got { seat.new.got ≡ [] }
+        ensures same { seat.new.over ≡ seat.old.over }
+        ensures within { (seat.old.claims.first ≤ result) × (result ≤ self.now.n) }
+        ensures drawn { IsPermutation seat.old.got (numbers seat.old.claims.first result) }
+        ensures over { seat.old.over ≡ true → result ≡ self.now.n }
+    {
+        let number = self.table.shared.load::<Settles>(&mut seat.seat, 0);
+        number.min(u64::from(self.n)) as u32
+    }
+
     /// Ends the claims, by the last seat, into which all others were joined. It answers the next number that a draw would
     /// have given, or `n` where that is less: what the seat got are the numbers from the first up to but not including the
     /// answer, each once. The answer is `n` where the seat is over.
     pub fn close(self, seat: ClaimSeat) -> u32
-        requires seat { IsSeatOf self seat }
+        requires seat { IsSeatAt self seat }
         requires last { seat.left + 1 ≡ self.seats }
-        ensures within { (self.first ≤ result) × (result ≤ self.n) }
-        ensures drawn { IsPermutation seat.got (numbers self.first result) }
+        ensures within { (seat.claims.first ≤ result) × (result ≤ self.n) }
+        ensures drawn { IsPermutation seat.got (numbers seat.claims.first result) }
         ensures over { seat.over ≡ true → result ≡ self.n }
     {
         let Claims { table, n } = self;

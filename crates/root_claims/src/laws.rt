@@ -3,7 +3,7 @@ ghost use Rattle.std.specs.Prelude.{◌≡◌, ◌↔◌, ℕ};
 ghost use Rattle.atomic_table.specs.Table.{Step};
 ghost use Rattle.root_claims.specs.declared.rule.Bounds.{Bounds as BoundsOfClaims};
 ghost use Rattle.root_claims.specs.Lawful.{Holds, Sitter, Table};
-ghost use Rattle.root_claims.specs.Laws.{HoldsAtFirst, DrawsKeep, SplitsKeep, JoinsKeep};
+ghost use Rattle.root_claims.specs.Laws.{HoldsAtFirst, DrawsKeep, SettlesKeep, SplitsKeep, JoinsKeep};
 
 use crate::rule::{Bounds, Handing, Law, View};
 use atomic_table::{Play, TableRule};
@@ -13,6 +13,7 @@ use table_seats::{Looks, SeatView};
 pub fn the_rule_is_kept()
     ensures first { HoldsAtFirst }
     ensures draw { DrawsKeep }
+    ensures settle { SettlesKeep }
     ensures split { SplitsKeep }
     ensures join { JoinsKeep }
 {}

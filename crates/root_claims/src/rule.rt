@@ -3,8 +3,8 @@ use atomic_table::{Play, TableRule};
 use std::collections::LinkedList;
 use table_seats::{SeatView, Sees, Shares};
 
-/// What is fixed when claims are made: the numbers from `first` up to but not including `n` are drawn, by at most so many
-/// seats at one time.
+/// The numbers from `first` up to but not including `n` are drawn, by at most so many seats at one time. The last two are fixed
+/// when claims are made; `first` goes on where the last seat settles what was drawn.
 #[derive(Drop)]
 pub struct Bounds {
     pub first: u32,
@@ -19,6 +19,8 @@ pub struct View {
     pub got: LinkedList<u32>,
     /// Whether it drew the end, or was split from a seat or joined with one that was over.
     pub over: bool,
+    /// Whether the seat that was last joined into it drew from the same number on.
+    pub alike: bool,
 }
 
 pub struct Law;
@@ -38,6 +40,15 @@ impl Play<(), SeatView<View>> for Draws {
     ghost use Rattle.root_claims.specs.Lawful.{Drew};
 
     ghost then = { Drew };
+}
+
+/// The last seat settles what was drawn, and draws from the next number on.
+pub struct Settles;
+
+impl Play<(), SeatView<View>> for Settles {
+    ghost use Rattle.root_claims.specs.Lawful.{Settled};
+
+    ghost then = { Settled };
 }
 
 /// A split seat has got no number; a join puts the numbers of both seats together.

@@ -1,6 +1,6 @@
 ghost use Rattle.std.specs.Prelude.{◌≡◌, length, IfOk};
 ghost use Rattle.chl_inputs.specs.Stages.{Conforms};
-ghost use Rattle.chl_cmd.specs.Commands.{IsFileOf, build_stage};
+ghost use Rattle.chl_answers.specs.Commands.{IsFileOf, build_stage};
 ghost use Rattle.chl_words.specs.Asking.{AreWithinLimits};
 ghost use Rattle.chl_words.specs.declared.asked.Version.TheVariants.{One, Two};
 

@@ -4,7 +4,7 @@ ghost use Rattle.rank_table.specs.ByDegree.{IsByDegree};
 ghost use Rattle.walk_laws.specs.declared.entry.Entry.{Entry as AnyEntry};
 ghost use Rattle.walk_laws.specs.Joined.{Joined};
 ghost use Rattle.walk_laws.specs.Labelling.{IsChl};
-ghost use Rattle.chl_cmd.specs.Commands.{IsGridText};
+ghost use Rattle.chl_answers.specs.Commands.{IsGridText};
 ghost use Rattle.chl_words.specs.Asking.{IsGridWithinLimits, most_workers};
 
 use crate::labelling::labelling;
@@ -22,8 +22,8 @@ use walk_laws::Graph;
 /// at least in a superstep.
 const GRID_CUT: u32 = 1024;
 
-/// The lines of the square grid of a side and a seed, whose index is built by each construction in turn, under the ranking of
-/// its nodes by degree. It touches no desk. Want of memory is the only error.
+/// The lines of the square grid of a side and a seed, whose index is built by three of the constructions in turn, under the
+/// ranking of its nodes by degree. It touches no desk. Want of memory is the only error.
 pub fn grid_text<R: Threads + Wait + Sync, G: Gate + Sync>(
     rt: &R,
     alloc: Global,

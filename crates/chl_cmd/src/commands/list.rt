@@ -4,12 +4,12 @@ ghost use Rattle.walk_laws.specs.Joined.{Joined};
 ghost use Rattle.walk_laws.specs.Labelling.{IsChl};
 ghost use Rattle.chl_inputs.specs.Stages.{Conforms};
 ghost use Rattle.chl_lines.specs.PrintedRows.{lines_from};
-ghost use Rattle.chl_cmd.specs.Commands.{list_stage};
+ghost use Rattle.chl_answers.specs.Commands.{list_stage};
 
-use super::text::text_output;
 use crate::labelling::labelling;
 use chl_inputs::{Stop, read_graph, read_order};
 use chl_lines::row_lines;
+use chl_outputs::text_output;
 use chl_words::{By, Construction, Name};
 use desk_io::{Desk, FreeGate};
 use index_file::Pieces;

@@ -6,13 +6,12 @@ ghost use Rattle.walk_laws.specs.Ranking.{IsRanking};
 ghost use Rattle.chl_inputs.specs.Inputs.{ArePairsWithin};
 ghost use Rattle.chl_inputs.specs.Stages.{Conforms};
 ghost use Rattle.chl_lines.specs.PrintedAnswers.{answer_lines as lines_of_answers};
-ghost use Rattle.chl_cmd.specs.Commands.{AreAnswers, solve_stage};
+ghost use Rattle.chl_answers.specs.Commands.{AreAnswers, solve_stage};
 ghost use Rattle.chl_words.specs.Asking.{AreWithinLimits};
 
-use super::query::replies_text;
-use super::text::text_output;
 use crate::labelling::labelling;
 use chl_inputs::{Stop, read_graph, read_order, read_pairs};
+use chl_outputs::{replies_text, text_output};
 use chl_words::{Construction, Name};
 use desk_io::{Desk, Gate};
 use dimacs_text::Pairs;

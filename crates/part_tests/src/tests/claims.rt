@@ -12,6 +12,7 @@ fn each_root_is_drawn_and_then_the_end(rt: HostRuntime) -> Result<(), Fail> {
     assert_eq!(rt; claims.claim(&mut one), Claim::End);
     claims.join(&mut one, two);
     assert_eq!(rt; one.left(), 1);
+    assert_eq!(rt; claims.settle(&mut one), 2);
     assert_eq!(rt; claims.close(one), 2);
     Ok(())
 }

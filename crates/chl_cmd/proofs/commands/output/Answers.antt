@@ -1,7 +1,7 @@
 use Rattle.std.specs.Prelude.{Ok}
 use Rattle.std.proofs.Common.{ap, refl}
 use Rattle.chl_inputs.proofs.StagesInTurn.{goes_comes, goes_works}
-use Rattle.chl_cmd.proofs.TextAnswers.{goes_told}
+use Rattle.chl_outputs.proofs.TextAnswers.{goes_told}
 use Rattle.chl_cmd.proofs.commands.output.Goals as goal
 
 pub returns-in-List : goal.returns-in-List
@@ -21,6 +21,9 @@ returns-in-Path g c = rw c.in-Path.is c.path_output.ensures
 
 pub returns-in-Trace : goal.returns-in-Trace
 returns-in-Trace g c = rw c.in-Trace.is c.trace_output.ensures
+
+pub returns-in-Near : goal.returns-in-Near
+returns-in-Near g c = rw c.in-Near.is c.near_output.ensures
 
 pub returns-in-Audit : goal.returns-in-Audit
 returns-in-Audit g c = rw c.in-Audit.is c.audit_output.ensures

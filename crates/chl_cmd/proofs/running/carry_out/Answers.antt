@@ -1,8 +1,8 @@
 use Rattle.std.proofs.Common.{◌≡◌, ◌∙◌, ap, subst, sym}
 use Rattle.std.specs.Prelude.{Err}
 use Rattle.desk_io.specs.Contents.{Tells}
-use Rattle.chl_cmd.specs.Outcome.{given, GivesPrefix, Runs}
-use Rattle.chl_cmd.proofs.WaysToEnd.{runs_done, runs_failed, runs_lost, runs_stopped}
+use Rattle.chl_answers.specs.Outcome.{given, GivesPrefix, Runs}
+use Rattle.chl_answers.proofs.WaysToEnd.{runs_done, runs_failed, runs_lost, runs_stopped}
 use Rattle.chl_cmd.proofs.running.carry_out.Goals as goal
 
 pub returns-in-Ok-give-clause-runs : goal.returns-in-Ok-give-clause-runs

@@ -1,6 +1,6 @@
 use Rattle.std.proofs.Common.{◌∙◌, arith}
 use Rattle.std.proofs.lemmas.Result.{IfOk-weaker}
-use Rattle.chl_lines.proofs.PartLines.{part_is}
+use Rattle.chl_lines.proofs.AnswerParts.{part_is}
 use Rattle.chl_lines.proofs.printed.part_lines.Goals as goal
 
 pub returns : goal.returns

@@ -1,8 +1,7 @@
-use Rattle.std.proofs.Common.{◌≡◌, ◌∙◌, ap, subst, sym, ℕ, ◌+◌, ◌<◌, List, [], ◌∷◌, ◌++◌, Bor, Result, IfOk, add-one, get_or, length, map, take}
+use Rattle.std.proofs.Common.{◌≡◌, ◌∙◌, ap, subst, sym, ℕ, ◌+◌, ◌<◌, List, [], ◌∷◌, ◌++◌, Bor, IfOk, add-one, get_or, length, map, take}
 use Rattle.std.proofs.Math.Seq.{take-suc}
 use Rattle.std.proofs.lemmas.List.{map-append, take_all}
 use Rattle.clap.specs.Words.{App, Rule, Text, with_rule}
-use Rattle.clap.specs.declared.builder.command.Command.{Command}
 use Rattle.chl_words.specs.Literal as literal
 use Rattle.chl_words.specs.Literal.{IsProgram, command, command_alone}
 use Rattle.chl_words.proofs.literal.files.Goals as goal

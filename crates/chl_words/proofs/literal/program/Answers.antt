@@ -28,8 +28,9 @@ returns c =
     let four = c.with_command-program-4.ensures _ literal.query three c.files-2.ensures in
     let five = c.with_command-program-5.ensures _ literal.path four c.files-3.ensures in
     let six = c.with_command-program-6.ensures _ literal.trace five c.files-4.ensures in
-    let seven = c.with_command-program-7.ensures _ literal.audit six c.files-5.ensures in
-    let eight = c.with_command-program-8.ensures _ literal.upgrade seven c.files-6.ensures in
-    let nine = c.with_command-program-9.ensures _ literal.degree eight c.files-7.ensures in
-    let ten = c.with_command-program-10.ensures _ literal.rank nine c.files-8.ensures in
-    c.with_command.ensures _ literal.grid ten c.grid.ensures
+    let seven = c.with_command-program-7.ensures _ literal.near six c.near.ensures in
+    let eight = c.with_command-program-8.ensures _ literal.audit seven c.files-5.ensures in
+    let nine = c.with_command-program-9.ensures _ literal.upgrade eight c.files-6.ensures in
+    let ten = c.with_command-program-10.ensures _ literal.degree nine c.files-7.ensures in
+    let eleven = c.with_command-program-11.ensures _ literal.rank ten c.files-8.ensures in
+    c.with_command.ensures _ literal.grid eleven c.grid.ensures

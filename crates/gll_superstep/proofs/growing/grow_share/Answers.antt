@@ -14,6 +14,7 @@ use Rattle.pool_view.specs.Viewing.{ViewKept, puts_row}
 use Rattle.gll_superstep.specs.Workers.{SuperstepView}
 use Rattle.gll_superstep.specs.Workers.{AreUncovered}
 use Rattle.gll_superstep.proofs.DoneWorkers.{IsDone-there, grown_from_nothing, listed_by, sufficed_by}
+use Rattle.gll_superstep.proofs.JoinedOutputs.{is_at}
 use Rattle.gll_superstep.proofs.GrownLists.{HavePutOver-where}
 use Rattle.gll_table.proofs.ShardedTables.{IsGathered-below}
 use Rattle.gll_superstep.proofs.UncoveredPuts.{AreUncovered-from_nothing}
@@ -26,6 +27,10 @@ new-view-requires-clause-global g c =
     subst (λ es. IsGathered es (order_of c.superstep.inside.pool.fact) c.rows-global.result) (sym pool.edges_are)
     (subst (λ os. IsGathered g.B.Build.edges os c.rows-global.result) (sym pool.order_is)
     (IsGathered-below g.B.Build.edges g.B.Build.order c.superstep.inside.table.first c.rows-global.result ranking c.rows-global.ensures.below))
+
+pub grow_trees-memory-requires-clause-seat : goal.grow_trees-memory-requires-clause-seat
+grow_trees-memory-requires-clause-seat g c =
+    is_at g.B.Build.claims c.args.context.now.claims.now c.superstep.inside.table.first c.args.seats.claims (c.requires.seats.claim_seat ∙ ap (λ (s : SuperstepView). s.claims) (sym c.superstep.view_is)) c.args.context.now.claims_are
 
 pub returns-clause-done : goal.returns-clause-done
 returns-clause-done g c =

@@ -4,15 +4,19 @@ use Rattle.std.proofs.lemmas.List.{append-nil}
 use Rattle.pruned_tree.proofs.GrownPuts.{IsGrownBy-none, HasGrown-then, not_ok}
 use Rattle.pool_view.specs.Fitting.{edges_of, order_of}
 use Rattle.pool_view.specs.Viewing.{ViewKept, puts_row}
+use Rattle.gll_superstep.proofs.JoinedOutputs.{stays_at}
 use Rattle.gll_superstep.proofs.UncoveredPuts.{StayUncovered-none, StayUncovered-then}
 use Rattle.gll_superstep.proofs.growing.grow_trees.Goals as goal
+
+pub next_tree-requires-clause-seat : goal.next_tree-requires-clause-seat
+next_tree-requires-clause-seat g c = stays_at c.args.context.now.claims.now c.args.seat.now c.loop.seat c.loop.invariant.3 c.requires.seat
 
 pub loop-init : goal.loop-init
 loop-init g c = (
   tt,
   tt,
   c.requires.work,
-  c.requires.seat,
+  refl,
   refl,
   c.requires.over,
   c.requires.edges,
@@ -28,7 +32,7 @@ loop-preserved g c = (
   tt,
   tt,
   c.next_tree.ensures.work ∙ c.loop.invariant.2,
-  c.next_tree.ensures.seat,
+  c.next_tree.ensures.seat ∙ c.loop.invariant.3,
   c.next_tree.ensures.left ∙ c.loop.invariant.4,
   rw c.in-Ok-Some.field-0-is at c.in-Ok-Some.ensures.goes_on,
   ap (λ (k : ViewKept). edges_of k.pool.fact) c.next_tree.ensures.kept ∙ c.loop.invariant.6,
@@ -78,7 +82,7 @@ pub returns-in_err-push-in-Ok-Some-clause-work : goal.returns-in_err-push-in-Ok-
 returns-in_err-push-in-Ok-Some-clause-work g c = c.next_tree.ensures.work ∙ c.loop.invariant.2 ∙ sym c.requires.work
 
 pub returns-in_err-push-in-Ok-Some-clause-seat : goal.returns-in_err-push-in-Ok-Some-clause-seat
-returns-in_err-push-in-Ok-Some-clause-seat g c = c.next_tree.ensures.seat
+returns-in_err-push-in-Ok-Some-clause-seat g c = c.next_tree.ensures.seat ∙ c.loop.invariant.3
 
 pub returns-in_err-push-in-Ok-Some-clause-left : goal.returns-in_err-push-in-Ok-Some-clause-left
 returns-in_err-push-in-Ok-Some-clause-left g c = c.next_tree.ensures.left ∙ c.loop.invariant.4
@@ -93,7 +97,7 @@ pub returns-then-is_done-clause-work : goal.returns-then-is_done-clause-work
 returns-then-is_done-clause-work g c = c.next_tree.ensures.work ∙ c.loop.invariant.2 ∙ sym c.requires.work
 
 pub returns-then-is_done-clause-seat : goal.returns-then-is_done-clause-seat
-returns-then-is_done-clause-seat g c = c.next_tree.ensures.seat
+returns-then-is_done-clause-seat g c = c.next_tree.ensures.seat ∙ c.loop.invariant.3
 
 pub returns-then-is_done-clause-left : goal.returns-then-is_done-clause-left
 returns-then-is_done-clause-left g c = c.next_tree.ensures.left ∙ c.loop.invariant.4
@@ -108,7 +112,7 @@ pub returns-in-Ok-None-clause-work : goal.returns-in-Ok-None-clause-work
 returns-in-Ok-None-clause-work g c = c.next_tree.ensures.work ∙ c.loop.invariant.2 ∙ sym c.requires.work
 
 pub returns-in-Ok-None-clause-seat : goal.returns-in-Ok-None-clause-seat
-returns-in-Ok-None-clause-seat g c = c.next_tree.ensures.seat
+returns-in-Ok-None-clause-seat g c = c.next_tree.ensures.seat ∙ c.loop.invariant.3
 
 pub returns-in-Ok-None-clause-left : goal.returns-in-Ok-None-clause-left
 returns-in-Ok-None-clause-left g c = c.next_tree.ensures.left ∙ c.loop.invariant.4
@@ -123,7 +127,7 @@ pub returns-in-Err-clause-work : goal.returns-in-Err-clause-work
 returns-in-Err-clause-work g c = c.next_tree.ensures.work ∙ c.loop.invariant.2 ∙ sym c.requires.work
 
 pub returns-in-Err-clause-seat : goal.returns-in-Err-clause-seat
-returns-in-Err-clause-seat g c = c.next_tree.ensures.seat
+returns-in-Err-clause-seat g c = c.next_tree.ensures.seat ∙ c.loop.invariant.3
 
 pub returns-in-Err-clause-left : goal.returns-in-Err-clause-left
 returns-in-Err-clause-left g c = c.next_tree.ensures.left ∙ c.loop.invariant.4

@@ -1,5 +1,4 @@
 use Rattle.std.proofs.Common.{◌≡◌, true, false}
-use Rattle.root_claims.specs.Seats.{IsSeatOf as IsClaimSeatOf}
 use Rattle.pruned_tree.specs.GrownBy.{HasGrown}
 use Rattle.pool_view.specs.Fitting.{edges_of, order_of}
 use Rattle.pool_view.specs.Viewing.{puts_row, view_kept}
@@ -11,7 +10,7 @@ abbrev pub invariant-loop : goal.invariant-loop
 invariant-loop g l =
     (goal.iterator-loop g).can_next l.iterator' × (goal.iterator-loop g).is_finite l.iterator'
     × (l.work ≡ l.context.graph.now.n)
-    × IsClaimSeatOf l.superstep.claims l.seat × (l.seat.left ≡ l.fn.seat.left) × (l.seat.over ≡ false)
+    × (l.seat.claims ≡ l.fn.seat.claims) × (l.seat.left ≡ l.fn.seat.left) × (l.seat.over ≡ false)
     × (edges_of l.view.seat.pool.fact ≡ l.context.graph.now.edges) × (order_of l.view.seat.pool.fact ≡ l.context.ranking.now) × (view_kept l.view ≡ view_kept l.fn.view)
     × (l.fn.roots.items ≡ l.fn.seat.got → l.roots.items ≡ l.seat.got)
     × HasGrown l.context.graph.now.edges l.context.ranking.now (true ≡ true) l.fn.seat.got l.seat.got (puts_row l.fn.view) (puts_row l.view)

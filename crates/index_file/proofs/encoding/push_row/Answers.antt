@@ -1,5 +1,6 @@
-use Rattle.std.proofs.Common.{◌≡◌, ◌+◌, ◌++◌, length, take, get_or, sym, subst, ◌∙◌, arith}
+use Rattle.std.proofs.Common.{◌≡◌, ◌+◌, ◌++◌, length, take, get_or, sym, ap, subst, ◌∙◌, append_assoc, arith}
 use Rattle.std.specs.Prelude.{flat_map}
+use Rattle.std.proofs.lemmas.List.{take_all}
 use Rattle.walk_laws.specs.declared.entry.Entry.{Entry}
 use Rattle.hub_index.specs.CompactRows.{row_of_parts}
 use Rattle.hub_index.specs.declared.compact_row.CompactEntry.{CompactEntry}
@@ -32,3 +33,11 @@ loop-entry-2-preserved c =
     subst (λ k. c.push_entry-in-loop-entry-2.new.out.items ≡ old ++ flat_map entry_bytes (take k (row_of_parts compact full))) next
     (put_after entry_bytes (row_of_parts compact full) (length compact + i) (get_or full i none) none old c.loop-entry-2.out.items c.push_entry-in-loop-entry-2.new.out.items
     (omega (arith, length-row_of_parts compact full, c.loop-entry-2-test.true)) (full_at compact full i none) c.loop-entry-2.invariant c.in_ok-push_entry-2.ensures)
+
+pub returns : goal.returns
+returns c =
+    let compact = c.args.compact.now in
+    let full = c.args.full.now in
+    let count = word (length (row_of_parts compact full)) in
+    let all : take (length compact + c.loop-entry-2.entry-index) (row_of_parts compact full) ≡ row_of_parts compact full = take_all (length compact + c.loop-entry-2.entry-index) (row_of_parts compact full) (omega (arith, length-row_of_parts compact full, c.loop-entry-2-test.false)) in
+    c.loop-entry-2.invariant ∙ ap (λ xs. (c.args.out.now.items ++ count) ++ flat_map entry_bytes xs) all ∙ append_assoc c.args.out.now.items count (flat_map entry_bytes (row_of_parts compact full))

@@ -7,8 +7,8 @@ use Rattle.lcc_build.proofs.in_order.rows_in_order.Given as goal
 -- the rows have exactly the hubs before the root that comes next
 abbrev pub invariant-loop-p : goal.invariant-loop-p
 invariant-loop-p g l = record {
-  work : l.work ≡ l.graph.n;
-  edges : l.view.edges ≡ l.graph.edges;
-  order : l.view.order ≡ l.ranking;
-  rows : (v : ℕ) → IsNode (length l.ranking) v → IsRowBelow l.graph.edges l.ranking l.p v (label_row l.view.rows v);
+  work : l.work ≡ l.job.graph.now.n;
+  edges : l.view.edges ≡ l.job.graph.now.edges;
+  order : l.view.order ≡ l.job.ranking.now;
+  rows : (v : ℕ) → IsNode (length l.job.ranking.now) v → IsRowBelow l.job.graph.now.edges l.job.ranking.now l.p v (label_row l.view.rows v);
 }

@@ -6,7 +6,7 @@ use Rattle.lcc_build.proofs.workers.joined.Given as goal
 abbrev pub invariant-loop-worker : goal.invariant-loop-worker
 invariant-loop-worker l = record {
   share : (left : ℕ) × (left + 1 + vec_len l.workers ≡ vec_len l.fn.workers) × IsShareOf l.ground left l.whole;
-  done : IsDone l.ground.graph.now.edges l.ground.ranking.now l.whole;
+  done : IsDone l.ground.job.now.graph.now.edges l.ground.job.now.ranking.now l.whole;
   worked : All (HasWorked l.ground) l.workers.items;
 }
 

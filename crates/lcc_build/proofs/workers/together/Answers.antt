@@ -8,8 +8,8 @@ use Rattle.lcc_build.proofs.workers.together.Goals as goal
 
 pub returns-clause-done : goal.returns-clause-done
 returns-clause-done c =
-    let edges = c.args.ground.now.graph.now.edges in
-    let at = c.args.ground.now.ranking.now in
+    let edges = c.args.ground.now.job.now.graph.now.edges in
+    let at = c.args.ground.now.job.now.ranking.now in
     let first = c.args.whole.claims.got in
     let second = c.args.share.claims.got in
     let one = c.args.whole.rows.visits in

@@ -9,7 +9,7 @@ invariant-loop-p g l = record {
   planter : l.planter ≡ l.fn.planter;
   sink : l.sink.n ≡ l.fn.sink.n;
   position : l.p % l.batches ≡ l.batch;
-  gains : GainsPart l.graph.edges l.ranking (IsBatchBelow l.roots l.batches l.batch l.p) l.fn.sink l.sink;
+  gains : GainsPart l.job.graph.now.edges l.job.ranking.now (IsBatchBelow l.roots l.batches l.batch l.p) l.fn.sink l.sink;
 }
 
 abbrev pub decreases-loop-p : goal.decreases-loop-p

@@ -8,7 +8,7 @@ use Rattle.plant_build.proofs.build.work.Goals as goal
 pub returns-clause-worked : goal.returns-clause-worked
 returns-clause-worked g c i d lt =
     let changed = (c.for_each_mut.ensures i d (search rules)).1 in
-    subst (HasWorked c.args.graph.now.edges c.args.ranking.now c.args.roots c.args.batches c.args.graph.now.n) changed.left changed.call.0
+    subst (HasWorked c.args.job.now.graph.now.edges c.args.job.now.ranking.now c.args.roots c.args.batches c.args.job.now.graph.now.n) changed.left changed.call.0
 
 pub returns-clause-shares : goal.returns-clause-shares
 returns-clause-shares g c =

@@ -1,6 +1,6 @@
 use Rattle.chl_inputs.proofs.StagesInTurn.{goes_lost, goes_reads, goes_reads_stop}
 use Rattle.chl_cmd.proofs.FileAnswers.{goes_filed}
-use Rattle.chl_cmd.proofs.TextAnswers.{handed_on}
+use Rattle.chl_outputs.proofs.TextAnswers.{handed_on}
 use Rattle.chl_cmd.proofs.commands.build.build_output.Goals as goal
 
 pub returns-in_err-graph : goal.returns-in_err-graph

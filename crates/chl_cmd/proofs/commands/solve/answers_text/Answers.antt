@@ -1,8 +1,8 @@
 use Rattle.std.proofs.Common.{subst}
 use Rattle.std.proofs.lemmas.Result.{IfOk-weaker}
 use Rattle.walk_laws.specs.Meet.{IsMeet}
-use Rattle.chl_cmd.specs.Commands.{AreAnswers}
-use Rattle.chl_cmd.proofs.Decisions.{answers_of_rows}
+use Rattle.chl_answers.specs.Commands.{AreAnswers}
+use Rattle.chl_answers.proofs.Decisions.{answers_of_rows}
 use Rattle.chl_cmd.proofs.commands.solve.answers_text.Goals as goal
 
 pub returns : goal.returns

@@ -1,5 +1,5 @@
 use Rattle.chl_inputs.proofs.StagesInTurn.{goes_reads, goes_reads_stop}
-use Rattle.chl_cmd.proofs.TextAnswers.{goes_text, handed_on}
+use Rattle.chl_outputs.proofs.TextAnswers.{goes_text, handed_on}
 use Rattle.chl_cmd.proofs.commands.solve.solve_output.Goals as goal
 
 pub returns-in_err-graph : goal.returns-in_err-graph

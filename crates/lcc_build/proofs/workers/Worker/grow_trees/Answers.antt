@@ -13,5 +13,5 @@ returns-in-Some g c =
       share = c.lcc_share.result;
       there = refl;
       of = record { claim_seat = done.claim_seat; row_seat = done.row_seat; claim_left = done.claim_left ∙ of.claim_left; row_left = done.row_left ∙ of.row_left };
-      done = IsDone-from_new c.args.ground.now.graph.now.edges c.args.ground.now.ranking.now c.in-Some.share c.lcc_share.result (subst IsNew same ready.new) done.over done.grown;
+      done = IsDone-from_new c.args.ground.now.job.now.graph.now.edges c.args.ground.now.job.now.ranking.now c.in-Some.share c.lcc_share.result (subst IsNew same ready.new) done.over done.grown;
     }

@@ -11,7 +11,7 @@ pub loop-init : goal.loop-init
 loop-init g c = record {
   worked = record {
     sink = c.requires.ready.sink;
-    holds = λ memory. HoldsBatches-none c.args.graph.now.edges c.args.ranking.now c.args.roots c.args.batches c.args.self.now.numbers.items c.args.self.now.sink c.requires.ready.none c.requires.ready.empty;
+    holds = λ memory. HoldsBatches-none c.args.job.now.graph.now.edges c.args.job.now.ranking.now c.args.roots c.args.batches c.args.self.now.numbers.items c.args.self.now.sink c.requires.ready.none c.requires.ready.empty;
     took = record {
       below = subst (All (λ b. b < c.args.batches)) (sym c.requires.ready.none) (All-nil (λ b. b < c.args.batches));
       took = λ x. let none = ap (times x) c.requires.ready.none in omega arith;

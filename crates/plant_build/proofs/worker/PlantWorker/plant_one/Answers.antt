@@ -8,8 +8,8 @@ use Rattle.plant_build.proofs.worker.PlantWorker.plant_one.Goals as goal
 
 pub returns-clause-worked : goal.returns-clause-worked
 returns-clause-worked g c =
-    let edges = c.args.graph.now.edges in
-    let at = c.args.ranking.now in
+    let edges = c.args.job.now.graph.now.edges in
+    let at = c.args.job.now.ranking.now in
     let old = c.args.self.now in
     record {
       sink = c.in_ok-plant_batch.ensures.sink ∙ c.requires.worked.sink;

@@ -1,0 +1,13 @@
+pub mod OneCommand
+pub mod EachAnswer
+pub mod PairAnswers
+pub mod Decisions
+pub mod Endings
+pub mod StoredIndexes
+pub mod BuiltFiles
+pub mod BuiltQueries
+pub mod BuiltAudits
+pub mod BuiltUpgrades
+pub mod BuiltTraces
+pub mod WaysToEnd
+pub mod RunsOfWords

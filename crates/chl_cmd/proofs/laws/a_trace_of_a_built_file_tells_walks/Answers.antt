@@ -1,5 +1,0 @@
-use Rattle.chl_cmd.proofs.BuiltTraces.{traces_tell}
-use Rattle.chl_cmd.proofs.laws.a_trace_of_a_built_file_tells_walks.Goals as goal
-
-pub returns : goal.returns
-returns c = traces_tell

@@ -1,5 +1,0 @@
-use Rattle.chl_cmd.proofs.Decisions.{decides_one_status}
-use Rattle.chl_cmd.proofs.laws.the_files_decide_one_status.Goals as goal
-
-pub returns : goal.returns
-returns c = decides_one_status

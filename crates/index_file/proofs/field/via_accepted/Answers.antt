@@ -1,0 +1,5 @@
+use Rattle.index_file.proofs.RowsWithVias.{few_vias}
+use Rattle.index_file.proofs.field.via_accepted.Goals as goal
+
+pub after_entry-requires-clause-few : goal.after_entry-requires-clause-few
+after_entry-requires-clause-few c = few_vias c.args.done c.args.part c.requires.reading
