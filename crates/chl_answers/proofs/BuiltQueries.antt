@@ -1,6 +1,6 @@
 -- A query of an index file that was built.
 use Rattle.std.proofs.Common.{◌≡◌, ◌≤◌, ℕ, List, length, subst}
-use Rattle.std.specs.Prelude.{Option, Some, Result, Ok}
+use Rattle.std.specs.Prelude.{Option, None, Some, Result, Ok}
 use Rattle.std.specs.FinMap as finite_map
 use Rattle.desk_io.specs.Contents.{Files}
 use Rattle.desk_io.specs.Reading.{input_limit}
@@ -36,7 +36,7 @@ queries_answer graph order out index pairs version construction files others byt
     after_value (value_at (graph_input graph) files) b.g answer _ b.graph_is
     (after_value (value_at (order_input b.g.n order) files) b.at answer _ b.order_is
     (after_told (value_at (pairs_input b.g.n pairs) files) answer _ _ (λ asked pairs_is says.
-    (says.0, answers_of_rows b.g b.is_graph b.at b.ranking b.size b.rows b.chl asked (pairs_of_stage b.g.n pairs files asked pairs_is) says.0 says.1, says.2)) of_files))
+    (None, b.fits, (says.0, answers_of_rows b.g b.is_graph b.at b.ranking b.size b.rows b.chl asked (pairs_of_stage b.g.n pairs files asked pairs_is) says.0 says.1, says.2))) of_files))
   where
     Says : List ℕ → List (List Entry) → List (ℕ × ℕ) → Type 0
     Says at rows asked = (answers : List (Option (ℕ × ℕ))) × AreAnswers (IsMeet at rows) asked answers × (answer ≡ Ok (answer_lines asked answers))

@@ -55,5 +55,5 @@ traces_tell graph order out index pairs construction files others bytes answer b
     let t : TracedHubIndex = record { order = b.at; rows = b.rows; vias = b.file.0 } in
     let of_index : Decided (traces_stage t pairs) others answer =
     subst (λ r. After r answer (λ (stored : StoredIndex). Decided (for_vias stored (λ t. traces_stage t pairs)) others answer)) (read_vias_of graph order index files others bytes b held short) asks in
-    let told = walks_told b.g t b.is_graph b.size (IsWellFormed-canonical b.g.n b.g.edges b.at b.is_graph b.ranking b.size b.rows b.chl) b.chl b.file.1 pairs others answer of_index in
+    let told = walks_told b.g t b.is_graph b.size (IsWellFormed-canonical b.g.n b.g.edges b.at b.is_graph b.ranking b.size b.fits b.rows b.chl) b.chl b.file.1 pairs others answer of_index in
     (b.g, b.graph_is, (b.at, b.order_is, subst (λ n. After (value_at (pairs_input n pairs) others) answer (λ asked. (told : List AnyTrace) × AreAnswers (TellsTheTrace (Joined b.g.edges) b.at) asked told × (answer ≡ Ok (trace_lines asked told)))) b.size told))

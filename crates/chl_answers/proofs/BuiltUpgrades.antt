@@ -1,6 +1,6 @@
 -- An upgrade of an index file that was built.
 use Rattle.std.proofs.Common.{◌≡◌, ◌≤◌, ◌∙◌, ℕ, List, length, ap, ap₂, refl, subst, sym, eq-eqb}
-use Rattle.std.specs.Prelude.{Some, Result, Ok}
+use Rattle.std.specs.Prelude.{None, Some, Result, Ok}
 use Rattle.std.specs.FinMap as finite_map
 use Rattle.desk_io.specs.Contents.{Files}
 use Rattle.desk_io.specs.Reading.{input_limit}
@@ -18,6 +18,7 @@ use Rattle.walk_laws.specs.declared.entry.Entry.{Entry}
 use Rattle.walk_laws.specs.Graph.{WeightedGraph, IsGraph}
 use Rattle.walk_laws.specs.Joined.{Joined}
 use Rattle.walk_laws.specs.Labelling.{IsChl}
+use Rattle.walk_laws.specs.Overflow.{Overflows}
 use Rattle.walk_laws.specs.Ranking.{IsRanking}
 use Rattle.chl_inputs.specs.Inputs.{value_at, value_of, graph_input, order_input, index_input}
 use Rattle.chl_inputs.specs.Stages.{After, Comes, Decided, Works}
@@ -33,11 +34,11 @@ use Rattle.chl_answers.specs.Commands.{Decides, file_stage, stage_if, upgrade_te
 use Rattle.chl_answers.proofs.BuiltFiles.{built_of, read_of}
 
 -- the upgrade of the labelling is its file of version 2
-module _ (g : WeightedGraph) (at : List ℕ) (rows : List (List Entry)) (graph : IsGraph g.n g.edges) (ranking : IsRanking at) (size : length at ≡ g.n) (chl : IsChl (Joined g.edges) at rows) (files : Files) where
+module _ (g : WeightedGraph) (at : List ℕ) (rows : List (List Entry)) (graph : IsGraph g.n g.edges) (ranking : IsRanking at) (size : length at ≡ g.n) (fits : ¬ Overflows (Joined g.edges) at) (chl : IsChl (Joined g.edges) at rows) (files : Files) where
   upgrade_is : (made : AnyUpgrade) → IsUpgradeOf g (record { order = at; rows = rows }) made → Decided (file_stage Two g at rows) files (upgrade_text made)
   upgrade_is (Not fault) is =
       let i : HubIndex = record { order = at; rows = rows } in
-      absurd (is.0 (audit_unique g at i size fault Same is.1 ((checks_decide g at i graph size (IsWellFormed-canonical g.n g.edges at graph ranking size rows chl)).1 (refl, chl))))
+      absurd (is.0 (audit_unique g at i size fault Same is.1 ((checks_decide g at i graph size (IsWellFormed-canonical g.n g.edges at graph ranking size fits rows chl)).1 (refl, chl))))
   upgrade_is (Made t) is = (t.vias, is.3, ap Ok (ap₂ (λ (order : List ℕ) (r : List (List Entry)). via_bytes order r t.vias) is.1 is.2))
 
 -- it writes what building version 2 writes
@@ -54,7 +55,7 @@ upgrades_build graph order out index upgraded version construction files others 
     let made : (made : AnyUpgrade) × IsUpgradeOf b.g i made × (answer ≡ upgrade_text made) = of_sizes b.g i answer others (sym b.size) of_rows in
     after_value (value_at (graph_input graph) files) b.g answer _ b.graph_is
     (after_value (value_at (order_input b.g.n order) files) b.at answer _ b.order_is
-    (b.rows, b.chl, subst (λ a. Decided (file_stage Two b.g b.at b.rows) files a) (sym made.2) (upgrade_is b.g b.at b.rows b.is_graph b.ranking b.size b.chl files made.0 made.1)))
+    (None, b.fits, (b.rows, b.chl, subst (λ a. Decided (file_stage Two b.g b.at b.rows) files a) (sym made.2) (upgrade_is b.g b.at b.rows b.is_graph b.ranking b.size b.fits b.chl files made.0 made.1))))
   where
     -- the sizes are equal
     of_sizes : (g : WeightedGraph) (i : HubIndex) (answer : Result (List ℕ) Stop) (files : Files) → g.n ≡ length i.order → Decided (upgrades_stage g i) files answer → (made : AnyUpgrade) × IsUpgradeOf g i made × (answer ≡ upgrade_text made)

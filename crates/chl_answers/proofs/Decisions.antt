@@ -39,7 +39,7 @@ use Rattle.walk_laws.proofs.JoinedEdges.{weights_of_edges}
 use Rattle.walk_laws.proofs.LabellingExists.{IsChl-exists}
 use Rattle.walk_laws.proofs.LabelRows.{IsChl-unique}
 use Rattle.chl_inputs.specs.Inputs.{Input, value_at, value_of, judged, past_limit, graph_input, order_input, pairs_input, points_input, sources_input, index_input, ArePairsWithin}
-use Rattle.chl_inputs.specs.Stages.{Stage, After, Comes}
+use Rattle.chl_inputs.specs.Stages.{Stage, After, Comes, Works}
 use Rattle.chl_inputs.specs.Stops.{graph_stop, order_stop, pairs_stop, points_stop, sources_stop, index_stop}
 use Rattle.chl_inputs.specs.declared.stop.Stop.{Stop}
 use Rattle.chl_inputs.specs.declared.stop.Stop.TheVariants.{NotOfGraph}
@@ -48,7 +48,7 @@ use Rattle.chl_inputs.proofs.StageLaws.{Answerable, Determined, decided_always, 
 use Rattle.chl_inputs.proofs.StagesInTurn.{same_value}
 use Rattle.chl_lines.specs.PrintedOrders.{order_lines}
 use Rattle.chl_lines.specs.PrintedRows.{lines_from}
-use Rattle.chl_answers.specs.Commands.{Decides, stage_of, labelling_stage, file_stage, solve_stage, query_stage, path_stage, near_stage, trace_stage, traces_stage, for_vias, audit_stage, upgrade_stage, degree_stage, rank_stage, grid_stage, answers_stage, AreAnswers, IsRankingOf, stage_if}
+use Rattle.chl_answers.specs.Commands.{Decides, HubOf, stage_of, for_fitting, unless_far, labelling_stage, file_stage, solve_stage, query_stage, path_stage, near_stage, trace_stage, traces_stage, for_vias, audit_stage, upgrade_stage, degree_stage, rank_stage, grid_stage, answers_stage, AreAnswers, IsRankingOf, stage_if}
 use Rattle.chl_answers.specs.Laws.{AreAlike, IsRankingText}
 use Rattle.chl_answers.specs.Statuses.{status_after}
 use Rattle.chl_words.specs.declared.asked.Asked.{Asked}
@@ -57,6 +57,7 @@ use Rattle.chl_words.specs.declared.asked.Version.{Version}
 use Rattle.chl_words.specs.declared.asked.Version.TheVariants.{One, Two}
 use Rattle.rank_table.proofs.DegreeRankings.{ranked_by_degree, IsByDegree-unique}
 use Rattle.chl_answers.proofs.EachAnswer.{each_exists, each_unique}
+use Rattle.chl_answers.proofs.FarHubs.{overflow_exists, overflow_once}
 use Rattle.chl_answers.proofs.PairAnswers.{answers_exist, answers_unique, answers_told}
 use Rattle.chl_answers.proofs.StoredIndexes.{stored_audit_exists, stored_audit_unique, stored_well}
 
@@ -83,7 +84,7 @@ module _ {V : Type 0} where
 pub graph_of_stage : (name : List ℕ) (files : Files) (g : WeightedGraph) → value_at (graph_input name) files ≡ Ok g → IsGraph g.n g.edges
 graph_of_stage name files g is =
     let bytes = value_bytes (graph_input name) (finite_map.get files name) g is in
-    graph_accepted bytes.0 g (judged_value graph_stop _ g bytes.1)
+    (graph_accepted bytes.0 g (judged_value graph_stop _ g bytes.1)).0
 
 pub ranking_of_stage : (n : ℕ) (name : List ℕ) (files : Files) (at : List ℕ) → value_at (order_input n name) files ≡ Ok at → IsRanking at × (length at ≡ n)
 ranking_of_stage n name files at is =
@@ -110,17 +111,40 @@ sources_of_stage n name files sources is =
     let bytes = value_bytes (sources_input n name) (finite_map.get files name) sources is in
     (texts_of_nodes n true bytes.0 sources (judged_value sources_stop _ sources bytes.1)).0
 
+-- a stage where no hub is too far; else the stop at the first one
+module _ {V : Type 0} (stage : Stage V) (files : Files) where
+  unless_far_always : (far : Option HubOf) → Answerable stage files → Answerable (unless_far far stage) files
+  unless_far_always None has = has
+  unless_far_always (Some far) has = tt
+
+  unless_far_once : (far : Option HubOf) → Determined stage files → Determined (unless_far far stage) files
+  unless_far_once None one = one
+  unless_far_once (Some far) one = tt
+
+  module _ (g : WeightedGraph) (graph : IsGraph g.n g.edges) (at : List ℕ) (rank : IsRanking at × (length at ≡ g.n)) where
+    fitting_always : Answerable stage files → Answerable (for_fitting g at stage) files
+    fitting_always has =
+        let far = overflow_exists g.n g.edges at graph rank.0 rank.1 in
+        (far.0, far.1, unless_far_always far.0 has)
+
+    fitting_once : Determined stage files → Determined (for_fitting g at stage) files
+    fitting_once one = (overflow_once g.n g.edges at graph rank.0 rank.1, λ far tells. unless_far_once far one)
+
 -- the rows of a labelling, and what comes of them
 module _ (next : WeightedGraph → List ℕ → List (List Entry) → Stage (List ℕ)) (graph order : List ℕ) (files : Files) where
+  abbrev rows_stage : WeightedGraph → List ℕ → Stage (List ℕ)
+  rows_stage g at = Works (λ rows. IsChl (Joined g.edges) at rows) (λ rows. next g at rows)
+
   labelling_always : ((g : WeightedGraph) (at : List ℕ) (rows : List (List Entry)) → Answerable (next g at rows) files) → Answerable (labelling_stage next graph order) files
   labelling_always some = λ g graph_is at order_is.
-      let weights = weights_of_edges g.n g.edges (graph_of_stage graph files g graph_is).edge in
-      let ranking = (ranking_of_stage g.n order files at order_is).0 in
-      let rows = IsChl-exists (Joined g.edges) at ranking (IsCanonical-joined_decided g.edges weights at ranking) in
-      (rows.0, rows.1, some g at rows.0)
+      let is_graph = graph_of_stage graph files g graph_is in
+      let rank = ranking_of_stage g.n order files at order_is in
+      let rows = IsChl-exists (Joined g.edges) at rank.0 (IsCanonical-joined_decided g.edges (weights_of_edges g.n g.edges is_graph.edge) at rank.0) in
+      fitting_always (rows_stage g at) files g is_graph at rank (rows.0, rows.1, some g at rows.0)
 
   labelling_once : ((g : WeightedGraph) (at : List ℕ) (rows : List (List Entry)) → Determined (next g at rows) files) → Determined (labelling_stage next graph order) files
-  labelling_once one = λ g graph_is at order_is. (IsChl-unique (Joined g.edges) at, λ rows chl. one g at rows)
+  labelling_once one = λ g graph_is at order_is.
+      fitting_once (rows_stage g at) files g (graph_of_stage graph files g graph_is) at (ranking_of_stage g.n order files at order_is) (IsChl-unique (Joined g.edges) at, λ rows chl. one g at rows)
 
 -- the file of rows, with their vias or without
 module _ (files : Files) (g : WeightedGraph) (at : List ℕ) (rows : List (List Entry)) where
@@ -160,15 +184,17 @@ module _ (n : ℕ) (IsOwn : ℕ → ℕ → Option (ℕ × ℕ) → Type 0) (pai
 module _ (graph order pairs : List ℕ) (files : Files) where
   solve_always : Answerable (solve_stage graph order pairs) files
   solve_always = λ g graph_is at order_is asked pairs_is.
+      let is_graph = graph_of_stage graph files g graph_is in
       let rank = ranking_of_stage g.n order files at order_is in
-      lines_always g.n (IsAnswer (Joined g.edges) at) asked (pairs_of_stage g.n pairs files asked pairs_is) files
-      (answer_exists g (graph_of_stage graph files g graph_is) at rank.0 rank.1)
+      fitting_always (answers_stage (IsAnswer (Joined g.edges) at) asked) files g is_graph at rank
+      (lines_always g.n (IsAnswer (Joined g.edges) at) asked (pairs_of_stage g.n pairs files asked pairs_is) files (answer_exists g is_graph at rank.0 rank.1))
 
   solve_once : Determined (solve_stage graph order pairs) files
   solve_once = λ g graph_is at order_is asked pairs_is.
+      let is_graph = graph_of_stage graph files g graph_is in
       let rank = ranking_of_stage g.n order files at order_is in
-      lines_once g.n (IsAnswer (Joined g.edges) at) asked (pairs_of_stage g.n pairs files asked pairs_is) files
-      (answer_unique g (graph_of_stage graph files g graph_is) at rank.0 rank.1)
+      fitting_once (answers_stage (IsAnswer (Joined g.edges) at) asked) files g is_graph at rank
+      (lines_once g.n (IsAnswer (Joined g.edges) at) asked (pairs_of_stage g.n pairs files asked pairs_is) files (answer_unique g is_graph at rank.0 rank.1))
 
 module _ (index pairs : List ℕ) (files : Files) where
   query_always : Answerable (query_stage index pairs) files

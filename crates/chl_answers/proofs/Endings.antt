@@ -30,7 +30,7 @@ stop_in (GraphText fault) = Some (stops.Graph fault)
 stop_in (OrderText fault) = Some (stops.Order fault)
 stop_in (PairsText fault) = Some (stops.Pairs fault)
 stop_in (IndexBytes fault) = Some (stops.Index fault)
-stop_in (Overflow n weight) = Some (stops.Overflow n weight)
+stop_in (Overflow v hub) = Some (stops.Overflow v hub)
 stop_in ReadFault = Some stops.ReadFailed
 stop_in WriteFault = None
 stop_in NoMemory = Some stops.NoMemory
@@ -43,7 +43,7 @@ stop_in (FromText fault) = Some (stops.From fault)
 
 stop_told : (stop : Stop) → stop_in (status_of stop) ≡ Some stop
 stop_told (stops.Graph fault) = refl
-stop_told (stops.Overflow n weight) = refl
+stop_told (stops.Overflow v hub) = refl
 stop_told (stops.Order fault) = refl
 stop_told (stops.Pairs fault) = refl
 stop_told (stops.Points fault) = refl

@@ -1,5 +1,6 @@
 pub mod OneCommand
 pub mod EachAnswer
+pub mod FarHubs
 pub mod PairAnswers
 pub mod Decisions
 pub mod Endings

@@ -33,11 +33,12 @@ use Rattle.walk_laws.specs.Graph.{WeightedGraph}
 use Rattle.walk_laws.specs.Joined.{Joined}
 use Rattle.walk_laws.specs.Labelling.{IsChl}
 use Rattle.walk_laws.specs.Meet.{IsMeet}
+use Rattle.walk_laws.specs.Overflow.{IsFirstTooFar, Overflows}
 use Rattle.walk_laws.specs.Ranking.{IsRanking}
 use Rattle.chl_inputs.specs.Inputs.{graph_input, order_input, pairs_input, points_input, sources_input, index_input}
 use Rattle.chl_inputs.specs.Stages.{Stage, Comes, Works, Reads, Decided}
 use Rattle.chl_inputs.specs.declared.stop.Stop.{Stop}
-use Rattle.chl_inputs.specs.declared.stop.Stop.TheVariants.{Differs, NotOfGraph, NoVias, Broken}
+use Rattle.chl_inputs.specs.declared.stop.Stop.TheVariants.{Differs, NotOfGraph, NoVias, Broken, Overflow}
 use Rattle.chl_inputs.specs.declared.stop.NotOf.TheVariants.{Sizes, Stuck}
 use Rattle.chl_lines.specs.PrintedAnswers.{answer_lines}
 use Rattle.chl_lines.specs.PrintedGrids.{grid_lines}
@@ -52,13 +53,33 @@ use Rattle.chl_words.specs.declared.asked.Asked.TheVariants.{List as ListRows, B
 use Rattle.chl_words.specs.declared.asked.Version.{Version}
 use Rattle.chl_words.specs.declared.asked.Version.TheVariants.{One, Two}
 
--- a graph, a ranking of its nodes, the rows of its canonical hub labelling, and what comes of them
+-- a node, and a hub of it
+pub record HubOf : Type 0 where
+  pub v : ℕ
+  pub hub : ℕ
+
+-- of the hubs that are too far for an index the first one, with its node, or none where there is none
+abbrev pub TellsOverflow : (ℕ → ℕ → ℕ → Type 0) → List ℕ → Option HubOf → Type 0
+TellsOverflow J at None = ¬ Overflows J at
+TellsOverflow J at (Some far) = IsFirstTooFar J at far.hub far.v
+
+-- a stage where no hub is too far; else the stop at the first one
+abbrev pub unless_far : {V : Type 0} → Option HubOf → Stage V → Stage V
+unless_far None stage = stage
+unless_far (Some far) stage = Comes (Err (Overflow far.v far.hub))
+
+-- a stage for a graph and a ranking whose labelling fits an index; else the stop at the first hub that is too far
+abbrev pub for_fitting : {V : Type 0} → WeightedGraph → List ℕ → Stage V → Stage V
+for_fitting g at stage = Works (λ far. TellsOverflow (Joined g.edges) at far) (λ far. unless_far far stage)
+
+-- a graph, a ranking of its nodes, the rows of its canonical hub labelling, which fit an index, and what comes of them
 abbrev pub labelling_stage : (WeightedGraph → List ℕ → List (List Entry) → Stage (List ℕ)) → List ℕ → List ℕ → Stage (List ℕ)
 labelling_stage next graph order =
     Reads (graph_input graph) (λ g.
     Reads (order_input g.n order) (λ at.
+    for_fitting g at (
     Works (λ rows. IsChl (Joined g.edges) at rows) (λ rows.
-    next g at rows)))
+    next g at rows))))
 
 -- `list`: the lines of the rows
 abbrev pub list_stage : List ℕ → List ℕ → Stage (List ℕ)
@@ -86,14 +107,15 @@ AreAnswers IsOwn pairs answers = AllZip (λ pair a. IsOwn pair.0 pair.1 a) pairs
 abbrev pub answers_stage : (ℕ → ℕ → Option (ℕ × ℕ) → Type 0) → List (ℕ × ℕ) → Stage (List ℕ)
 answers_stage IsOwn pairs = Works (λ answers. AreAnswers IsOwn pairs answers) (λ answers. Comes (Ok (answer_lines pairs answers)))
 
--- `solve`: a graph, a ranking of its nodes, and pairs of them, each with the least length of a walk and the highest-ranked
--- node on the shortest walks, or that no walk leads there
+-- `solve`: a graph, a ranking of its nodes, whose labelling fits an index, and pairs of them, each with the least length of a
+-- walk and the highest-ranked node on the shortest walks, or that no walk leads there
 abbrev pub solve_stage : List ℕ → List ℕ → List ℕ → Stage (List ℕ)
 solve_stage graph order pairs =
     Reads (graph_input graph) (λ g.
     Reads (order_input g.n order) (λ at.
     Reads (pairs_input g.n pairs) (λ asked.
-    answers_stage (IsAnswer (Joined g.edges) at) asked)))
+    for_fitting g at (
+    answers_stage (IsAnswer (Joined g.edges) at) asked))))
 
 -- pairs of the nodes of an index, each with what the rows of the index say of it
 abbrev pub meets_stage : HubIndex → List ℕ → Stage (List ℕ)

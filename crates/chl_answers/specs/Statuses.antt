@@ -17,7 +17,7 @@ number_of (GraphText fault) = 3
 number_of (OrderText fault) = 4
 number_of (PairsText fault) = 5
 number_of (IndexBytes fault) = 6
-number_of (Overflow n weight) = 7
+number_of (Overflow v hub) = 7
 number_of ReadFault = 8
 number_of WriteFault = 9
 number_of NoMemory = 10
@@ -31,7 +31,7 @@ number_of (FromText fault) = 17
 -- the status of a command without output
 abbrev pub status_of : Stop → Status
 status_of (stops.Graph fault) = GraphText fault
-status_of (stops.Overflow n weight) = Overflow n weight
+status_of (stops.Overflow v hub) = Overflow v hub
 status_of (stops.Order fault) = OrderText fault
 status_of (stops.Pairs fault) = PairsText fault
 status_of (stops.Points fault) = PointsText fault

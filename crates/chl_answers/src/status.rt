@@ -35,9 +35,10 @@ pub enum Status {
     /// The index file has this first fault.
     #[error("chl: {0}")]
     IndexBytes(IndexFault),
-    /// The graph's number of nodes times its greatest weight is 2^62 or more.
-    #[error("chl: overflow: {n} nodes, weight {weight}")]
-    Overflow { n: u32, weight: u64 },
+    /// The node `hub` is a hub of `v` at a distance of 2^64 or more, which no index keeps: the first such pair, by rising `v`, and
+    /// then by falling rank of `hub`.
+    #[error("chl: overflow: hub {hub} at {v}")]
+    Overflow { v: u32, hub: u32 },
     /// An input could not be opened or read.
     #[error("chl: read failed")]
     ReadFault,
@@ -102,7 +103,7 @@ pub fn stopped(stop: Stop) -> Status
 {
     match stop {
         Stop::Graph(fault) => Status::GraphText(fault),
-        Stop::Overflow { n, weight } => Status::Overflow { n, weight },
+        Stop::Overflow { v, hub } => Status::Overflow { v, hub },
         Stop::Order(fault) => Status::OrderText(fault),
         Stop::Pairs(fault) => Status::PairsText(fault),
         Stop::Points(fault) => Status::PointsText(fault),

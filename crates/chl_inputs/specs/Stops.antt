@@ -13,12 +13,11 @@ use Rattle.index_file.specs.declared.fault.IndexFault.TheVariants as index_fault
 use Rattle.order_text.specs.declared.order_fault.OrderFault.{OrderFault}
 use Rattle.order_text.specs.declared.order_fault.OrderFault.TheVariants as order_faults
 use Rattle.chl_inputs.specs.declared.stop.Stop.{Stop}
-use Rattle.chl_inputs.specs.declared.stop.Stop.TheVariants.{Graph, Overflow, Order, Pairs, Points, From, Index, TooLong, ReadFailed, NoMemory}
+use Rattle.chl_inputs.specs.declared.stop.Stop.TheVariants.{Graph, Order, Pairs, Points, From, Index, TooLong, ReadFailed, NoMemory}
 
 -- at a fault of a graph
 abbrev pub graph_stop : GrFault → Stop
 graph_stop (graph_faults.Text fault) = Graph fault
-graph_stop (graph_faults.Overflow n weight) = Overflow n weight
 graph_stop graph_faults.NoMemory = NoMemory
 
 -- of an order
@@ -73,7 +72,6 @@ MayStop steady stop decided = decided ⊎ (stop ≡ NoMemory) ⊎ ((stop ≡ Rea
 -- each stop at a fault is such
 pub graph_memory_once : (fault : GrFault) → HasMemoryOnce (graph_stop fault)
 graph_memory_once (graph_faults.Text fault) = tt
-graph_memory_once (graph_faults.Overflow n weight) = tt
 graph_memory_once graph_faults.NoMemory = tt
 
 pub order_memory_once : (fault : OrderFault) → HasMemoryOnce (order_stop fault)
@@ -99,7 +97,6 @@ index_memory_once fault = λ same. cc
 -- and no failed call
 pub graph_no_call : (fault : GrFault) → graph_stop fault ≢ ReadFailed
 graph_no_call (graph_faults.Text fault) = λ same. cc
-graph_no_call (graph_faults.Overflow n weight) = λ same. cc
 graph_no_call graph_faults.NoMemory = λ same. cc
 
 pub order_no_call : (fault : OrderFault) → order_stop fault ≢ ReadFailed

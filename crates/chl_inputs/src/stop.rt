@@ -24,8 +24,6 @@ pub enum NotOf {
 pub enum Stop {
     /// The graph text has this first fault.
     Graph(TextFault),
-    /// The graph's number of nodes times its greatest weight is 2^62 or more.
-    Overflow { n: u32, weight: u64 },
     /// The order text has this first fault.
     Order(OrderFault),
     /// The pairs text has this first fault.
@@ -36,6 +34,9 @@ pub enum Stop {
     From(OrderFault),
     /// The index file has this first fault.
     Index(IndexFault),
+    /// A hub of the graph under the order is farther than an index can tell: the node `hub` is 2^64 or more from the node `v`,
+    /// the first such pair by rising `v` and then by falling rank of the hub.
+    Overflow { v: u32, hub: u32 },
     /// The index is not that of the graph under the order, or its vias are wrong, or an index that is to be upgraded isn't the
     /// graph's. This is the first thing that is wrong with it.
     Differs(Audit),

@@ -40,7 +40,6 @@ impl StopsAt for GrReader {
     fn stop(fault: GrFault) -> Stop {
         match fault {
             GrFault::Text(fault) => Stop::Graph(fault),
-            GrFault::Overflow { n, weight } => Stop::Overflow { n, weight },
             GrFault::NoMemory => Stop::NoMemory,
         }
     }

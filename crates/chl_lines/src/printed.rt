@@ -40,29 +40,27 @@ fn print_row(text: &mut Vec<u8>, ranking: &Ranking, v: u32, row: &[Entry]) -> Re
     text.extend_from_slice(b"l ")?;
     text.extend_from_slice(buffer.format(v).as_bytes())?;
     for entry in row {
-        print_entry(text, ranking, *entry)?;
+        print_entry(text, ranking, entry)?;
     }
     text.push(b'\n')?;
     Ok(())
 }
 
 /// Puts the words of an entry at the end of a line: its hub and its distance.
-fn print_entry(text: &mut Vec<u8>, ranking: &Ranking, entry: Entry) -> Result<(), AllocError>
-    requires { entry.pos < length ranking.now }
-    ensures { OnOk result (text.new.items ≡ text.old.items ++ entry_words ranking.now entry) }
+fn print_entry(text: &mut Vec<u8>, ranking: &Ranking, entry: &Entry) -> Result<(), AllocError>
+    requires { entry.now.pos < length ranking.now }
+    ensures { OnOk result (text.new.items ≡ text.old.items ++ entry_words ranking.now entry.now) }
 {
     let mut buffer = Buffer::new();
     text.push(b' ')?;
     text.extend_from_slice(buffer.format(hub_of(ranking, entry)).as_bytes())?;
-    text.push(b' ')?;
-    text.extend_from_slice(buffer.format(entry.dist).as_bytes())?;
-    Ok(())
+    print_dist(text, entry.dist.get())
 }
 
 /// The node of an entry's hub.
-fn hub_of(ranking: &Ranking, entry: Entry) -> u32
-    requires { entry.pos < length ranking.now }
-    ensures { result ≡ slice_index ranking.now entry.pos }
+fn hub_of(ranking: &Ranking, entry: &Entry) -> u32
+    requires { entry.now.pos < length ranking.now }
+    ensures { result ≡ slice_index ranking.now entry.now.pos }
 {
     ranking.at(entry.pos)
 }
@@ -144,7 +142,7 @@ fn print_answer(text: &mut Vec<u8>, pair: (u32, u32), answer: Answer) -> Result<
         Answer::Near { dist, hub } => {
             text.extend_from_slice(b"d ")?;
             print_pair(text, pair)?;
-            print_number(text, dist)?;
+            print_dist(text, dist)?;
             print_number(text, u64::from(hub))?;
             text.push(b'\n')?;
             Ok(())
@@ -225,14 +223,14 @@ fn print_walk(
     text: &mut Vec<u8>,
     letter: &[u8],
     pair: (u32, u32),
-    length: u64,
+    length: u128,
     nodes: &[u32],
 ) -> Result<(), AllocError>
     ensures { OnOk result (text.new.items ≡ text.old.items ++ passing_line letter.now pair length nodes.now) }
 {
     text.extend_from_slice(letter)?;
     print_pair(text, pair)?;
-    print_number(text, length)?;
+    print_dist(text, length)?;
     for node in nodes {
         print_number(text, u64::from(*node))?;
     }
@@ -256,6 +254,19 @@ fn print_number(text: &mut Vec<u8>, number: u64) -> Result<(), AllocError>
     let mut buffer = Buffer::new();
     text.push(b' ')?;
     text.extend_from_slice(buffer.format(number).as_bytes())?;
+    Ok(())
+}
+
+/// Puts a space and a distance at the end of a text.
+fn print_dist(text: &mut Vec<u8>, dist: u128) -> Result<(), AllocError>
+    ensures { OnOk result (text.new.items ≡ text.old.items ++ (32 ∷ decimal dist)) }
+{
+    if dist <= u128::from(u64::MAX) {
+        return print_number(text, dist as u64);
+    }
+    let mut buffer = Buffer::new();
+    text.push(b' ')?;
+    text.extend_from_slice(buffer.format(dist).as_bytes())?;
     Ok(())
 }
 

@@ -1,15 +1,15 @@
 -- The numbers of an arc without fault are an edge.
-use Rattle.std.proofs.Common.{◌≡◌, ◌≢◌, inl, inr, ℕ, ◌-◌, ◌*◌, ◌^◌, ◌<◌, ◌≤◌, Bool, true, false, cond, min, eqb, leb, ltb, List, [], ◌∷◌, map, length, get_or, Some, None, Ok, Err, refl, ap, sym, ◌∙◌, arith}
+use Rattle.std.proofs.Common.{◌≡◌, ◌≢◌, inl, inr, ℕ, suc, ◌-◌, ◌*◌, ◌^◌, ◌<◌, ◌≤◌, Bool, true, false, cond, min, eqb, leb, ltb, All, List, [], ◌∷◌, map, length, get_or, Some, None, refl, ap, sym, ◌∙◌, arith}
 use Rattle.std.specs.Prelude.{◌&&◌, ◌||◌}
-use Rattle.std.proofs.lemmas.Bool.{le-ltb, lt-ltb, leb-true, leb-false, ltb-false, false≢true}
+use Rattle.std.proofs.lemmas.Bool.{le-ltb, leb-true, ltb-false, false≢true}
 use Rattle.std.proofs.lemmas.Bool.Decides.{eqb_tells}
 use Rattle.std.proofs.lemmas.List.{length-map, get_or-map}
+use Rattle.std.proofs.Math.Nat.{mul-le-mul}
 use Rattle.walk_laws.specs.declared.graph.Edge.{Edge}
 use Rattle.walk_laws.specs.Graph.{IsEdge, IsGraph, greatest_weight}
 use Rattle.dimacs_text.specs.Counted.{AreAccepted, are_within, is_outside, kept}
-use Rattle.dimacs_text.specs.GraphText.{arc_fault, arc_numbers, edge_of, graph_of, graph_of_lines, graph_wording}
+use Rattle.dimacs_text.specs.GraphText.{arc_fault, arc_numbers, edge_of, graph_wording}
 use Rattle.dimacs_text.specs.declared.fault.TextKind.TheVariants.{NodeRange, ZeroWeight, WeightRange}
-use Rattle.dimacs_text.specs.declared.fault.GrFault.TheVariants.{Overflow}
 use Rattle.dimacs_text.specs.declared.graph_words.GraphWords.{GraphWords}
 use Rattle.dimacs_text.proofs.CountsKept.{least}
 
@@ -37,8 +37,8 @@ nodes_within (n ∷ counts) within = leb-true n (2 ^ 30) (first (leb n (2 ^ 30))
     first false b is = is
 
 -- a node is kept as it is
-pub node_kept : (n x : ℕ) → n < 2 ^ 64 - 1 → is_outside n (min x (2 ^ 64 - 1)) ≡ false → min x (2 ^ 64 - 1) ≡ x
-node_kept n x small inside = least x n small (node_shown n (min x (2 ^ 64 - 1)) inside).1
+pub node_kept : (n x : ℕ) → n < 2 ^ 64 → is_outside n (min x (2 ^ 64)) ≡ false → min x (2 ^ 64) ≡ x
+node_kept n x small inside = least x n small (node_shown n (min x (2 ^ 64)) inside).1
 
 -- four tests that fail, and a fault of none
 pub no_fault : (u v zero above : Bool) → u ≡ false → v ≡ false → zero ≡ false → above ≡ false → cond (u || v) (Some NodeRange) (cond zero (Some ZeroWeight) (cond above (Some WeightRange) None)) ≡ None
@@ -55,18 +55,18 @@ pub apart : (a b : ℕ) → a ≢ b → eqb a b ≡ false
 apart a b differ = elim (eqb_tells a b) [ inl equal ↦ absurd (differ equal.1) | inr other ↦ other.0 ]
 
 -- three numbers that have no fault as they are kept have none, and are kept as they are
-pub arc_taken : (counts values numbers : List ℕ) → get_or counts 0 0 ≤ 2 ^ 30 → numbers ≡ kept values → length numbers ≡ 3 → is_outside (get_or counts 0 0) (get_or numbers 0 0) ≡ false → is_outside (get_or counts 0 0) (get_or numbers 1 0) ≡ false → get_or numbers 2 0 ≢ 0 → get_or numbers 2 0 ≤ 2 ^ 62 - 1 → (arc_fault counts values ≡ None) × (get_or numbers 0 0 ∷ get_or numbers 1 0 ∷ get_or numbers 2 0 ∷ [] ≡ values)
+pub arc_taken : (counts values numbers : List ℕ) → get_or counts 0 0 ≤ 2 ^ 30 → numbers ≡ kept values → length numbers ≡ 3 → is_outside (get_or counts 0 0) (get_or numbers 0 0) ≡ false → is_outside (get_or counts 0 0) (get_or numbers 1 0) ≡ false → get_or numbers 2 0 ≢ 0 → get_or numbers 2 0 ≤ 2 ^ 64 - 1 → (arc_fault counts values ≡ None) × (get_or numbers 0 0 ∷ get_or numbers 1 0 ∷ get_or numbers 2 0 ∷ [] ≡ values)
 arc_taken counts [] numbers small is size u v w_some w_low = absurd (omega (arith, ap length is))
 arc_taken counts (x ∷ []) numbers small is size u v w_some w_low = absurd (omega (arith, ap length is))
 arc_taken counts (x ∷ y ∷ []) numbers small is size u v w_some w_low = absurd (omega (arith, ap length is))
 arc_taken counts (x ∷ y ∷ z ∷ []) numbers small is size u v w_some w_low =
     let n = get_or counts 0 0 in
-    let low : get_or counts 0 0 < 2 ^ 64 - 1 = omega arith in
+    let low : get_or counts 0 0 < 2 ^ 64 = omega arith in
     let same_u : get_or numbers 0 0 ≡ x = ap (λ l. get_or l 0 0) is ∙ node_kept (get_or counts 0 0) x low (ap (λ l. is_outside (get_or counts 0 0) (get_or l 0 0)) (sym is) ∙ u) in
     let same_v : get_or numbers 1 0 ≡ y = ap (λ l. get_or l 1 0) is ∙ node_kept (get_or counts 0 0) y low (ap (λ l. is_outside (get_or counts 0 0) (get_or l 1 0)) (sym is) ∙ v) in
-    let read_w : get_or numbers 2 0 ≡ min z (2 ^ 64 - 1) = ap (λ l. get_or l 2 0) is in
-    let same_w : get_or numbers 2 0 ≡ z = read_w ∙ least z (2 ^ 62 - 1) (omega arith) (omega arith) in (
-      no_fault (is_outside n x) (is_outside n y) (eqb z 0) (ltb (2 ^ 62 - 1) z) (ap (is_outside n) (sym same_u) ∙ u) (ap (is_outside n) (sym same_v) ∙ v) (apart z 0 (λ zero. w_some (same_w ∙ zero))) (le-ltb _ _ (omega arith)),
+    let read_w : get_or numbers 2 0 ≡ min z (2 ^ 64) = ap (λ l. get_or l 2 0) is in
+    let same_w : get_or numbers 2 0 ≡ z = read_w ∙ least z (2 ^ 64 - 1) (omega arith) (omega arith) in (
+      no_fault (is_outside n x) (is_outside n y) (eqb z 0) (ltb (2 ^ 64 - 1) z) (ap (is_outside n) (sym same_u) ∙ u) (ap (is_outside n) (sym same_v) ∙ v) (apart z 0 (λ zero. w_some (same_w ∙ zero))) (le-ltb _ _ (omega arith)),
       λ i. same_u i ∷ same_v i ∷ same_w i ∷ [],
     )
 arc_taken counts (x ∷ y ∷ z ∷ t ∷ values) numbers small is size u v w_some w_low = absurd (omega (arith, ap length is))
@@ -75,7 +75,7 @@ arc_taken counts (x ∷ y ∷ z ∷ t ∷ values) numbers small is size u v w_so
 pub edge_shown : (counts : List ℕ) (e : Edge) → arc_fault counts (arc_numbers e) ≡ None → IsEdge (get_or counts 0 0) e
 edge_shown counts e faultless =
     let n = get_or counts 0 0 in
-    let tests = tests_shown (is_outside n e.u) (is_outside n e.v) (eqb e.w 0) (ltb (2 ^ 62 - 1) e.w) faultless in
+    let tests = tests_shown (is_outside n e.u) (is_outside n e.v) (eqb e.w 0) (ltb (2 ^ 64 - 1) e.w) faultless in
     let u = node_shown n e.u tests.0 in
     let v = node_shown n e.v tests.1 in
     let some : e.w ≢ 0 = differs e.w 0 tests.2 in
@@ -85,30 +85,32 @@ pub edges_back : (edges : List Edge) → map edge_of (map arc_numbers edges) ≡
 edges_back [] = refl
 edges_back (e ∷ edges) = ap (λ es. e ∷ es) (edges_back edges)
 
--- accepted lines are a graph, unless it overflows
-pub accepted_graph : (words : GraphWords) (counts : List ℕ) (edges : List Edge) → AreAccepted (graph_wording words) counts (map arc_numbers edges) → get_or counts 0 0 * greatest_weight edges ≤ 2 ^ 62 - 1 → IsGraph (get_or counts 0 0) edges
-accepted_graph words counts edges accepted fits = record {
-  small = nodes_within counts accepted.within;
-  edge = λ k d h. edge_shown counts (get_or edges k d) (sym (ap (arc_fault counts) (get_or-map arc_numbers edges k d (arc_numbers d) h)) ∙ accepted.faultless k (arc_numbers d) (omega (arith, length-map edges arc_numbers)));
-  fits = omega (arith, fits);
-}
+-- an arc without fault has a weight below 2^64
+pub weight_shown : (counts : List ℕ) (e : Edge) → arc_fault counts (arc_numbers e) ≡ None → e.w < 2 ^ 64
+weight_shown counts e faultless =
+    let n = get_or counts 0 0 in
+    let tests = tests_shown (is_outside n e.u) (is_outside n e.v) (eqb e.w 0) (ltb (2 ^ 64 - 1) e.w) faultless in
+    omega (arith, ltb-false (2 ^ 64 - 1) e.w tests.3)
 
-pub overflows : (words : GraphWords) (counts : List ℕ) (edges : List Edge) → 2 ^ 62 - 1 < get_or counts 0 0 * greatest_weight edges → graph_of_lines words counts (map arc_numbers edges) ≡ Err (Overflow (get_or counts 0 0) (greatest_weight edges))
-overflows words counts edges above =
-    ap (graph_of (get_or counts 0 0)) (edges_back edges)
-    ∙ ap (λ t. cond t (Err (Overflow (get_or counts 0 0) (greatest_weight edges))) (Ok (record { n = get_or counts 0 0; edges = edges }))) (lt-ltb _ _ above)
+-- where all weights are below 2^64, so is the greatest
+greatest_below : (edges : List Edge) → All (λ (e : Edge). e.w < 2 ^ 64) edges → greatest_weight edges < 2 ^ 64
+greatest_below [] light = omega arith
+greatest_below (e ∷ edges) light = omega (arith, light 0 e (omega arith), greatest_below edges (λ k d h. light (suc k) d (omega arith)))
 
-pub fits_graph : (words : GraphWords) (counts : List ℕ) (edges : List Edge) → get_or counts 0 0 * greatest_weight edges ≤ 2 ^ 62 - 1 → graph_of_lines words counts (map arc_numbers edges) ≡ Ok (record { n = get_or counts 0 0; edges = edges })
-fits_graph words counts edges within =
-    ap (graph_of (get_or counts 0 0)) (edges_back edges)
-    ∙ ap (λ t. cond t (Err (Overflow (get_or counts 0 0) (greatest_weight edges))) (Ok (record { n = get_or counts 0 0; edges = edges }))) (le-ltb _ _ within)
+-- and no walk among 2^30 nodes comes to 2^94
+pub light_fits : (n : ℕ) (edges : List Edge) → n ≤ 2 ^ 30 → All (λ (e : Edge). e.w < 2 ^ 64) edges → n * greatest_weight edges < 2 ^ 94
+light_fits n edges small light =
+    let product : n * greatest_weight edges ≤ 2 ^ 30 * (2 ^ 64 - 1) = mul-le-mul {n₁ = n} {m₁ = greatest_weight edges} {n₂ = 2 ^ 30} {m₂ = 2 ^ 64 - 1} small (omega (arith, greatest_below edges light)) in
+    omega (arith, product)
 
--- the same by a number of nodes and a greatest weight that were found, and by a test of their product
-pub told_overflow : (words : GraphWords) (counts : List ℕ) (edges : List Edge) (n weight : ℕ) (fits : Bool) → n ≡ get_or counts 0 0 → weight ≡ greatest_weight edges → fits ≡ leb (n * weight) (2 ^ 62 - 1) → fits ≡ false → graph_of_lines words counts (map arc_numbers edges) ≡ Err (Overflow n weight)
-told_overflow words counts edges n weight fits n_is weight_is test told =
-    overflows words counts edges (leb-false _ _ (sym (λ i. leb (n_is i * weight_is i) (2 ^ 62 - 1)) ∙ sym test ∙ told))
-    ∙ (λ i. Err (Overflow (sym n_is i) (sym weight_is i)))
-
-pub told_fits : (counts : List ℕ) (edges : List Edge) (n weight : ℕ) (fits : Bool) → n ≡ get_or counts 0 0 → weight ≡ greatest_weight edges → fits ≡ leb (n * weight) (2 ^ 62 - 1) → fits ≡ true → get_or counts 0 0 * greatest_weight edges ≤ 2 ^ 62 - 1
-told_fits counts edges n weight fits n_is weight_is test told =
-    leb-true _ _ (sym (λ i. leb (n_is i * weight_is i) (2 ^ 62 - 1)) ∙ sym test ∙ told)
+-- accepted lines are a graph
+pub accepted_graph : (words : GraphWords) (counts : List ℕ) (edges : List Edge) → AreAccepted (graph_wording words) counts (map arc_numbers edges) → IsGraph (get_or counts 0 0) edges
+accepted_graph words counts edges accepted =
+    let faultless : (k : ℕ) (d : Edge) → k < length edges → arc_fault counts (arc_numbers (get_or edges k d)) ≡ None = λ k d h.
+    sym (ap (arc_fault counts) (get_or-map arc_numbers edges k d (arc_numbers d) h)) ∙ accepted.faultless k (arc_numbers d) (omega (arith, length-map edges arc_numbers)) in
+    let small = nodes_within counts accepted.within in
+    record {
+      small = small;
+      edge = λ k d h. edge_shown counts (get_or edges k d) (faultless k d h);
+      fits = light_fits (get_or counts 0 0) edges small (λ k d h. weight_shown counts (get_or edges k d) (faultless k d h));
+    }

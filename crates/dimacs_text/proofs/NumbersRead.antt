@@ -1,5 +1,5 @@
 -- The numbers of a line, word by word.
-use Rattle.std.proofs.Common.{◌≡◌, ℕ, ◌+◌, ◌-◌, ◌^◌, Bool, true, false, min, List, [], ◌∷◌, ◌++◌, length, Option, Some, None, refl, ap, sym, ◌∙◌, append_assoc}
+use Rattle.std.proofs.Common.{◌≡◌, ℕ, ◌+◌, ◌^◌, Bool, true, false, min, List, [], ◌∷◌, ◌++◌, length, Option, Some, None, refl, ap, sym, ◌∙◌, append_assoc}
 use Rattle.std.specs.Prelude.{◌&&◌, is_some, unwrap_or}
 use Rattle.std.specs.Option.{option_map, option_and_then}
 use Rattle.std.proofs.lemmas.List.{append-nil, map-append}
@@ -53,9 +53,9 @@ IsRead None true places = ⊥
 IsRead None false places = Unit {0}
 
 -- one word more
-pub IsRead-more : (so_far : Option (List ℕ)) (all : Bool) (places : List ℕ) (number : Option ℕ) (value : Option ℕ) → value ≡ option_map (λ n. min n (2 ^ 64 - 1)) number → IsRead so_far all places → IsRead (with_number so_far number) (all && is_some value) (places ++ unwrap_or value 0 ∷ [])
+pub IsRead-more : (so_far : Option (List ℕ)) (all : Bool) (places : List ℕ) (number : Option ℕ) (value : Option ℕ) → value ≡ option_map (λ n. min n (2 ^ 64)) number → IsRead so_far all places → IsRead (with_number so_far number) (all && is_some value) (places ++ unwrap_or value 0 ∷ [])
 IsRead-more (Some ns) true places None value is read = rw is tt
-IsRead-more (Some ns) true places (Some n) value is read = rw is (ap (λ prefix. prefix ++ min n (2 ^ 64 - 1) ∷ []) read ∙ sym (map-append (λ n. min n (2 ^ 64 - 1)) ns (n ∷ [])))
+IsRead-more (Some ns) true places (Some n) value is read = rw is (ap (λ prefix. prefix ++ min n (2 ^ 64) ∷ []) read ∙ sym (map-append (λ n. min n (2 ^ 64)) ns (n ∷ [])))
 IsRead-more (Some ns) false places number value is read = absurd read
 IsRead-more None true places number value is read = absurd read
 IsRead-more None false places number value is read = tt

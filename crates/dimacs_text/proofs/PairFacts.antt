@@ -1,5 +1,5 @@
 -- The numbers of a pair without fault are a pair.
-use Rattle.std.proofs.Common.{◌≡◌, ℕ, ◌-◌, ◌^◌, ◌<◌, Bool, false, cond, List, [], ◌∷◌, map, length, get_or, Some, None, refl, ap, sym, ◌∙◌, arith}
+use Rattle.std.proofs.Common.{◌≡◌, ℕ, ◌^◌, ◌<◌, Bool, false, cond, List, [], ◌∷◌, map, length, get_or, Some, None, refl, ap, sym, ◌∙◌, arith}
 use Rattle.std.specs.Prelude.{◌||◌}
 use Rattle.dimacs_text.specs.Counted.{is_outside, kept}
 use Rattle.dimacs_text.specs.PairsText.{pair_fault, pair_numbers, pair_of}
@@ -10,7 +10,7 @@ no_fault : (s t : Bool) → s ≡ false → t ≡ false → cond (s || t) (Some 
 no_fault s t is_s is_t = rw (is_s, is_t) refl
 
 -- two numbers that have no fault as they are kept have none, and are kept as they are
-pub pair_taken : (n : ℕ) (counts values numbers : List ℕ) → n < 2 ^ 64 - 1 → numbers ≡ kept values → length numbers ≡ 2 → is_outside n (get_or numbers 0 0) ≡ false → is_outside n (get_or numbers 1 0) ≡ false → (pair_fault n counts values ≡ None) × (get_or numbers 0 0 ∷ get_or numbers 1 0 ∷ [] ≡ values)
+pub pair_taken : (n : ℕ) (counts values numbers : List ℕ) → n < 2 ^ 64 → numbers ≡ kept values → length numbers ≡ 2 → is_outside n (get_or numbers 0 0) ≡ false → is_outside n (get_or numbers 1 0) ≡ false → (pair_fault n counts values ≡ None) × (get_or numbers 0 0 ∷ get_or numbers 1 0 ∷ [] ≡ values)
 pair_taken n counts [] numbers low is size s t = absurd (omega (arith, ap length is))
 pair_taken n counts (x ∷ []) numbers low is size s t = absurd (omega (arith, ap length is))
 pair_taken n counts (x ∷ y ∷ []) numbers low is size s t =

@@ -1,12 +1,11 @@
 -- A printed graph is read back.
-use Rattle.std.proofs.Common.{◌≡◌, ◌≢◌, ℕ, zero, suc, ◌+◌, ◌*◌, ◌-◌, ◌^◌, ◌<◌, ◌≤◌, true, false, eqb, ltb, All, List, [], ◌∷◌, ◌++◌, map, length, get_or, Some, None, Result, Ok, refl, ap, sym, ◌∙◌, arith}
+use Rattle.std.proofs.Common.{◌≡◌, ◌≢◌, ℕ, suc, ◌+◌, ◌-◌, ◌^◌, ◌<◌, ◌≤◌, true, false, eqb, ltb, All, List, [], ◌∷◌, ◌++◌, map, length, get_or, Some, None, Result, Ok, refl, ap, sym, ◌∙◌, arith}
 use Rattle.std.specs.Prelude.{codes, flat_map, if◌then◌else◌}
 use Rattle.std.specs.Fmt.{decimal}
 use Rattle.std.proofs.lemmas.Bool.{le-leb, le-ltb}
 use Rattle.std.proofs.lemmas.List.{append_assoc, append-nil, length-append, length-map}
-use Rattle.std.proofs.Math.Nat.{mul-le-mul}
 use Rattle.walk_laws.specs.declared.graph.Edge.{Edge}
-use Rattle.walk_laws.specs.Graph.{IsGraph, IsEdge, greatest_weight}
+use Rattle.walk_laws.specs.Graph.{IsGraph, IsEdge}
 use Rattle.desk_io.specs.Lines.{whole_lines, open_rest, last_line, lines_of}
 use Rattle.text_lines.specs.Words.{words_of, numbers_of, is_skipped}
 use Rattle.text_lines.specs.Judgement.{Progress, ◌>>=◌, number_after, after_line, after_lines, value_of_lines}
@@ -18,7 +17,7 @@ use Rattle.dimacs_text.specs.PrintedGraph.{edge_line, graph_text}
 use Rattle.dimacs_text.specs.declared.fault.GrFault.{GrFault}
 use Rattle.dimacs_text.specs.declared.fault.GrFault.TheVariants.{Text}
 use Rattle.dimacs_text.specs.declared.graph_words.GraphWords.{GraphWords}
-use Rattle.dimacs_text.proofs.ArcFacts.{no_fault, apart, fits_graph}
+use Rattle.dimacs_text.proofs.ArcFacts.{no_fault, apart, edges_back}
 use Rattle.dimacs_text.proofs.Taken.{numbers_taken, declared_taken, problem_taken, line_taken, letter_taken}
 
 -- the lines of a printed graph, without their ends
@@ -113,13 +112,13 @@ three_numbers e p = rw (p.u.number, p.v.number, p.w.number) refl
 is_inside : (n v : ℕ) → 1 ≤ v → v ≤ n → is_outside n v ≡ false
 is_inside n v some within = rw (apart v 0 (omega arith), le-ltb n v within) refl
 
--- an edge of a weight below 2^62 has no fault
-edge_faultless : (n m : ℕ) (e : Edge) → IsEdge n e → e.w ≤ 2 ^ 62 - 1 → arc_fault (n ∷ m ∷ []) (arc_numbers e) ≡ None
+-- an edge of a weight below 2^64 has no fault
+edge_faultless : (n m : ℕ) (e : Edge) → IsEdge n e → e.w ≤ 2 ^ 64 - 1 → arc_fault (n ∷ m ∷ []) (arc_numbers e) ≡ None
 edge_faultless n m e edge light =
     let some : e.w ≢ 0 = omega (arith, edge.weight) in
-    no_fault (is_outside n e.u) (is_outside n e.v) (eqb e.w 0) (ltb (2 ^ 62 - 1) e.w) (is_inside n e.u edge.from_one edge.up_to_n) (is_inside n e.v edge.to_one edge.to_n) (apart e.w 0 some) (le-ltb (2 ^ 62 - 1) e.w light)
+    no_fault (is_outside n e.u) (is_outside n e.v) (eqb e.w 0) (ltb (2 ^ 64 - 1) e.w) (is_inside n e.u edge.from_one edge.up_to_n) (is_inside n e.v edge.to_one edge.to_n) (apart e.w 0 some) (le-ltb (2 ^ 64 - 1) e.w light)
 
-arc_judged : (words : GraphWords) (n m next : ℕ) (lines : List (List ℕ)) (e : Edge) → PrintsEdge e → IsEdge n e → e.w ≤ 2 ^ 62 - 1 → length lines < m → after_line graph_judged graph_ended (record { next = next; state = after_problem words n m lines }) (arc_bytes e) ≡ Ok (record { next = number_after next; state = after_problem words n m (lines ++ arc_numbers e ∷ []) })
+arc_judged : (words : GraphWords) (n m next : ℕ) (lines : List (List ℕ)) (e : Edge) → PrintsEdge e → IsEdge n e → e.w ≤ 2 ^ 64 - 1 → length lines < m → after_line graph_judged graph_ended (record { next = next; state = after_problem words n m lines }) (arc_bytes e) ≡ Ok (record { next = number_after next; state = after_problem words n m (lines ++ arc_numbers e ∷ []) })
 arc_judged words n m next lines e p edge light room =
     let w = graph_wording words in
     let differ : length lines ≢ m = omega arith in
@@ -133,7 +132,7 @@ arc_judged words n m next lines e p edge light room =
 record ReadsBack (n : ℕ) (e : Edge) : Type 0 where
   pub prints : PrintsEdge e
   pub edge : IsEdge n e
-  pub light : e.w ≤ 2 ^ 62 - 1
+  pub light : e.w ≤ 2 ^ 64 - 1
 
 arcs_judged : (words : GraphWords) (n m : ℕ) (edges : List Edge) (next : ℕ) (lines : List (List ℕ)) → All (ReadsBack n) edges → length lines + length edges ≤ m → (last : ℕ) × (after_lines graph_judged graph_ended (record { next = next; state = after_problem words n m lines }) (map arc_bytes edges) ≡ Ok (record { next = last; state = after_problem words n m (lines ++ map arc_numbers edges) }))
 arcs_judged words n m [] next lines each room =
@@ -149,34 +148,27 @@ arcs_judged words n m (e ∷ edges) next lines each room =
           ∙ ap (λ ls. Ok (record { next = after.0; state = after_problem words n m ls })) (append_assoc lines (arc_numbers e ∷ []) (map arc_numbers edges)),
     )
 
-weight-le : (edges : List Edge) (k : ℕ) (d : Edge) → k < length edges → (get_or edges k d).w ≤ greatest_weight edges
-weight-le [] k d inside = absurd (omega arith)
-weight-le (e ∷ edges) zero d inside = omega arith
-weight-le (e ∷ edges) (suc k) d inside = omega (arith, weight-le edges k d (omega arith))
-
 -- each edge of a graph can be read back
-reads_back : (n : ℕ) (edges : List Edge) → IsGraph n edges → All (ReadsBack n) edges
-reads_back n edges graph = λ k d h.
+reads_back : (n : ℕ) (edges : List Edge) → IsGraph n edges → All (λ (e : Edge). e.w < 2 ^ 64) edges → All (ReadsBack n) edges
+reads_back n edges graph below = λ k d h.
     let e = get_or edges k d in
     let edge = graph.edge k d h in
-    let some : 1 ≤ n = omega (arith, edge.from_one, edge.up_to_n) in
-    let product : 1 * greatest_weight edges ≤ n * greatest_weight edges = mul-le-mul {n₁ = 1} {m₁ = greatest_weight edges} {n₂ = n} {m₂ = greatest_weight edges} some (omega arith) in
-    let light : (get_or edges k d).w ≤ 2 ^ 62 - 1 = omega (arith, weight-le edges k d h, product, graph.fits) in
+    let light = below k d h in
     record {
       prints = record {
         u = decimal_prints e.u (omega (arith, edge.up_to_n, graph.small));
         v = decimal_prints e.v (omega (arith, edge.to_n, graph.small));
-        w = decimal_prints e.w (omega (arith, light));
+        w = decimal_prints e.w light;
       };
       edge = edge;
-      light = light;
+      light = omega (arith, light);
     }
 
-pub printed_read : (n : ℕ) (edges : List Edge) → IsGraph n edges → length edges < 2 ^ 32 → graph_of_text (graph_text n edges) ≡ Ok (record { n = n; edges = edges })
-printed_read n edges graph few =
+pub printed_read : (n : ℕ) (edges : List Edge) → IsGraph n edges → All (λ (e : Edge). e.w < 2 ^ 64) edges → length edges < 2 ^ 32 → graph_of_text (graph_text n edges) ≡ Ok (record { n = n; edges = edges })
+printed_read n edges graph light few =
     let words : GraphWords = record {} in
     let m = length edges in
-    let each = reads_back n edges graph in
+    let each = reads_back n edges graph light in
     let pn = decimal_prints n (omega (arith, graph.small)) in
     let pm = decimal_prints (length edges) (omega arith) in
     let arcs = arcs_judged (record {}) n (length edges) edges (number_after 1) [] each (omega arith) in
@@ -185,4 +177,4 @@ printed_read n edges graph few =
     ∙ ap (λ r. (r >>= λ after. after_lines graph_judged graph_ended after (map arc_bytes edges)) >>= λ after. graph_ended after.state after.next) (problem_judged words n m pn pm graph.small (omega arith))
     ∙ ap (λ r. r >>= λ after. graph_ended after.state after.next) arcs.1
     ∙ ap (λ t. in_line Text arcs.0 (refuse t (Count (length edges) (length (map arc_numbers edges))) >> Ok (n ∷ length edges ∷ [])) >>= λ counts. graph_of_lines words counts (map arc_numbers edges)) (le-ltb (length (map arc_numbers edges)) (length edges) enough)
-    ∙ fits_graph words (n ∷ length edges ∷ []) edges (omega (arith, graph.fits))
+    ∙ ap (λ es. Ok (record { n = n; edges = es })) (edges_back edges)

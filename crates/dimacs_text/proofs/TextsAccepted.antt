@@ -1,25 +1,21 @@
 -- What accepted texts stand for: graphs, and pairs of nodes.
-use Rattle.std.proofs.Common.{◌≡◌, ℕ, ◌*◌, ◌-◌, ◌^◌, ◌<◌, ◌≤◌, Bool, true, false, cond, ltb, All, List, [], map, length, get_or, Some, None, Result, Ok, Err, refl, subst, sym, arith}
+use Rattle.std.proofs.Common.{◌≡◌, ℕ, ◌^◌, ◌<◌, ◌≤◌, Bool, true, false, cond, All, List, [], map, length, get_or, Some, None, Ok, refl, subst, sym, arith}
 use Rattle.std.specs.Prelude.{◌||◌}
-use Rattle.std.proofs.lemmas.Bool.{ltb-false}
 use Rattle.std.proofs.lemmas.List.{length-map, get_or-map}
-use Rattle.walk_laws.specs.Graph.{WeightedGraph, IsGraph, IsEdge, greatest_weight}
+use Rattle.walk_laws.specs.declared.graph.Edge.{Edge}
+use Rattle.walk_laws.specs.Graph.{WeightedGraph, IsGraph, IsEdge}
 use Rattle.dimacs_text.specs.Counted.{is_outside}
 use Rattle.dimacs_text.specs.GraphText.{edge_of, graph_wording, graph_of_lines, graph_of_text}
 use Rattle.dimacs_text.specs.PairsText.{pair_fault, pair_of, pairs_wording, pairs_of_lines, pairs_of_text}
-use Rattle.dimacs_text.specs.declared.fault.GrFault.TheVariants.{Text, Overflow}
+use Rattle.dimacs_text.specs.declared.fault.GrFault.{GrFault}
+use Rattle.dimacs_text.specs.declared.fault.GrFault.TheVariants.{Text}
 use Rattle.dimacs_text.specs.declared.fault.PairsFault.{PairsFault}
 use Rattle.dimacs_text.specs.declared.fault.PairsFault.TheVariants as pairs_fault
 use Rattle.dimacs_text.specs.declared.fault.TextKind.TheVariants.{NodeRange}
 use Rattle.dimacs_text.specs.declared.graph_words.GraphWords.{GraphWords}
 use Rattle.dimacs_text.specs.declared.pairs_words.PairsWords.{PairsWords}
-use Rattle.dimacs_text.proofs.ArcFacts.{nodes_within, node_shown, edge_shown}
+use Rattle.dimacs_text.proofs.ArcFacts.{nodes_within, node_shown, edge_shown, weight_shown, light_fits}
 use Rattle.dimacs_text.proofs.Accepted.{ok_value, accepted_text}
-
--- what a test lets through
-ok_shown : {A F : Type 0} (test : Bool) (fault : F) (x y : A) → ◌≡◌ {A = Result A F} (cond test (Err fault) (Ok x)) (Ok y) → (test ≡ false) × (x ≡ y)
-ok_shown true fault x y is = cc
-ok_shown false fault x y is = (refl, cc)
 
 -- what holds of what each line stands for holds of the list of these
 All-of_lines : {A : Type 0} (P : A → Type 0) (f : List ℕ → A) (lines : List (List ℕ)) → ((k : ℕ) → k < length lines → P (f (get_or lines k []))) → All P (map f lines)
@@ -27,7 +23,7 @@ All-of_lines P f lines each = λ k d h.
     let inside : k < length lines = omega (arith, length-map lines f) in
     subst P (sym (get_or-map f lines k [] d inside)) (each k inside)
 
-pub graph_accepted : (text : List ℕ) (g : WeightedGraph) → graph_of_text text ≡ Ok g → IsGraph g.n g.edges
+pub graph_accepted : (text : List ℕ) (g : WeightedGraph) → graph_of_text text ≡ Ok g → IsGraph g.n g.edges × All (λ e. e.w < 2 ^ 64) g.edges
 graph_accepted text g is =
     let words : GraphWords = record {} in
     let shown = accepted_text graph_wording Text graph_of_lines words text g is in
@@ -36,13 +32,16 @@ graph_accepted text g is =
     let accepted = shown.2 in
     let n = get_or shown.0 0 0 in
     let graph : WeightedGraph = record { n = get_or shown.0 0 0; edges = map edge_of shown.1 } in
-    let fits = ok_shown (ltb (2 ^ 62 - 1) (get_or shown.0 0 0 * greatest_weight (map edge_of shown.1))) (Overflow (get_or shown.0 0 0) (greatest_weight (map edge_of shown.1))) graph g shown.3 in
-    let low = ltb-false (2 ^ 62 - 1) (get_or shown.0 0 0 * greatest_weight (map edge_of shown.1)) fits.0 in
-    subst (λ (h : WeightedGraph). IsGraph h.n h.edges) fits.1 (record {
-      small = nodes_within counts accepted.within;
-      edge = All-of_lines (IsEdge n) edge_of lines (λ k h. edge_shown counts (edge_of (get_or lines k [])) (accepted.faultless k [] h));
-      fits = omega (arith, low);
-    })
+    let small = nodes_within counts accepted.within in
+    let light = All-of_lines (λ (e : Edge). e.w < 2 ^ 64) edge_of lines (λ k h. weight_shown counts (edge_of (get_or lines k [])) (accepted.faultless k [] h)) in
+    subst (λ (h : WeightedGraph). IsGraph h.n h.edges × All (λ e. e.w < 2 ^ 64) h.edges) (ok_value {F = GrFault} graph g shown.3) (
+      record {
+        small = small;
+        edge = All-of_lines (IsEdge n) edge_of lines (λ k h. edge_shown counts (edge_of (get_or lines k [])) (accepted.faultless k [] h));
+        fits = light_fits n (map edge_of lines) small light;
+      },
+      light,
+    )
 
 ends_shown : (s t : Bool) → cond (s || t) (Some NodeRange) None ≡ None → (s ≡ false) × (t ≡ false)
 ends_shown true t is = cc

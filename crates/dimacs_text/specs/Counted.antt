@@ -1,6 +1,6 @@
 -- A counted text: a `p` line with fixed words and counts, and then as many lines of one letter, each with so many numbers,
 -- as the last count declares.
-use Rattle.std.specs.Prelude.{◌≡◌, ℕ, ◌+◌, ◌-◌, ◌^◌, Bool, true, false, ◌==◌, ◌&&◌, ◌||◌, nat_le, nat_lt, not, min, map, List, [], ◌∷◌, ◌++◌, All, length, Option, Some, None, is_some, Result, Ok, Err, if◌then◌else◌}
+use Rattle.std.specs.Prelude.{◌≡◌, ℕ, ◌+◌, ◌^◌, Bool, true, false, ◌==◌, ◌&&◌, ◌||◌, nat_le, nat_lt, not, min, map, List, [], ◌∷◌, ◌++◌, All, length, Option, Some, None, is_some, Result, Ok, Err, if◌then◌else◌}
 use Rattle.std.specs.Option.{ok_or}
 use Rattle.std.specs.Str.{bytes_eq}
 use Rattle.text_lines.specs.Words.{words_of, numbers_of}
@@ -75,6 +75,13 @@ numbers_in places words = do
   -- 4. a word that is no number
   ok_or (numbers_of words) BadNumber
 
+-- some counts, of which none may be past its limit
+abbrev pub within_limits : List ℕ → List ℕ → Result (List ℕ) TextKind
+within_limits limits counts = do
+  -- 5. a count past its limit
+  refuse (not (are_within limits counts)) TooMany
+  Ok counts
+
 -- the counts that a `p` line declares
 abbrev pub declared_counts : Wording → List (List ℕ) → Result (List ℕ) TextKind
 declared_counts w words = do
@@ -82,9 +89,8 @@ declared_counts w words = do
   after ← ok_or (after_words (words_of w.fixed) words) BadField
   -- 3 and 4. other words after them than a number for each count
   counts ← numbers_in (length w.limits) after
-  -- 5. a count past its limit
-  refuse (not (are_within w.limits counts)) TooMany
-  Ok counts
+  -- 5
+  within_limits w.limits counts
 
 -- the numbers of a line of the letter
 abbrev pub line_numbers : Wording → List ℕ → List (List ℕ) → Result (List ℕ) TextKind
@@ -155,9 +161,9 @@ pub record AreAccepted (w : Wording) (counts : List ℕ) (lines : List (List ℕ
   pub numbers : All (λ numbers. length numbers ≡ w.numbers) lines
   pub faultless : All (λ numbers. w.fault_of counts numbers ≡ None) lines
 
--- numbers as a reader keeps them: a greater one than 2^64 - 1 as that
+-- numbers as a reader keeps them: a greater one than 2^64 as that
 abbrev pub kept : List ℕ → List ℕ
-kept numbers = map (λ n. min n (2 ^ 64 - 1)) numbers
+kept numbers = map (λ n. min n (2 ^ 64)) numbers
 
 -- how the numbers of a line may be judged by one who sees them as they are kept
 abbrev pub JudgesNumbers : {I : Type 0} → Wording → (I → List ℕ) → List ℕ → List ℕ → Result I TextKind → Type 0

@@ -1,7 +1,7 @@
 ghost use Rattle.std.specs.Prelude.{◌≡◌, true, map, length, List, [], ◌∷◌, ℕ, None, Ok, Err, IfOk, IfErr};
 ghost use Rattle.std.specs.Str.{bytes_eq};
 ghost use Rattle.text_lines.specs.Words.{words_of};
-ghost use Rattle.dimacs_text.specs.Counted.{none_yet, last_of, are_within, numbers_in, declared_counts, line_numbers, problem_line, letter_line, counted_line};
+ghost use Rattle.dimacs_text.specs.Counted.{none_yet, last_of, are_within, numbers_in, declared_counts, within_limits, line_numbers, problem_line, letter_line, counted_line};
 ghost use Rattle.dimacs_text.specs.Taking.{Gives, GivesKept};
 
 use crate::counted_text::CountedText;
@@ -166,19 +166,16 @@ fn counts_of<T: CountedText>(alloc: Global, text: &T, words: &[u8]) -> Result<Ve
         return Err(Untaken::Faulty(TextKind::BadField));
     };
     let limits = text.limits();
-    let counts = read_counts(alloc, after, limits.len())?;
-    if !all_within(limits, &counts) {
-        return Err(Untaken::Faulty(TextKind::TooMany));
-    }
-    Ok(counts)
+    let numbers = read_counts(alloc, after, limits.len())?;
+    counts_within(alloc, limits, &numbers)
 }
 
 /// The words of a line, which are so many numbers.
-fn read_counts(alloc: Global, line: &[u8], places: usize) -> Result<Vec<u64>, Untaken>
+fn read_counts(alloc: Global, line: &[u8], places: usize) -> Result<Vec<u128>, Untaken>
     ensures numbers { GivesKept (λ counts. counts.items) (numbers_in places (words_of line.now)) result }
     ensures places { IfOk result (λ counts. length counts.items ≡ places) }
 {
-    let mut counts = vec![in alloc; 0u64; places]?;
+    let mut counts = vec![in alloc; 0u128; places]?;
     read_numbers(line, &mut counts)?;
     Ok(counts)
 }
@@ -192,7 +189,7 @@ fn item_of<T: CountedText>(text: &T, counts: &[u64], words: &[u8]) -> Result<T::
     ensures numbers { IfOk result (λ item. length (T.written item) ≡ (T.wording text.now).numbers) }
     ensures faultless { IfOk result (λ item. (T.wording text.now).fault_of counts.now (T.written item) ≡ None) }
 {
-    let mut places = [0u64; 3];
+    let mut places = [0u128; 3];
     let numbers = &mut places[..text.numbers()];
     read_numbers(words, numbers)?;
     text.item(counts, numbers)
@@ -208,17 +205,22 @@ fn last_count(counts: &[u64]) -> u64
     counts[counts.len() - 1]
 }
 
-/// Whether no count is past its limit.
-fn all_within(limits: &[u64], counts: &[u64]) -> bool
-    requires { length counts.now ≡ length limits.now }
-    ensures { result ≡ are_within limits.now counts.now }
+/// The counts that are these numbers, of which none may be past its limit.
+fn counts_within(alloc: Global, limits: &[u64], numbers: &[u128]) -> Result<Vec<u64>, Untaken>
+    requires { length numbers.now ≡ length limits.now }
+    ensures counts { Gives (λ counts. counts.items) (within_limits limits.now numbers.now) result }
+    ensures same { IfOk result (λ counts. counts.items ≡ numbers.now) }
+    ensures within { IfOk result (λ _. are_within limits.now numbers.now ≡ true) }
 {
+    let mut counts = Vec::new(alloc);
     for (place, limit) in limits.iter().enumerate() {
-        if counts[place] > *limit {
-            return false;
+        let number = numbers[place];
+        if number > u128::from(*limit) {
+            return Err(Untaken::Faulty(TextKind::TooMany));
         }
+        counts.push(number as u64)?;
     }
-    true
+    Ok(counts)
 }
 
 /// Whether a word is this letter.

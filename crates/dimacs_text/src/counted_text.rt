@@ -39,7 +39,7 @@ pub trait CountedText {
     /// The greatest value of each count.
     fn limits(&self) -> &'static [u64]
         ensures value { result.now ≡ (wording self.now).limits }
-        ensures small { All (λ limit. limit < 2 ^ 64 - 1) (wording self.now).limits };
+        ensures small { All (λ limit. limit < 2 ^ 64) (wording self.now).limits };
 
     /// The letter of the other lines.
     fn letter(&self) -> u8
@@ -50,8 +50,9 @@ pub trait CountedText {
         ensures value { result ≡ (wording self.now).numbers }
         ensures few { result ≤ 3 };
 
-    /// What the numbers of a line stand for under the counts of the `p` line, or the fault that they have.
-    fn item(&self, counts: &[u64], numbers: &[u64]) -> Result<Self::Item, TextKind>
+    /// What the numbers of a line, each kept as 2^64 where it is greater, stand for under the counts of the `p` line, or the
+    /// fault that they have.
+    fn item(&self, counts: &[u64], numbers: &[u128]) -> Result<Self::Item, TextKind>
         requires counted { length counts.now ≡ length (wording self.now).limits }
         requires within { are_within (wording self.now).limits counts.now ≡ true }
         requires numbers { length numbers.now ≡ (wording self.now).numbers }
@@ -79,8 +80,8 @@ pub trait CountedText {
 }
 
 /// Whether a number is no node of 1..n.
-pub fn is_outside_of(n: u64, v: u64) -> bool
+pub fn is_outside_of(n: u64, v: u128) -> bool
     ensures { result ≡ is_outside n v }
 {
-    v == 0 || v > n
+    v == 0 || v > u128::from(n)
 }

@@ -54,9 +54,6 @@ pub enum GrFault {
     /// The text has a fault.
     #[error("graph {0}")]
     Text(TextFault),
-    /// The number of nodes times the greatest weight is 2^62 or more.
-    #[error("overflow: {n} nodes, weight {weight}")]
-    Overflow { n: u32, weight: u64 },
     /// There was no memory for it.
     #[error("out of memory")]
     NoMemory,

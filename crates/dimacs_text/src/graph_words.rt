@@ -1,6 +1,3 @@
-ghost use Rattle.std.specs.Prelude.{◌≡◌, ◌-◌, ◌*◌, ◌^◌, nat_le};
-ghost use Rattle.walk_laws.specs.Graph.{greatest_weight};
-
 use crate::counted_text::{CountedText, is_outside_of};
 use crate::fault::{GrFault, TextFault, TextKind};
 use std::alloc::Global;
@@ -9,15 +6,15 @@ use walk_laws::{Edge, Graph};
 /// The greatest number of nodes, 2^30, and the greatest number of arcs, 2^32 - 1.
 static LIMITS: [u64; 2] = [1 << 30, (1 << 32) - 1];
 
-/// The greatest weight, and the greatest product of the number of nodes and the greatest weight: 2^62 - 1.
-const GREATEST: u64 = (1 << 62) - 1;
+/// The greatest weight, 2^64 - 1.
+const GREATEST: u128 = (1 << 64) - 1;
 
 /// The words of a graph text: `p sp N M`, and `a U V W` for an edge.
 #[derive(Clone, Copy, Debug)]
 pub struct GraphWords;
 
 impl CountedText for GraphWords {
-    ghost use Rattle.std.specs.Prelude.{◌⊎◌, map, Ok, Err, IfOk, IfErr};
+    ghost use Rattle.std.specs.Prelude.{◌≡◌, ◌⊎◌, map, Ok, Err, IfOk, IfErr};
     ghost use Rattle.dimacs_text.specs.Counted.{AreAccepted};
     ghost use Rattle.dimacs_text.specs.GraphText.{graph_wording, arc_numbers, graph_of_lines};
     ghost use Rattle.dimacs_text.specs.declared.fault.GrFault.TheVariants.{Text, NoMemory};
@@ -54,7 +51,7 @@ impl CountedText for GraphWords {
         3
     }
 
-    fn item(&self, counts: &[u64], numbers: &[u64]) -> Result<Edge, TextKind> {
+    fn item(&self, counts: &[u64], numbers: &[u128]) -> Result<Edge, TextKind> {
         let n = counts[0];
         let u = numbers[0];
         let v = numbers[1];
@@ -71,7 +68,7 @@ impl CountedText for GraphWords {
         Ok(Edge {
             u: u as u32,
             v: v as u32,
-            w,
+            w: w as u64,
         })
     }
 
@@ -81,12 +78,7 @@ impl CountedText for GraphWords {
         ensures err { IfErr result (λ fault. (fault ≡ NoMemory)
             ⊎ (graph_of_lines self counts.items (map arc_numbers items.items) ≡ Err fault)) }
     {
-        let n = counts[0] as u32;
-        let weight = greatest_weight_of(&items);
-        if !fits(n, weight) {
-            return Err(GrFault::Overflow { n, weight });
-        }
-        let graph = Graph::new(alloc, n, items)?;
+        let graph = Graph::new(alloc, counts[0] as u32, items)?;
         Ok(graph)
     }
 
@@ -95,25 +87,4 @@ impl CountedText for GraphWords {
     }
 
     ghost want = { λ error fault is. is };
-}
-
-/// The greatest weight of the edges, 0 without edges.
-fn greatest_weight_of(edges: &[Edge]) -> u64
-    ensures { result ≡ greatest_weight edges.now }
-{
-    let mut greatest = 0;
-    for edge in edges {
-        greatest = edge.w.max(greatest);
-    }
-    greatest
-}
-
-/// Whether the number of nodes times the greatest weight is below 2^62.
-fn fits(n: u32, weight: u64) -> bool
-    ensures { result ≡ nat_le (n * weight) (2 ^ 62 - 1) }
-{
-    match u64::from(n).checked_mul(weight) {
-        Some(product) => product <= GREATEST,
-        None => false,
-    }
 }

@@ -25,8 +25,8 @@ pub fn strip_words<'a>(line: &'a [u8], prefix: &[u8]) -> Option<&'a [u8]>
     Some(rest)
 }
 
-/// Reads the words of a line, which are as many numbers as there are places; one above u64::MAX is kept as that.
-pub fn read_numbers(line: &[u8], numbers: &mut [u64]) -> Result<(), TextKind>
+/// Reads the words of a line, which are as many numbers as there are places; one above 2^64 is kept as that.
+pub fn read_numbers(line: &[u8], numbers: &mut [u128]) -> Result<(), TextKind>
     ensures ok { OnOk result ((values : List ℕ) × (numbers_in (length numbers.old) (words_of line.now) ≡ Ok values)
         × (numbers.new ≡ kept values)) }
     ensures err { IfErr result (λ kind. numbers_in (length numbers.old) (words_of line.now) ≡ Err kind) }

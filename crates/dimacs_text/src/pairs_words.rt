@@ -50,7 +50,7 @@ impl CountedText for PairsWords {
         2
     }
 
-    fn item(&self, _counts: &[u64], numbers: &[u64]) -> Result<(u32, u32), TextKind> {
+    fn item(&self, _counts: &[u64], numbers: &[u128]) -> Result<(u32, u32), TextKind> {
         let n = u64::from(self.n);
         let s = numbers[0];
         let t = numbers[1];

@@ -1,35 +1,18 @@
 -- What the arcs of a node tell of the entries of its row, as they are gone along by rising neighbour.
-use Rattle.std.proofs.Common.{◌≡◌, ◌↔◌, ◌⊎◌, ℕ, ◌+◌, ◌-◌, ◌*◌, ◌^◌, ◌<◌, ◌≤◌, List, All, Contains, length, map, get_or, take, refl, sym, ap, subst, ◌∙◌, inl, inr, arith}
+use Rattle.std.proofs.Common.{◌≡◌, ◌↔◌, ◌⊎◌, ℕ, ◌+◌, ◌-◌, ◌<◌, ◌≤◌, List, All, Contains, length, map, get_or, take, refl, sym, ap, subst, ◌∙◌, inl, inr, arith}
 use Rattle.std.specs.List.Sorted.{IsNonDecreasing}
-use Rattle.std.proofs.Math.Nat.{mul-le-mul_right}
 use Rattle.std.proofs.lemmas.Bool.{cases_lt}
 use Rattle.std.proofs.lemmas.List.{get_or-map, get_or_default, get_or-take, length-map, length-take}
 use Rattle.std.proofs.lemmas.List.Elements.{All-contains, All-nil, Contains-get_or}
-use Rattle.walk_laws.specs.declared.graph.Edge.{Edge}
 use Rattle.walk_laws.specs.declared.graph.Arc.{Arc}
 use Rattle.walk_laws.specs.declared.entry.Entry.{Entry}
-use Rattle.walk_laws.specs.Graph.{IsGraph, greatest_weight}
-use Rattle.walk_laws.specs.Joined.{Joined}
 use Rattle.walk_laws.specs.Labelling.{label_row}
 use Rattle.walk_laws.specs.LightestArcs.{no_arc}
-use Rattle.walk_laws.proofs.JoinedEdges.{arcs_of_row}
 use Rattle.hub_index.proofs.CoveredEntries.{All-one_more, All-whole}
 use Rattle.entry_vias.specs.declared.slot.Slot.{Slot}
 use Rattle.entry_vias.specs.declared.slot.Slot.TheVariants.{NoEntry, Sought, Found}
 use Rattle.entry_vias.specs.RowVias.{IsNearer, IsFirstNearer}
 use Rattle.entry_vias.specs.Slots.{entry_at, LeadsNearer, IsAfterLook, IsAfterAll, IsRepeated}
-
--- an arc of a graph leads to one of its nodes, by a short weight
-pub record IsShortArc (n : ℕ) (a : Arc) : Type 0 where
-  pub from_one : 1 ≤ a.to
-  pub up_to_n : a.to ≤ n
-  pub light : a.w < 2 ^ 62
-
-pub arc_facts : (n : ℕ) (edges : List Edge) (v : ℕ) (arcs : List Arc) (k : ℕ) → IsGraph n edges → 1 ≤ n → ((t w : ℕ) → Contains arcs (record { to = t; w = w }) ↔ Joined edges v t w) → k < length arcs → IsShortArc n (get_or arcs k no_arc)
-arc_facts n edges v arcs k graph some joined lt =
-    let arc = arcs_of_row n edges v arcs graph joined k no_arc lt in
-    let one : 1 * greatest_weight edges ≤ n * greatest_weight edges = mul-le-mul_right (greatest_weight edges) some in
-    record { from_one = arc.from_one; up_to_n = arc.up_to_n; light = omega (arith, arc.light, one, graph.fits) }
 
 module _ (J : ℕ → ℕ → ℕ → Type 0) (rows : List (List Entry)) (v : ℕ) (arcs : List Arc) where
   -- what is known at the position p after the first k arcs

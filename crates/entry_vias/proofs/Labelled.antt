@@ -9,7 +9,6 @@ use Rattle.walk_laws.specs.declared.graph.Edge.{Edge}
 use Rattle.walk_laws.specs.declared.entry.Entry.{Entry}
 use Rattle.walk_laws.specs.Graph.{IsEdge, IsGraph}
 use Rattle.walk_laws.specs.Joined.{Joined}
-use Rattle.walk_laws.specs.Ranking.{IsRanking}
 use Rattle.walk_laws.specs.Least.{IsLeast}
 use Rattle.walk_laws.specs.Canonical.{IsCanonical}
 use Rattle.walk_laws.specs.Labelling.{IsHubEntry, label_row, IsChl}
@@ -20,7 +19,6 @@ use Rattle.walk_laws.proofs.LeastWalks.{IsLeast-predecessor, IsLeast-same, IsLea
 use Rattle.walk_laws.proofs.OnWalks.{IsOn-from_parts}
 use Rattle.walk_laws.proofs.CanonicalHubs.{IsCanonical-inherited}
 use Rattle.hub_index.specs.WellFormed.{own_entry, IsWellFormedRow, IsWellFormed}
-use Rattle.hub_index.proofs.CanonicalRows.{IsWellFormed-canonical}
 use Rattle.entry_vias.specs.Vias.{IsBefore, IsFirstBefore, IsVia}
 use Rattle.entry_vias.specs.RowVias.{IsNearer, IsFirstNearer, IsRowVia, AreRowVias, AreVias, via_row, IsViaRow, HaveVias}
 use Rattle.entry_vias.proofs.Existing.{IsFirstNearer-exists}
@@ -169,16 +167,15 @@ module _ (edges : List Edge) (at : List ℕ) (rows : List (List Entry)) (edge : 
           node = all_beside R IsOther is_row.others parts.others (λ e y here via.
               let in_row : Contains (label_row rows v) e = subst (λ row. Contains row e) (sym is_row.ends) (Contains-append_left is_row.others (own ∷ []) e here) in
               let is = hub_of e in_row in
-              let far : 1 ≤ e.dist = (All-contains (λ (x : Entry). (1 ≤ x.dist) × (x.dist < 2 ^ 62)) is_row.others e is_row.far here).0 in
+              let far : 1 ≤ e.dist = (All-contains (λ (x : Entry). (1 ≤ x.dist) × (x.dist < 2 ^ 64)) is_row.others e is_row.far here).0 in
               let node = first_is_node is.0 v e is.1 is.2 y (first_of is.0 v e is.1 is.2 y far via) in
               (node.0, omega (arith, node.1, well.size), node.2)) parts.beside;
         }
 
--- the vias of the labelling of a graph may stand beside its rows
-pub HaveVias-canonical : (n : ℕ) (edges : List Edge) (at : List ℕ) (rows : List (List Entry)) (vias : List (List ℕ)) → IsGraph n edges → IsRanking at → length at ≡ n → IsChl (Joined edges) at rows → AreVias (Joined edges) rows vias → HaveVias rows vias
-HaveVias-canonical n edges at rows vias graph ranking size chl are =
+-- the vias of the labelling of a graph may stand beside its rows, where these are well formed
+pub HaveVias-canonical : (n : ℕ) (edges : List Edge) (at : List ℕ) (rows : List (List Entry)) (vias : List (List ℕ)) → IsGraph n edges → IsWellFormed at rows → length at ≡ n → IsChl (Joined edges) at rows → AreVias (Joined edges) rows vias → HaveVias rows vias
+HaveVias-canonical n edges at rows vias graph well size chl are =
     let edge : All (IsEdge (length at)) edges = subst (λ k. All (IsEdge k) edges) (sym size) graph.edge in
-    let well = IsWellFormed-canonical n edges at graph ranking size rows chl in
     record {
       size = are.size;
       row = λ v from_one up_to_n. via_row_is edges at rows edge chl well vias are v from_one (omega (arith, up_to_n, well.size));

@@ -1,4 +1,4 @@
--- What a well formed row is to a table of positions: its positions rise and are those of the ranking, and its distances are short.
+-- What a well formed row is to a table of positions: its positions rise and are those of the ranking, and its distances fit in 64 bits.
 use Rattle.std.proofs.Common.{ℕ, ◌^◌, ◌<◌, ◌≤◌, List, [], ◌∷◌, ◌++◌, All, Contains, length, map, ap, subst, inl, inr, arith}
 use Rattle.std.specs.List.Sorted.{IsStrictlyIncreasing}
 use Rattle.std.proofs.lemmas.List.Elements.{All-contains, All-contains_itself, All-weaker, Contains-append_cases, Contains-append_right}
@@ -37,14 +37,14 @@ module _ (at : List ℕ) (rows : List (List Entry)) (v : ℕ) (well : IsWellForm
   row_up = AllPairs-from_increasing (map (λ e. e.pos) (label_row rows v)) row_is.rising
 
   -- an entry of the row is one of the others or the node's own
-  pub entry_facts : (e : Entry) → Contains (label_row rows v) e → (e.pos < length at) × (e.dist < 2 ^ 62)
+  pub entry_facts : (e : Entry) → Contains (label_row rows v) e → (e.pos < length at) × (e.dist < 2 ^ 64)
   entry_facts e there =
       let own = own_entry at v in
       let up = subst (Rises pos_of) row_is.ends row_up in
       elim (Contains-append_cases row_is.others (own ∷ []) e (subst (λ row. Contains row e) row_is.ends there)) [
         | inl other ↦ (
           omega (arith, before_last row_is.others own e up other, position-lt at v well.ranking from_one up_to_n),
-          (All-contains (λ (x : Entry). (1 ≤ x.dist) × (x.dist < 2 ^ 62)) row_is.others e row_is.far other).1,
+          (All-contains (λ (x : Entry). (1 ≤ x.dist) × (x.dist < 2 ^ 64)) row_is.others e row_is.far other).1,
         )
         | inr last ↦ elim (Contains-cons_cases own e [] last) [
           | inl same ↦ (omega (arith, ap pos_of same, position-lt at v well.ranking from_one up_to_n), omega (arith, ap (λ (x : Entry). x.dist) same))
@@ -55,5 +55,5 @@ module _ (at : List ℕ) (rows : List (List Entry)) (v : ℕ) (well : IsWellForm
   pub row_within : All (λ (e : Entry). e.pos < length at) (label_row rows v)
   row_within = All-weaker (Contains (label_row rows v)) (λ (e : Entry). e.pos < length at) (λ e there. (entry_facts e there).0) (label_row rows v) (All-contains_itself (label_row rows v))
 
-  pub row_fits : All (λ (e : Entry). e.dist < 2 ^ 62) (label_row rows v)
-  row_fits = All-weaker (Contains (label_row rows v)) (λ (e : Entry). e.dist < 2 ^ 62) (λ e there. (entry_facts e there).1) (label_row rows v) (All-contains_itself (label_row rows v))
+  pub row_fits : All (λ (e : Entry). e.dist < 2 ^ 64) (label_row rows v)
+  row_fits = All-weaker (Contains (label_row rows v)) (λ (e : Entry). e.dist < 2 ^ 64) (λ e there. (entry_facts e there).1) (label_row rows v) (All-contains_itself (label_row rows v))

@@ -6,6 +6,7 @@ use Rattle.walk_laws.specs.Graph.{IsEdge, IsGraph}
 use Rattle.walk_laws.specs.Joined.{Joined}
 use Rattle.walk_laws.specs.Ranking.{IsRanking}
 use Rattle.walk_laws.specs.Labelling.{IsChl, label_row}
+use Rattle.walk_laws.specs.Overflow.{Overflows}
 use Rattle.entry_vias.specs.Vias.{IsVia}
 use Rattle.entry_vias.specs.RowVias.{IsFirstNearer, IsRowVia, AreVias, HaveVias}
 
@@ -25,6 +26,6 @@ EachRowHasVias = (edges : List Edge) (rows : List (List Entry)) → (vias : List
 abbrev pub ViasAreOne : Type 0
 ViasAreOne = (edges : List Edge) (rows : List (List Entry)) (vias others : List (List ℕ)) → AreVias (Joined edges) rows vias → AreVias (Joined edges) rows others → vias ≡ others
 
--- those of the canonical hub labelling may stand beside its rows
+-- those of the canonical hub labelling may stand beside its rows, where no hub is too far
 abbrev pub TheLabellingHasVias : Type 0
-TheLabellingHasVias = (n : ℕ) (edges : List Edge) (at : List ℕ) (rows : List (List Entry)) (vias : List (List ℕ)) → IsGraph n edges → IsRanking at → length at ≡ n → IsChl (Joined edges) at rows → AreVias (Joined edges) rows vias → HaveVias rows vias
+TheLabellingHasVias = (n : ℕ) (edges : List Edge) (at : List ℕ) (rows : List (List Entry)) (vias : List (List ℕ)) → IsGraph n edges → IsRanking at → length at ≡ n → IsChl (Joined edges) at rows → ¬ Overflows (Joined edges) at → AreVias (Joined edges) rows vias → HaveVias rows vias

@@ -22,8 +22,8 @@ pub fn vias_are_one()
     ensures { ViasAreOne }
 {}
 
-/// The vias of the canonical hub labelling may stand beside its rows: 0 for a node's own entry, and a node, but the row's own,
-/// for each other.
+/// The vias of the canonical hub labelling, where an index can keep it, may stand beside its rows: 0 for a node's own entry, and a
+/// node, but the row's own, for each other.
 pub fn the_labelling_has_vias()
     ensures { TheLabellingHasVias }
 {}

@@ -17,14 +17,16 @@ fn lay_out(table: &mut [Slot], row: &[Entry]) -> usize
     requires empty { IsEmpty table.old }
     requires rises { IsStrictlyIncreasing (map (λ e. e.pos) row.now) }
     requires within { All (λ e. e.pos < length table.old) row.now }
+    requires fits { All (λ e. e.dist < 2 ^ 64) row.now }
     ensures row { IsLaidOut row.now table.new }
     ensures sought { result ≡ sought_in table.new }
     ensures size { length table.new ≡ length table.old }
 {
     let mut sought = 0usize;
     for entry in row {
-        table[entry.pos as usize] = Slot::of_entry(entry.dist);
-        if entry.dist > 0 {
+        let dist = entry.dist.get_u64();
+        table[entry.pos as usize] = Slot::of_entry(dist);
+        if dist > 0 {
             sought += 1;
         }
     }
@@ -35,8 +37,7 @@ fn lay_out(table: &mut [Slot], row: &[Entry]) -> usize
 /// the arc is the via. The answer is how many vias it found.
 fn look_at(table: &mut [Slot], row: &[Entry], arc: Arc) -> usize
     requires within { All (λ e. e.pos < length table.old) row.now }
-    requires fits { All (λ e. e.dist < 2 ^ 62) row.now }
-    requires light { arc.w < 2 ^ 62 }
+    requires fits { All (λ e. e.dist < 2 ^ 64) row.now }
     ensures each { (p : ℕ) → IsAfterLook row.now arc p (slot_at table.old p) (slot_at table.new p) }
     ensures found { sought_in table.new + result ≡ sought_in table.old }
     ensures size { length table.new ≡ length table.old }
@@ -44,7 +45,7 @@ fn look_at(table: &mut [Slot], row: &[Entry], arc: Arc) -> usize
     let mut found = 0usize;
     for entry in row {
         let pos = entry.pos as usize;
-        if table[pos].is_sought_at(entry.dist + arc.w) {
+        if table[pos].is_sought_at(entry.dist.get_u64(), arc.w) {
             table[pos] = Slot::Found { via: arc.to };
             found += 1;
         }

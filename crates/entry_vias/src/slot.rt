@@ -1,5 +1,5 @@
 //! What is known of one entry of a row while the vias of the row are sought.
-ghost use Rattle.std.specs.Prelude.{◌≡◌, ◌↔◌, IsTrue};
+ghost use Rattle.std.specs.Prelude.{◌≡◌, ◌↔◌, ◌+◌, IsTrue};
 ghost use Rattle.entry_vias.specs.Slots.{slot_of, via_in};
 
 /// A slot of the table over which the vias of a row are sought: one for each position of the ranking, and in it what is known of
@@ -28,12 +28,12 @@ impl Slot {
         }
     }
 
-    /// Whether the via of an entry at this distance is still sought here.
-    pub fn is_sought_at(self, far: u64) -> bool
-        ensures { IsTrue result ↔ (self ≡ Slot.Sought far) }
+    /// Whether the via is still sought here of an entry whose distance is the sum of these two, which may be 2^64 and more.
+    pub fn is_sought_at(self, near: u64, weight: u64) -> bool
+        ensures { IsTrue result ↔ (self ≡ Slot.Sought (near + weight)) }
     {
         match self {
-            Slot::Sought { dist } => dist == far,
+            Slot::Sought { dist } => dist >= near && dist - near == weight,
             Slot::NoEntry | Slot::Found { via: _ } => false,
         }
     }

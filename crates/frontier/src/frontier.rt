@@ -56,7 +56,7 @@ impl<C: Carry> Frontier<C> {
     /// Offers a node a distance, and something to carry. A node that wasn't reached is queued with them; a queued node
     /// takes a shorter distance, and combines what is carried at an equal one; nothing else changes. The only error is
     /// that memory ran out, and then nothing has changed.
-    pub fn offer(&mut self, node: u32, dist: u64, carried: C) -> Result<(), AllocError>
+    pub fn offer(&mut self, node: u32, dist: u128, carried: C) -> Result<(), AllocError>
         requires { node < length self.old }
         ensures ok { OnOk result (self.new ≡ with_offer C.combined self.old node (record { dist = dist; carried = carried })) }
         ensures err { OnErr result (self.new ≡ self.old) }
@@ -72,7 +72,7 @@ impl<C: Carry> Frontier<C> {
         &mut self,
         node: u32,
         reach: Reach<C>,
-        dist: u64,
+        dist: u128,
         carried: C,
     ) -> Result<Reach<C>, AllocError>
         requires node { node < length self.old }

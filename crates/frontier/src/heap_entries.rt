@@ -46,12 +46,12 @@ impl HeapEntries {
 
     /// Adds the heap entry of a node at a distance. The only error is that memory ran out, and then nothing has changed.
     #[inline(always)]
-    pub fn push(&mut self, node: u32, dist: u64) -> Result<(), AllocError>
+    pub fn push(&mut self, node: u32, dist: u128) -> Result<(), AllocError>
         ensures ok { OnOk result (Gains self.old self.new (heap_entry_of node dist)) }
         ensures err { OnErr result (self.new ≡ self.old) }
     {
-        if dist < FAR {
-            self.short.push(Reverse(dist * FAR + node as u64))?;
+        if dist < FAR as u128 {
+            self.short.push(Reverse(dist as u64 * FAR + node as u64))?;
         } else {
             self.far.push(HeapEntry::of(node, dist))?;
         }
@@ -66,7 +66,7 @@ impl HeapEntries {
         ensures unchanged { IfNone result (self.new ≡ self.old) }
     {
         if let Some(key) = self.short.pop() {
-            return Some(HeapEntry::of((key.0 % FAR) as u32, key.0 / FAR));
+            return Some(HeapEntry::of((key.0 % FAR) as u32, (key.0 / FAR) as u128));
         }
         let heap_entry = self.far.pop()?;
         Some(heap_entry)

@@ -8,13 +8,13 @@ use std::cmp::Reverse;
 #[derive(Clone, Copy, Debug)]
 #[derive_where(PartialEq, Eq, PartialOrd, Ord)]
 pub struct HeapEntry {
-    pub dist: Reverse<u64>,
+    pub dist: Reverse<u128>,
     #[derive_where(skip(EqHashOrd))]
     pub node: u32,
 }
 
 impl HeapEntry {
-    pub fn of(node: u32, dist: u64) -> HeapEntry
+    pub fn of(node: u32, dist: u128) -> HeapEntry
         ensures { result ≡ heap_entry_of node dist }
     {
         HeapEntry {

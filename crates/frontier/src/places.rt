@@ -23,7 +23,7 @@ pub struct Place<C> {
 impl<C: Copy> Place<C> {
     /// How far the search has come with the node, of which this distance stands apart.
     #[inline(always)]
-    fn reach(self, apart: u64) -> Reach<C>
+    fn reach(self, apart: u128) -> Reach<C>
         ensures { result ≡ told self apart }
     {
         if self.word < 2 {
@@ -33,7 +33,7 @@ impl<C: Copy> Place<C> {
         let dist = if half == FAR {
             apart
         } else {
-            (half - 1) as u64
+            (half - 1) as u128
         };
         let found = Found {
             dist,
@@ -52,7 +52,7 @@ impl<C: Copy> Place<C> {
 pub struct Places<C> {
     places: Vec<Place<C>>,
     /// The distances that are too great for a place, each at its node; all others mean nothing.
-    apart: Vec<u64>,
+    apart: Vec<u128>,
 }
 
 impl<C> Model for Places<C> {
@@ -82,7 +82,7 @@ impl<C: Carry> Places<C> {
         }
         Ok(Places {
             places,
-            apart: vec![in alloc; 0u64; size]?,
+            apart: vec![in alloc; 0u128; size]?,
         })
     }
 
@@ -131,7 +131,7 @@ impl<C: Carry> Places<C> {
         ensures { self.new ≡ slice_set self.old node (found_of state found) }
     {
         let place = node as usize;
-        if found.dist < (FAR - 1) as u64 {
+        if found.dist < (FAR - 1) as u128 {
             self.places[place] = Place {
                 word: (found.dist as u32 + 1) * 2 + state,
                 carried: found.carried,

@@ -4,7 +4,7 @@ ghost use Rattle.frontier.specs.Reaches.{improves};
 /// What has been found of a node: the least distance that it was offered, and what the offers at that distance carry.
 #[derive(Clone, Copy, Debug, PartialEq, Eq)]
 pub struct Found<C> {
-    pub dist: u64,
+    pub dist: u128,
     pub carried: C,
 }
 
@@ -22,7 +22,7 @@ pub enum Reach<C> {
 impl<C> Reach<C> {
     /// Whether an offer to the node at this distance can change anything: not where the node is settled, or queued at a
     /// shorter distance. What such an offer would carry need not be known.
-    pub fn improves(&self, dist: u64) -> bool
+    pub fn improves(&self, dist: u128) -> bool
         ensures { result ≡ improves self.now dist }
     {
         match self {

@@ -1,6 +1,8 @@
-ghost use Rattle.std.specs.Prelude.{◌≡◌, ◌+◌, ◌^◌, ◌<◌, ◌≤◌, length, IfOk};
+ghost use Rattle.std.specs.Prelude.{◌≡◌, ◌+◌, ◌^◌, ◌<◌, ◌≤◌, length, IfOk, IfErr};
 ghost use Rattle.walk_laws.specs.Joined.{Joined};
 ghost use Rattle.walk_laws.specs.Labelling.{IsChl};
+ghost use Rattle.walk_laws.specs.Overflow.{Overflows};
+ghost use Rattle.hub_index.specs.Faults.{TellsFault};
 ghost use Rattle.label_clean.specs.Below.{IsChlBelow};
 ghost use Rattle.gll_superstep.specs.Workers.{IsFirstSeat};
 
@@ -8,8 +10,7 @@ use crate::scheduler::LastTable;
 use crate::workers::run_workers;
 use desk_io::Gate;
 use gll_table::{Build, BuildContext, Table};
-use hub_index::laws::the_labelling_is_well_formed;
-use hub_index::{Index, RowList, Shards, SplitIndex, SplitRows};
+use hub_index::{BuildFault, Index, RowList, Shards, SplitIndex, SplitRows};
 use label_clean::laws::the_whole_is_the_labelling;
 use rank_table::Ranking;
 use renumbering::{Job, WorkingCopy};
@@ -20,9 +21,10 @@ use std::sync::Wait;
 use std::thread::Threads;
 use walk_laws::Graph;
 
-/// The index of the canonical hub labelling of a graph under a ranking of its nodes. It begins with a copy of both in which
-/// neighbours stand near one another ([`WorkingCopy`]). Then it goes on by supersteps until no root is left. The gate is told
-/// of each root when its tree begins and when it ends. The only error is that memory ran out.
+/// The index of the canonical hub labelling of a graph under a ranking of its nodes, or its first hub that is too far for an
+/// index. It begins with a copy of both in which neighbours stand near one another ([`WorkingCopy`]). Then it goes on by
+/// supersteps until no root is left. The gate is told of each root when its tree begins and when it ends. The only other error
+/// is that memory ran out.
 pub fn build_gll<R: Threads + Wait + Sync, G: Gate + Sync>(
     rt: &R,
     alloc: Global,
@@ -31,7 +33,7 @@ pub fn build_gll<R: Threads + Wait + Sync, G: Gate + Sync>(
     workers: u32,
     cut: u32,
     gate: &G,
-) -> Result<Index, AllocError>
+) -> Result<Index, BuildFault>
     requires nodes { length ranking.now ≡ graph.now.n }
     requires workers_from { 1 ≤ workers }
     requires workers_to { workers ≤ 64 }
@@ -39,9 +41,11 @@ pub fn build_gll<R: Threads + Wait + Sync, G: Gate + Sync>(
     requires cut_to { cut ≤ 2 ^ 30 }
     ensures order { IfOk result (λ index. index.order ≡ ranking.now) }
     ensures labelling { IfOk result (λ index. IsChl (Joined graph.now.edges) ranking.now index.rows) }
+    ensures fits { IfOk result (λ _. ¬ Overflows (Joined graph.now.edges) ranking.now) }
+    ensures fault { IfErr result (λ fault. TellsFault (Joined graph.now.edges) ranking.now fault) }
 {
     let index = build_gll_split(rt, alloc, graph, ranking, workers, cut, gate)?;
-    index.into_index(alloc)
+    Ok(index.into_index(alloc)?)
 }
 
 /// The same index with its rows as the build leaves them, in which most entries take half the room: for who goes along them
@@ -54,7 +58,7 @@ pub fn build_gll_split<R: Threads + Wait + Sync, G: Gate + Sync>(
     workers: u32,
     cut: u32,
     gate: &G,
-) -> Result<SplitIndex, AllocError>
+) -> Result<SplitIndex, BuildFault>
     requires nodes { length ranking.now ≡ graph.now.n }
     requires workers_from { 1 ≤ workers }
     requires workers_to { workers ≤ 64 }
@@ -62,6 +66,8 @@ pub fn build_gll_split<R: Threads + Wait + Sync, G: Gate + Sync>(
     requires cut_to { cut ≤ 2 ^ 30 }
     ensures order { IfOk result (λ index. index.order ≡ ranking.now) }
     ensures labelling { IfOk result (λ index. IsChl (Joined graph.now.edges) ranking.now index.rows) }
+    ensures fits { IfOk result (λ _. ¬ Overflows (Joined graph.now.edges) ranking.now) }
+    ensures fault { IfErr result (λ fault. TellsFault (Joined graph.now.edges) ranking.now fault) }
 {
     let copy = WorkingCopy::new(alloc, graph, ranking)?;
     let none = RowList::new(alloc, copy.graph.n())?;
@@ -71,9 +77,9 @@ pub fn build_gll_split<R: Threads + Wait + Sync, G: Gate + Sync>(
 }
 
 /// The index of the canonical hub labelling of a graph under a ranking of its nodes, of which the rows `global` are the labelling
-/// up to the position `first`, from 0: the supersteps begin with the root there, and none of the roots before it is grown. They work
-/// on this graph itself, by whose numbers the rows are. The gate is told of each other root when its tree begins and when it
-/// ends. The only error is that memory ran out.
+/// up to the position `first`, from 0, or its first hub that is too far for an index: the supersteps begin with the root there, and
+/// none of the roots before it is grown. They work on this graph itself, by whose numbers the rows are. The gate is told of each
+/// other root when its tree begins and when it ends. The only other error is that memory ran out.
 pub fn build_gll_from<R: Threads + Wait + Sync, G: Gate + Sync>(
     rt: &R,
     alloc: Global,
@@ -84,7 +90,7 @@ pub fn build_gll_from<R: Threads + Wait + Sync, G: Gate + Sync>(
     workers: u32,
     cut: u32,
     gate: &G,
-) -> Result<Index, AllocError>
+) -> Result<Index, BuildFault>
     requires nodes { length ranking.now ≡ graph.now.n }
     requires global { IsChlBelow graph.now.edges ranking.now first global }
     requires first { first ≤ length ranking.now }
@@ -94,14 +100,15 @@ pub fn build_gll_from<R: Threads + Wait + Sync, G: Gate + Sync>(
     requires cut_to { cut ≤ 2 ^ 30 }
     ensures order { IfOk result (λ index. index.order ≡ ranking.now) }
     ensures labelling { IfOk result (λ index. IsChl (Joined graph.now.edges) ranking.now index.rows) }
+    ensures fits { IfOk result (λ _. ¬ Overflows (Joined graph.now.edges) ranking.now) }
+    ensures fault { IfErr result (λ fault. TellsFault (Joined graph.now.edges) ranking.now fault) }
 {
     let n = graph.n();
     let ranked = ranking.n();
     prove!(n == ranked);
     let rows = gll_rows_from(rt, alloc, graph, ranking, global, first, workers, cut, gate)?;
-    the_labelling_is_well_formed();
-    let order = ranking.copy(alloc)?;
-    SplitIndex::new(order, rows).into_index(alloc)
+    let index = SplitIndex::of_labelling(graph, ranking.copy(alloc)?, rows)?;
+    Ok(index.into_index(alloc)?)
 }
 
 /// The rows of that index, as the build leaves them.

@@ -47,6 +47,7 @@ impl<B: Build> Growing<B> {
     ) -> Result<Result<AllGrown<B>, Growing<B>>, AllocError>
         ensures all { IfOk result (λ added. IfOk added (λ all. all.outputs ≡ self.outputs ++ one ∷ [])) }
         ensures some { IfOk result (λ added. IfErr added (λ growing. growing.outputs ≡ self.outputs ++ one ∷ [])) }
+        ensures tasks { IfOk result (λ added. IfErr added (λ growing. growing.tasks ≡ self.tasks)) }
     {
         let Growing { tasks, mut outputs } = self;
         outputs.add(one)?;
@@ -81,6 +82,9 @@ impl<B: Build> MergingShards<B> {
     fn with(self, one: Merged<B>) -> Result<Result<AllMerged<B>, MergingShards<B>>, AllocError>
         ensures all { IfOk result (λ added. IfOk added (λ all. (shard : OneShard) × (one.shard ≡ Ok shard) × (all.merging.places ≡ with_shard self.merging.next self.merging.places shard))) }
         ensures some { IfOk result (λ added. IfErr added (λ still. (shard : OneShard) × (one.shard ≡ Ok shard) × (still.merging.places ≡ with_shard self.merging.next self.merging.places shard))) }
+        ensures tasks { IfOk result (λ added. IfErr added (λ still. still.merging.tasks ≡ self.merging.tasks)) }
+        ensures workspaces { IfOk result (λ added. IfErr added (λ still. still.merging.workspaces ≡ self.merging.workspaces)) }
+        ensures all_workspaces { IfOk result (λ added. IfOk added (λ all. all.merging.workspaces ≡ self.merging.workspaces)) }
     {
         let MergingShards { mut merging, seat } = self;
         merging.add(one)?;

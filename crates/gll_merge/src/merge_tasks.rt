@@ -1,5 +1,5 @@
 //! What all workers put in a superstep becomes tasks to merge it in the table, shard by shard.
-ghost use Rattle.std.specs.Prelude.{◌≡◌, ℕ, ◌+◌, ◌<◌, ◌≤◌, List, [], ◌∷◌, ◌++◌, All, None, Ok, length, map, replicate, take, vec_len, IfOk, OnOk};
+ghost use Rattle.std.specs.Prelude.{◌≡◌, ℕ, ◌+◌, ◌<◌, ◌≤◌, List, [], ◌∷◌, ◌++◌, All, None, Ok, length, map, replicate, take, vec_len, IfNone, IfOk, IfSome, OnOk};
 ghost use Rattle.std.specs.List.Sorted.{IsPermutation};
 ghost use Rattle.hub_index.specs.Shards.{shard_count};
 ghost use Rattle.label_clean.specs.declared.hub_rows.HubEntry.{HubEntry};
@@ -9,6 +9,7 @@ ghost use Rattle.table_seats.specs.Numbers.{numbers};
 ghost use Rattle.gll_table.specs.Outputs.{IsOutput, all_put, all_roots};
 ghost use Rattle.gll_merge.specs.Merging.{AreTasksFrom, IsMerge, OneShard, are_filled, lists_at, with_shard};
 ghost use Rattle.gll_table.specs.Tables.{AreShardsBelow, IsShardBelow};
+ghost use Rattle.gll_table.specs.Tasks.{IsTakenFrom};
 
 use crate::merging::{MergeTask, Merged, Shard};
 use crate::putting_together::{places_for, put_at};
@@ -51,10 +52,14 @@ impl<B: Build> Drop for Merging<B> {
 }
 
 impl<B: Build> Merging<B> {
-    /// Takes a task out for the worker of this number, from 0, of so many.
+    /// Takes a task out for the worker of this number, from 0, of so many. It answers None only where no task is left.
     pub fn take(&mut self, me: u32, workers: u32) -> Option<MergeTask<B>>
+        ensures taken { IfSome result (λ task. IsTakenFrom self.old.tasks task self.new.tasks) }
+        ensures none { IfNone result (All (λ place. place ≡ None) self.old.tasks) }
+        ensures as_they_were { IfNone result (self.new.tasks ≡ self.old.tasks) }
         ensures places { self.new.places ≡ self.old.places }
         ensures next { self.new.next ≡ self.old.next }
+        ensures workspaces { self.new.workspaces ≡ self.old.workspaces }
     {
         take_from(&mut self.tasks, me, workers)
     }
@@ -63,6 +68,7 @@ impl<B: Build> Merging<B> {
     /// let go. The only error is that memory ran out, for the shard or here.
     pub fn add(&mut self, one: Merged<B>) -> Result<(), AllocError>
         ensures added { OnOk result ((shard : OneShard) × (one.shard ≡ Ok shard) × (self.new.places ≡ with_shard self.old.next self.old.places shard)) }
+        ensures tasks { self.new.tasks ≡ self.old.tasks }
         ensures next { self.new.next ≡ self.old.next }
         ensures workspaces { self.new.workspaces ≡ self.old.workspaces }
     {

@@ -16,7 +16,8 @@ pub fn merged_table<B: Build>(
     merging: Merging<B>,
 ) -> Result<(Table<B>, Workspaces<B>), AllocError>
     requires { are_filled merging.places ≡ true }
-    ensures { IfOk result (λ r. r.0.first ≡ merging.next) }
+    ensures first { IfOk result (λ r. r.0.first ≡ merging.next) }
+    ensures workspaces { IfOk result (λ r. r.1 ≡ merging.workspaces) }
 {
     let mut merging = merging;
     let alloc = context.alloc;

@@ -3,3 +3,4 @@ pub mod UncoveredPuts
 pub mod GrownLists
 pub mod FirstSeats
 pub mod JoinedOutputs
+pub mod MadeTasks

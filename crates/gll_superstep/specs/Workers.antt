@@ -35,10 +35,15 @@ pub record IsFirstSeat (claims : ClaimsId) (first : ℕ) (seat : Claimed) : Type
   pub got : seat.got ≡ []
   pub over : seat.over ≡ true → first ≡ claims.n
 
--- the output is what trees put over the table up to that position, and the seat has got their roots
+-- some root was claimed with the seat, or none was left
+abbrev pub HasBegun : Claimed → Type 0
+HasBegun seat = (seat.over ≡ true) ⊎ (1 ≤ length seat.got)
+
+-- the output is what trees put over the table up to that position, and the seat has got their roots, of which there is one unless none was left
 pub record IsGrownWith (edges : List Edge) (at : List ℕ) (shift : ℕ) (claims : ClaimsId) (first : ℕ) (seat : Claimed) (output : Output) : Type 0 where
   pub seat_is : IsClaimSeatOf (from first claims) seat
   pub left : seat.left ≡ 0
+  pub begun : HasBegun seat
   pub got : seat.got ≡ output.roots
   pub first_is : output.first ≡ first
   pub is : IsOutput edges at shift output
@@ -88,17 +93,13 @@ AreUncovered at global v entries = All (λ e. ¬ IsNeedless at global v e) entri
 abbrev pub StayUncovered : List ℕ → List (List Entry) → (ℕ → List Entry) → (ℕ → List Entry) → Type 0
 StayUncovered at global before after = (v : ℕ) → IsNode (length at) v → AreUncovered at global v (before v) → AreUncovered at global v (after v)
 
--- some root was claimed with the seat, or none was left
-abbrev pub HasBegun : Claimed → Type 0
-HasBegun seat = (seat.over ≡ true) ⊎ (1 ≤ length seat.got)
-
 -- the list is what the trees of these roots put, and this global table covers none of it
 pub record HavePut (edges : List Edge) (at : List ℕ) (global : List (List Entry)) (roots : List ℕ) (list : List NodeEntry) : Type 0 where
   pub nodes : All (λ e. IsNode (length at) e.node) list
   pub put : (v : ℕ) → IsNode (length at) v → IsPutBy edges at roots v (entries_of_node list v)
   pub apart : (v : ℕ) → IsNode (length at) v → AreUncovered at global v (entries_of_node list v)
 
--- some root was claimed with the seats, or none was left; the list is of the ranking's nodes, and is what its seat put in the superstep's pool, where all workers see it, and after that what there was no cell for; and where memory sufficed the trees of all roots that were claimed are grown over the global table, the list is what they put, and the roots are listed
+-- some root was claimed with the seats, or none was left; the list is of the ranking's nodes, and at each has what its seat put in the superstep's pool, where all workers see it, and after that what it kept, as there was no room for it; and where memory sufficed the trees of all roots that were claimed are grown over the global table, the list is what they put, and the roots are listed
 pub record IsDone (edges : List Edge) (at : List ℕ) (pool : PoolId Fitting) (global : List (List Entry)) (seats : Seats) (list : List NodeEntry) (listed : List ℕ) (memory : Result (Unit {0}) AllocError) : Type 0 where
   pub begun : HasBegun seats.claims
   pub nodes : All (λ e. IsNode (length at) e.node) list

@@ -1,4 +1,6 @@
 //! What a worker is to do in a superstep.
+ghost use Rattle.std.specs.Prelude.{◌≡◌, All, IfNone, IfSome, None};
+ghost use Rattle.gll_table.specs.Tasks.{IsTakenFrom};
 
 use crate::growing::{Seats, grow_share};
 use crate::grown::Grown;
@@ -28,17 +30,18 @@ impl<B: Build> Model for GrowTask<B> {
     ghost invariant = { λ t. AreSeatsOf t.superstep.value.claims t.superstep.value.pool 0 t.seats × AreNew t.seats };
 }
 
-/// The tasks of a superstep that nobody has taken. Contracts see how many there were.
+/// The tasks of a superstep, each at a place until somebody takes it. Contracts see the places.
 pub struct GrowTasks<B: Build> {
     pub(crate) tasks: Vec<Option<GrowTask<B>>>,
 }
 
 impl<B: Build> Model for GrowTasks<B> {
-    ghost use Rattle.std.specs.Prelude.{ℕ, vec_len};
+    ghost use Rattle.std.specs.Prelude.{List, Option};
+    ghost use Rattle.gll_superstep.specs.Workers.{SuperstepView};
 
-    ghost Value = { ℕ };
+    ghost Value = { List (Option SuperstepView) };
 
-    ghost view = { λ t. vec_len t.tasks };
+    ghost view = { λ t. t.tasks.items };
 }
 
 // Written out, so that crates above prove no drop of what it holds.
@@ -49,8 +52,12 @@ impl<B: Build> Drop for GrowTasks<B> {
 }
 
 impl<B: Build> GrowTasks<B> {
-    /// Takes a task out for the worker of this number, from 0, of so many.
-    pub fn take(&mut self, me: u32, workers: u32) -> Option<GrowTask<B>> {
+    /// Takes a task out for the worker of this number, from 0, of so many. It answers None only where no task is left.
+    pub fn take(&mut self, me: u32, workers: u32) -> Option<GrowTask<B>>
+        ensures taken { IfSome result (λ task. IsTakenFrom self.old task self.new) }
+        ensures none { IfNone result (All (λ place. place ≡ None) self.old) }
+        ensures as_they_were { IfNone result (self.new ≡ self.old) }
+    {
         take_from(&mut self.tasks, me, workers)
     }
 }

@@ -1,7 +1,7 @@
 //! A superstep: what all its workers share, and how it begins.
-ghost use Rattle.std.specs.Prelude.{◌≡◌, ℕ, ◌+◌, ◌-◌, ◌<◌, ◌≤◌, length, vec_len, IfOk, OnOk};
+ghost use Rattle.std.specs.Prelude.{◌≡◌, ℕ, ◌+◌, ◌-◌, ◌<◌, ◌≤◌, [], ◌++◌, ◌∷◌, Some, length, replicate, IfOk, OnOk};
 ghost use Rattle.root_claims.specs.Seats.{IsSeatAt};
-ghost use Rattle.gll_superstep.specs.Workers.{AreNew, AreSeatsOf, IsFirstSeat};
+ghost use Rattle.gll_superstep.specs.Workers.{AreNew, AreSeatsOf, IsFirstSeat, SuperstepView};
 
 use crate::grow_task::{GrowTask, GrowTasks};
 use crate::growing::Seats;
@@ -63,7 +63,7 @@ pub fn begin_superstep<B: Build>(
 ) -> Result<GrowTasks<B>, AllocError>
     requires more { table.first < length B.order }
     requires seat { IsFirstSeat B.claims table.first seat }
-    ensures { IfOk result (λ tasks. tasks ≡ B.workers) }
+    ensures { IfOk result (λ tasks. (superstep : SuperstepView) × (superstep.table ≡ table) × (tasks ≡ replicate B.workers (Some superstep))) }
 {
     let next_pool = next_pool.or_new(context)?;
     let (superstep, first) = superstep_over(context, table, seat, next_pool)?;
@@ -81,6 +81,7 @@ fn superstep_over<B: Build>(
 ) -> Result<(Arc<Superstep<B>, Global>, Seats), AllocError>
     requires more { table.first < length B.order }
     requires seat { IsFirstSeat B.claims table.first seat }
+    ensures over { IfOk result (λ r. r.0.value.table ≡ table) }
     ensures at { IfOk result (λ r. IsSeatAt context.now.claims.now r.1.claims) }
     ensures seats { IfOk result (λ r. AreSeatsOf r.0.value.claims r.0.value.pool (context.now.workers - 1) r.1) }
     ensures new { IfOk result (λ r. AreNew r.1) }
@@ -115,7 +116,7 @@ fn tasks_on<B: Build>(
     requires at { IsSeatAt context.now.claims.now first.claims }
     requires seats { AreSeatsOf superstep.now.value.claims superstep.now.value.pool (context.now.workers - 1) first }
     requires new { AreNew first }
-    ensures { IfOk result (λ tasks. vec_len tasks ≡ context.now.workers) }
+    ensures { IfOk result (λ tasks. tasks.items ≡ replicate context.now.workers (Some superstep.now.value)) }
 {
     let mut first = first;
     let mut workspaces = workspaces;
@@ -139,7 +140,7 @@ fn add_task<B: Build>(
 ) -> Result<(), AllocError>
     requires seats { AreSeatsOf superstep.now.value.claims superstep.now.value.pool 0 seats }
     requires new { AreNew seats }
-    ensures { OnOk result (vec_len tasks.new ≡ vec_len tasks.old + 1) }
+    ensures { OnOk result (tasks.new.items ≡ tasks.old.items ++ Some superstep.now.value ∷ []) }
 {
     let workspace = workspaces.take(context)?;
     tasks.push(Some(task_with(superstep, seats, workspace)?))?;
@@ -174,6 +175,7 @@ fn task_with<B: Build>(
 ) -> Result<GrowTask<B>, AllocError>
     requires seats { AreSeatsOf superstep.now.value.claims superstep.now.value.pool 0 seats }
     requires new { AreNew seats }
+    ensures { IfOk result (λ task. task ≡ superstep.now.value) }
 {
     Ok(GrowTask {
         superstep: Arc::try_clone(superstep)?,

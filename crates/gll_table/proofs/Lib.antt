@@ -5,3 +5,4 @@ pub mod PutBy
 pub mod ShardedTables
 pub mod PlacedShards
 pub mod OutputHubs
+pub mod TakenTasks

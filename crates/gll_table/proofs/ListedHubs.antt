@@ -41,25 +41,23 @@ module _ (at : List ℕ) (far : ℕ) where
   one_own x near past = rw (lt-ltb (position_of at x.node) far near) (rw (le-ltb x.pos (position_of at x.node) past) refl)
 
   -- one more of them is listed, or isn't
-  module _ (es : List NodeEntry) (i : ℕ) (d : NodeEntry) (within : i < length es) where
-    next_is : hub_entries at far (take (i + 1) es) ≡ hub_entries at far (take i es) ++ hub_entries at far (get_or es i d ∷ [])
-    next_is = ap (hub_entries at far) (take_more es i d within) ∙ hub_entries-append (take i es) (get_or es i d ∷ [])
+  module _ (es : List NodeEntry) (i : ℕ) (x : NodeEntry) (is : x ≡ get_or es i x) (within : i < length es) where
+    next_is : hub_entries at far (take (i + 1) es) ≡ hub_entries at far (take i es) ++ hub_entries at far (x ∷ [])
+    next_is = ap (hub_entries at far) (take_more es i x within) ∙ hub_entries-append (take i es) (get_or es i x ∷ []) ∙ ap (λ y. hub_entries at far (take i es) ++ hub_entries at far (y ∷ [])) (sym is)
 
-    pub next_listed : (of : ℕ) (entry : Entry) → of ≡ position_of at (get_or es i d).node → entry ≡ entry_of (get_or es i d) → of < far → (get_or es i d).pos < of → hub_entries at far (take (i + 1) es) ≡ hub_entries at far (take i es) ++ record { of = of; entry = entry } ∷ []
+    pub next_listed : (of : ℕ) (entry : Entry) → of ≡ position_of at x.node → entry ≡ entry_of x → of < far → x.pos < of → hub_entries at far (take (i + 1) es) ≡ hub_entries at far (take i es) ++ record { of = of; entry = entry } ∷ []
     next_listed of entry of_is entry_is near above =
-        let x = get_or es i d in
         next_is
-        ∙ ap (λ hs. hub_entries at far (take i es) ++ hs) (one_listed x (subst (λ p. p < far) of_is near) (subst (λ p. (get_or es i d).pos < p) of_is above))
-        ∙ ap (λ (p : ℕ). hub_entries at far (take i es) ++ record { of = p; entry = entry_of (get_or es i d) } ∷ []) (sym of_is)
+        ∙ ap (λ hs. hub_entries at far (take i es) ++ hs) (one_listed x (subst (λ p. p < far) of_is near) (subst (λ p. x.pos < p) of_is above))
+        ∙ ap (λ (p : ℕ). hub_entries at far (take i es) ++ record { of = p; entry = entry_of x } ∷ []) (sym of_is)
         ∙ ap (λ (e : Entry). hub_entries at far (take i es) ++ record { of = of; entry = e } ∷ []) (sym entry_is)
 
-    pub next_far : (of : ℕ) → of ≡ position_of at (get_or es i d).node → far ≤ of → hub_entries at far (take (i + 1) es) ≡ hub_entries at far (take i es)
-    next_far of of_is past = next_is ∙ ap (λ hs. hub_entries at far (take i es) ++ hs) (one_far (get_or es i d) (subst (λ p. far ≤ p) of_is past)) ∙ append-nil (hub_entries at far (take i es))
+    pub next_far : (of : ℕ) → of ≡ position_of at x.node → far ≤ of → hub_entries at far (take (i + 1) es) ≡ hub_entries at far (take i es)
+    next_far of of_is past = next_is ∙ ap (λ hs. hub_entries at far (take i es) ++ hs) (one_far x (subst (λ p. far ≤ p) of_is past)) ∙ append-nil (hub_entries at far (take i es))
 
-    pub next_own : (of : ℕ) → of ≡ position_of at (get_or es i d).node → of < far → of ≤ (get_or es i d).pos → hub_entries at far (take (i + 1) es) ≡ hub_entries at far (take i es)
+    pub next_own : (of : ℕ) → of ≡ position_of at x.node → of < far → of ≤ x.pos → hub_entries at far (take (i + 1) es) ≡ hub_entries at far (take i es)
     next_own of of_is near past =
-        let x = get_or es i d in
-        next_is ∙ ap (λ hs. hub_entries at far (take i es) ++ hs) (one_own x (subst (λ p. p < far) of_is near) (subst (λ p. p ≤ (get_or es i d).pos) of_is past)) ∙ append-nil (hub_entries at far (take i es))
+        next_is ∙ ap (λ hs. hub_entries at far (take i es) ++ hs) (one_own x (subst (λ p. p < far) of_is near) (subst (λ p. p ≤ x.pos) of_is past)) ∙ append-nil (hub_entries at far (take i es))
 
   module _ (ranking : IsRanking at) (q h : ℕ) (near : q < far) (is : slice_get at q ≡ Some h) where
     place : position_of at h ≡ q

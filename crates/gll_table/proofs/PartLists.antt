@@ -36,14 +36,13 @@ module _ (lists : List RunList) (i : ℕ) (list : RunList) where
   entries_still j other = ap (λ ls. get_or ls j []) (map-set items_of lists i list) ∙ get_or-set_other (map items_of lists) i j (items_of list) [] other
 
 -- the next entry is put last in the list of its shard
-pub one_more : (shift count : ℕ) (entries : List NodeEntry) (i : ℕ) (e : NodeEntry) → i < length entries → (lists : List RunList) → ((number : ℕ) → number < count → entries_at lists number ≡ shard_entries shift number (take i entries))
-    → (place : ℕ) (d list : RunList) → shard_number shift (get_or entries i e).node ≡ place → place < length lists → list.entries.items ≡ (get_or lists place d).entries.items ++ in_shard shift (get_or entries i e) ∷ []
+pub one_more : (shift count : ℕ) (entries : List NodeEntry) (i : ℕ) (x : NodeEntry) → x ≡ get_or entries i x → i < length entries → (lists : List RunList) → ((number : ℕ) → number < count → entries_at lists number ≡ shard_entries shift number (take i entries))
+    → (place : ℕ) (d list : RunList) → shard_number shift x.node ≡ place → place < length lists → list.entries.items ≡ (get_or lists place d).entries.items ++ in_shard shift x ∷ []
     → (number : ℕ) → number < count → entries_at (set lists place list) number ≡ shard_entries shift number (take (i + 1) entries)
-one_more shift count entries i e within lists so_far place d list of inside put number low =
-    let x = get_or entries i e in
+one_more shift count entries i x is within lists so_far place d list of inside put number low =
     let old = shard_entries shift number (take i entries) in
-    let more : shard_entries shift number (take (i + 1) entries) ≡ shard_entries shift number (take i entries) ++ shard_entries shift number (get_or entries i e ∷ []) =
-    ap (shard_entries shift number) (take_more entries i e within) ∙ shard_entries-append shift number (take i entries) (x ∷ []) in
+    let more : shard_entries shift number (take (i + 1) entries) ≡ shard_entries shift number (take i entries) ++ shard_entries shift number (x ∷ []) =
+    ap (shard_entries shift number) (take_more entries i x within) ∙ shard_entries-append shift number (take i entries) (get_or entries i x ∷ []) ∙ ap (λ y. shard_entries shift number (take i entries) ++ shard_entries shift number (y ∷ [])) (sym is) in
     elim (cases_eq number place) [
       | inr other ↦
           entries_still lists place list number other ∙ so_far number low

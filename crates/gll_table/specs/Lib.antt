@@ -1,3 +1,4 @@
 pub mod Partition
 pub mod Outputs
 pub mod Tables
+pub mod Tasks

@@ -3,7 +3,7 @@
 //! [`BuildContext`] is what they know of a build, which contracts call a [`Build`]. [`Table`] is the table, in shards. In its
 //! [`Workspace`] a worker lists what it put; [`WorkerOutput::new`] cuts that in parts for the shards. [`hubs_below`] looks at
 //! those of all workers together; [`take_from`] is how workers take their tasks. It stands on root_claims, pruned_tree and pool_view (a worker's memory), label_clean and hub_index. Its callers' clauses use `specs/Tables` (`AreShardsBelow`, `IsShardBelow`), `specs/Outputs`
-//! (`HavePutOver`, `Output`) and `specs/Partition` (`ListsHubs`).
+//! (`HavePutOver`, `Output`), `specs/Partition` (`ListsHubs`) and `specs/Tasks` (`IsTakenFrom`).
 #![tactic(auto)]
 
 mod context;

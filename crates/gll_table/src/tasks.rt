@@ -1,7 +1,14 @@
 //! How workers take tasks.
+ghost use Rattle.std.specs.Prelude.{◌≡◌, All, IfNone, IfSome, None};
+ghost use Rattle.gll_table.specs.Tasks.{IsTakenFrom};
 
-/// Takes a task out for the worker of this number, from 0, of so many: its own share of them first.
-pub fn take_from<T: Drop>(tasks: &mut Vec<Option<T>>, me: u32, workers: u32) -> Option<T> {
+/// Takes a task out for the worker of this number, from 0, of so many: its own share of them first. It answers None only where no
+/// task is left.
+pub fn take_from<T: Drop>(tasks: &mut Vec<Option<T>>, me: u32, workers: u32) -> Option<T>
+    ensures taken { IfSome result (λ task. IsTakenFrom tasks.old.items task tasks.new.items) }
+    ensures none { IfNone result (All (λ place. place ≡ None) tasks.old.items) }
+    ensures as_they_were { IfNone result (tasks.new.items ≡ tasks.old.items) }
+{
     let count = tasks.len();
     let from = (me as usize).saturating_mul(count) / (workers.max(1) as usize);
     for k in from..count {

@@ -1,5 +1,5 @@
 //! What a worker takes for a whole build.
-ghost use Rattle.std.specs.Prelude.{◌≡◌, ◌+◌, length, OnOk};
+ghost use Rattle.std.specs.Prelude.{◌≡◌, ◌+◌, ◌-◌, length, OnOk};
 
 use crate::context::BuildContext;
 use crate::named::Build;
@@ -89,7 +89,9 @@ impl<B: Build> Workspaces<B> {
     }
 
     /// The last one, which goes out, or where there is none a new one. The only error is that memory ran out.
-    pub fn take(&mut self, context: &BuildContext<'_, B>) -> Result<Workspace<B>, AllocError> {
+    pub fn take(&mut self, context: &BuildContext<'_, B>) -> Result<Workspace<B>, AllocError>
+        ensures { OnOk result (self.new ≡ self.old - 1) }
+    {
         match self.list.pop() {
             Some(workspace) => Ok(workspace),
             None => Workspace::new(context),

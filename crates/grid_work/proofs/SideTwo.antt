@@ -1,16 +1,14 @@
 -- The rows of the grid of side 2 from the seed 1, under the order 1, 2, 3, 4.
-use Rattle.std.proofs.Common.{◌≡◌, ◌⊎◌, ◌∙◌, ℕ, zero, suc, ◌+◌, ◌-◌, ◌≤◌, ◌<◌, List, [], ◌∷◌, length, get_or, slice_get, Some, refl, sym, ap, subst, inl, inr, arith}
-use Rattle.std.proofs.lemmas.Bool.{cases_lt}
+use Rattle.std.proofs.Common.{◌≡◌, ℕ, zero, suc, ◌+◌, ◌-◌, ◌≤◌, ◌<◌, List, [], ◌∷◌, get_or, slice_get, Some, refl, sym, subst, inl, inr, arith}
 use Rattle.std.proofs.lemmas.List.Elements.{All-from_recursion}
 use Rattle.walk_laws.specs.declared.entry.Entry.{Entry}
 use Rattle.walk_laws.specs.Joined.{Joined}
-use Rattle.walk_laws.specs.Ranking.{position_of, RanksAbove}
+use Rattle.walk_laws.specs.Ranking.{RanksAbove}
 use Rattle.walk_laws.specs.Walk.{HasWalk}
-use Rattle.walk_laws.specs.Least.{IsLeast}
 use Rattle.walk_laws.specs.On.{IsOn}
 use Rattle.walk_laws.specs.Canonical.{IsCanonical}
 use Rattle.walk_laws.specs.Labelling.{IsRow, IsChl, label_row}
-use Rattle.walk_laws.specs.Worked.{edge, entry, first_four}
+use Rattle.walk_laws.specs.Worked.{entry, first_four}
 use Rattle.walk_laws.proofs.JoinedEdges.{Joined-positive}
 use Rattle.walk_laws.proofs.CanonicalHubs.{IsCanonical-itself, IsCanonical-ranked}
 use Rattle.walk_laws.proofs.LabellingExists.{IsRowFrom, row_from_end, row_with, row_without, row_from_first}

@@ -4,7 +4,7 @@ ghost use Rattle.grid_work.specs.Totals.{distance_sum, entry_count, row_distance
 use hub_index::{Entry, Index};
 
 /// What the rows of an index come to: how many entries they have, and the sum of all their distances. An index has at most
-/// 2^60 entries with distances below 2^62, so the sum has room.
+/// 2^60 entries with distances below 2^64, so the sum has room.
 #[derive(Clone, Copy, Debug, PartialEq, Eq)]
 pub struct Totals {
     pub entries: u64,
@@ -29,12 +29,12 @@ pub fn totals_of(index: &Index) -> Totals
 /// The sum of the distances of a row.
 fn row_distances(row: &[Entry]) -> u128
     requires short { length row.now ≤ 2 ^ 30 }
-    requires near { All (λ e. e.dist ≤ 2 ^ 62) row.now }
+    requires near { All (λ e. e.dist ≤ 2 ^ 64) row.now }
     ensures { result ≡ row_sum row.now }
 {
     let mut sum: u128 = 0;
     for entry in row {
-        sum += u128::from(entry.dist);
+        sum += entry.dist.get();
     }
     sum
 }

@@ -1,5 +1,5 @@
 -- The rows of the canonical hub labelling are well formed.
-use Rattle.std.proofs.Common.{◌≡◌, ℕ, ◌^◌, ◌<◌, ◌≤◌, List, [], ◌∷◌, ◌++◌, length, map, Contains, get_or, ap, subst, inl, inr, arith}
+use Rattle.std.proofs.Common.{◌≡◌, ℕ, ◌^◌, ◌<◌, ◌≤◌, List, [], ◌∷◌, ◌++◌, length, map, Contains, ap, subst, inl, inr, arith}
 use Rattle.std.specs.Prelude.{Some, slice_get}
 use Rattle.std.proofs.lemmas.List.Kept.{AllPairs-from_increasing}
 use Rattle.std.proofs.lemmas.List.Elements.{All-contains_itself, All-weaker}
@@ -11,13 +11,13 @@ use Rattle.walk_laws.specs.Graph.{IsGraph}
 use Rattle.walk_laws.specs.Joined.{Joined}
 use Rattle.walk_laws.specs.Ranking.{IsRanking, position_of}
 use Rattle.walk_laws.specs.Labelling.{IsRow, IsChl, IsHubEntry, label_row}
+use Rattle.walk_laws.specs.Overflow.{Overflows}
 use Rattle.walk_laws.proofs.Members.{Contains-first, Contains-next, Contains-cons_cases, Contains-empty}
 use Rattle.walk_laws.proofs.LabelRows.{Rises, Rises-first, Rises-rest}
 use Rattle.walk_laws.proofs.Positions.{position-get_or, slice_get-position}
 use Rattle.walk_laws.proofs.Walks.{HasWalk-positive}
 use Rattle.walk_laws.proofs.JoinedEdges.{Joined-positive, weights_of_edges}
 use Rattle.walk_laws.proofs.CanonicalHubs.{IsCanonical-itself, IsCanonical-ranked}
-use Rattle.walk_laws.proofs.ShortWalks.{IsLeast-short}
 use Rattle.hub_index.specs.WellFormed.{own_entry, IsWellFormedRow, IsWellFormed}
 
 -- the list ends with the element, and those before it are members with lesser numbers
@@ -50,19 +50,13 @@ module _ {X : Type 0} (n : X → ℕ) where
         | inr later ↦ after x y ys up later (EndsWith-greatest x ys (Rises-rest n y ys up) later (λ e h. greatest e (Contains-next y e ys h)))
       ]
 
-module _ (n : ℕ) (edges : List Edge) (at : List ℕ) (graph : IsGraph n edges) (ranking : IsRanking at) (size : length at ≡ n) where
+module _ (n : ℕ) (edges : List Edge) (at : List ℕ) (graph : IsGraph n edges) (ranking : IsRanking at) (size : length at ≡ n) (fits : Overflows (Joined edges) at → ⊥) where
   positive : (x y w : ℕ) → Joined edges x y w → 1 ≤ w
   positive = Joined-positive edges (weights_of_edges n edges graph.edge)
 
   position_of-hub : (p h : ℕ) → slice_get at p ≡ Some h → position_of at h ≡ p
   position_of-hub p h is =
       subst (λ y. position_of at y ≡ p) (get_or_from_slice_get at p h 0 is) (position-get_or at p 0 ranking.once (slice_get_within at p h is))
-
-  hub_is_node : (p h : ℕ) → slice_get at p ≡ Some h → (1 ≤ h) × (h ≤ n)
-  hub_is_node p h is =
-      let node = ranking.node p 0 (slice_get_within at p h is) in
-      let same : get_or at p 0 ≡ h = get_or_from_slice_get at p h 0 is in
-      (omega (arith, node.0), omega (arith, node.1))
 
   -- no hub ranks below its node
   hub_ranked : (v : ℕ) (e : Entry) → IsHubEntry (Joined edges) at v e → e.pos ≤ position_of at v
@@ -71,13 +65,15 @@ module _ (n : ℕ) (edges : List Edge) (at : List ℕ) (graph : IsGraph n edges)
     | inr not_below ↦ not_below
   ]
 
-  -- another hub is at a distance of at least 1, and of less than 2^62
-  hub_far : (v : ℕ) (e : Entry) → IsHubEntry (Joined edges) at v e → e.pos < position_of at v → (1 ≤ e.dist) × (e.dist < 2 ^ 62)
-  hub_far v e hub above =
-      let node = hub_is_node e.pos hub.0 hub.1 in (
-        HasWalk-positive (Joined edges) positive hub.0 v e.dist (λ same. omega (arith, ap (position_of at) same, position_of-hub e.pos hub.0 hub.1)) hub.2.least.walk,
-        omega (arith, IsLeast-short n edges graph.edge hub.0 v e.dist node.0 node.1 hub.2.least, graph.fits),
-      )
+  -- another hub is at a distance of at least 1, and of less than 2^64
+  hub_far : (v : ℕ) (e : Entry) → IsHubEntry (Joined edges) at v e → e.pos < position_of at v → (1 ≤ e.dist) × (e.dist < 2 ^ 64)
+  hub_far v e hub above = (
+    HasWalk-positive (Joined edges) positive hub.0 v e.dist (λ same. omega (arith, ap (position_of at) same, position_of-hub e.pos hub.0 hub.1)) hub.2.least.walk,
+    elim (cases_lt e.dist (2 ^ 64)) [
+      | inl near ↦ near
+      | inr far ↦ absurd (fits (hub.0, v, record { dist = e.dist; canonical = hub.2; far = far }))
+    ],
+  )
 
   -- the row of a node in the labelling is well formed
   IsWellFormedRow-canonical : (v : ℕ) (row : List Entry) → 1 ≤ v → v ≤ length at → IsRow (Joined edges) at v row → IsWellFormedRow at v row
@@ -88,7 +84,7 @@ module _ (n : ℕ) (edges : List Edge) (at : List ℕ) (graph : IsGraph n edges)
         rising = is.rising;
         others = ends.others;
         ends = ends.is;
-        far = All-weaker (Contains ends.others) (λ e. (1 ≤ e.dist) × (e.dist < 2 ^ 62)) (λ e here. let b = ends.before e here in hub_far v e ((is.each e).0 b.0) b.1) ends.others (All-contains_itself ends.others);
+        far = All-weaker (Contains ends.others) (λ e. (1 ≤ e.dist) × (e.dist < 2 ^ 64)) (λ e here. let b = ends.before e here in hub_far v e ((is.each e).0 b.0) b.1) ends.others (All-contains_itself ends.others);
       }
 
   -- so the labelling is well formed

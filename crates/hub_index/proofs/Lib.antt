@@ -1,4 +1,5 @@
 pub mod CanonicalRows
+pub mod FarEntries
 pub mod CoveredEntries
 pub mod FoundRows
 pub mod NotedRows

@@ -8,3 +8,5 @@ pub mod Views
 pub mod CompactRows
 pub mod PlainRows
 pub mod Shards
+pub mod Reach
+pub mod Faults

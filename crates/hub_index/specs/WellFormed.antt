@@ -9,12 +9,12 @@ use Rattle.walk_laws.specs.Labelling.{label_row}
 abbrev pub own_entry : List ℕ → ℕ → Entry
 own_entry at v = record { pos = position_of at v; dist = 0 }
 
--- positions rise strictly, the node's own entry is the last, and every other distance is 1..2^62-1
+-- positions rise strictly, the node's own entry is the last, and every other distance is 1..2^64-1
 pub record IsWellFormedRow (at : List ℕ) (v : ℕ) (row : List Entry) : Type 0 where
   pub rising : IsStrictlyIncreasing (map (λ e. e.pos) row)
   pub others : List Entry
   pub ends : row ≡ others ++ own_entry at v ∷ []
-  pub far : All (λ e. (1 ≤ e.dist) × (e.dist < 2 ^ 62)) others
+  pub far : All (λ e. (1 ≤ e.dist) × (e.dist < 2 ^ 64)) others
 
 -- a ranking of at most 2^30 nodes, and a well formed row for each of them
 pub record IsWellFormed (at : List ℕ) (rows : List (List Entry)) : Type 0 where

@@ -1,13 +1,15 @@
 //! The row of a node in two parts: entries that take half the room of an [`Entry`], and from the first on whose distance is
 //! too great for that, whole entries.
 ghost use Rattle.std.specs.Prelude.{◌≡◌, ◌<◌, ◌≤◌, All, Contains, length, map, IfOk, IfSome, IfNone};
+ghost use Rattle.hub_index.specs.Reach.{IsBelow, IsFirstFrom};
 ghost use Rattle.walk_laws.specs.declared.entry.Entry.{Entry as AnEntry};
 ghost use Rattle.hub_index.specs.RootDistances.{noted, IsCover};
 ghost use Rattle.hub_index.specs.CompactRows.{widened, row_of_parts};
 
+use crate::reach::first_from;
 use crate::root_table::{RootTable, covered};
 use std::alloc::{AllocError, Global};
-use walk_laws::Entry;
+use walk_laws::{Dist, Entry};
 
 /// An entry whose distance is below 2^32, in half the room of an [`Entry`].
 #[derive(Clone, Copy)]
@@ -23,7 +25,7 @@ impl CompactEntry {
     {
         Entry {
             pos: self.pos,
-            dist: u64::from(self.dist),
+            dist: Dist::of_u64(u64::from(self.dist)),
         }
     }
 }
@@ -46,7 +48,7 @@ pub fn cover_of_parts(
     full: &[Entry],
     table: &RootTable,
     pos: u32,
-    dist: u64,
+    dist: u128,
 ) -> Option<Entry>
     requires { pos ≤ length table.now }
     ensures some { IfSome result (λ e. Contains (row_of_parts compact.now full.now) e × IsCover table.now pos dist e) }
@@ -59,15 +61,15 @@ pub fn cover_of_parts(
 }
 
 /// One of the entries that covers one at the position `pos` with the distance `dist`, or None where none does.
-fn compact_cover(row: &[CompactEntry], table: &RootTable, pos: u32, dist: u64) -> Option<Entry>
+fn compact_cover(row: &[CompactEntry], table: &RootTable, pos: u32, dist: u128) -> Option<Entry>
     requires { pos ≤ length table.now }
     ensures some { IfSome result (λ e. Contains (map (λ e. widened e) row.now) e × IsCover table.now pos dist e) }
     ensures none { IfNone result (All (λ e. ¬ IsCover table.now pos dist (widened e)) row.now) }
 {
+    let limit = u64::try_from(dist).unwrap_or(u64::MAX);
     for entry in row {
-        let entry = entry.widened();
-        if table.covers(entry, pos, dist) {
-            return Some(entry);
+        if table.covers_compact(*entry, pos, dist, limit) {
+            return Some(entry.widened());
         }
     }
     None
@@ -89,4 +91,31 @@ pub fn joined_parts(
         entries.push(*entry)?;
     }
     Ok(entries)
+}
+
+/// The first entry of the row in these parts whose distance is `limit` or more, or None where there is none.
+#[inline(always)]
+pub fn first_of_parts(compact: &[CompactEntry], full: &[Entry], limit: u128) -> Option<Entry>
+    ensures some { IfSome result (IsFirstFrom limit (row_of_parts compact.now full.now)) }
+    ensures none { IfNone result (All (IsBelow limit) (row_of_parts compact.now full.now)) }
+{
+    if let Some(entry) = first_compact(compact, limit) {
+        return Some(entry);
+    }
+    first_from(full, limit)
+}
+
+/// The first of the entries whose distance is `limit` or more, or None where there is none. The compiler leaves the loop out
+/// where the limit is known to be above 2^32.
+#[inline(always)]
+fn first_compact(row: &[CompactEntry], limit: u128) -> Option<Entry>
+    ensures some { IfSome result (IsFirstFrom limit (map (λ e. widened e) row.now)) }
+    ensures none { IfNone result (All (IsBelow limit) (map (λ e. widened e) row.now)) }
+{
+    for entry in row {
+        if u128::from(entry.dist) >= limit {
+            return Some(entry.widened());
+        }
+    }
+    None
 }

@@ -1,7 +1,7 @@
 ghost use Rattle.std.specs.Prelude.{◌≡◌};
 ghost use Rattle.hub_index.specs.NodeEntries.{entry_of};
 
-use walk_laws::Entry;
+use walk_laws::{Dist, Entry};
 
 /// An entry of the row of a node, which is a number from 1: the hub's position, from 0, and the distance. It takes no more
 /// room than the entry alone.
@@ -9,7 +9,7 @@ use walk_laws::Entry;
 pub struct NodeEntry {
     pub node: u32,
     pub pos: u32,
-    pub dist: u64,
+    pub dist: Dist,
 }
 
 impl NodeEntry {

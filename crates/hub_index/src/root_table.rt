@@ -1,14 +1,16 @@
 ghost use Rattle.std.specs.Prelude.{◌≡◌, ◌↔◌, ℕ, ◌-◌, ◌^◌, ◌<◌, ◌≤◌, min, Option, Some, None, All, length, replicate, take, slice_get, IfOk, IfSome, IfNone, IsTrue};
+ghost use Rattle.hub_index.specs.CompactRows.{widened};
 ghost use Rattle.hub_index.specs.RootDistances.{root_distance, noted, with_noted, IsCover, HoldsRow};
 
+use crate::compact_row::CompactEntry;
 use std::alloc::{AllocError, Global};
 use std::marker::Model;
-use walk_laws::Entry;
+use walk_laws::{Dist, Entry};
 
 /// The hubs of one root: for each position, from 0, a distance or none. Contracts see the list of these.
 #[derive(Debug, Drop)]
 pub struct RootTable {
-    dists: Vec<Option<u64>>,
+    dists: Vec<Option<Dist>>,
     /// The same in a quarter of the room, for the test of a cover: u32::MAX stands for none, for itself, and for all that is
     /// greater.
     clamped: Vec<u32>,
@@ -49,11 +51,14 @@ impl RootTable {
     }
 
     /// The distance at the position `pos`.
-    pub fn get(&self, pos: u32) -> Option<u64>
+    pub fn get(&self, pos: u32) -> Option<u128>
         requires { pos < length self.now }
         ensures { result ≡ root_distance self.now pos }
     {
-        self.dists[pos as usize]
+        match self.dists[pos as usize] {
+            Some(dist) => Some(dist.get()),
+            None => None,
+        }
     }
 
     /// Forgets all distances, at the cost of the positions that have one.
@@ -84,7 +89,7 @@ impl RootTable {
                 self.clamped[place] = clamped(entry.dist);
             }
             Some(known) => {
-                let least = known.min(entry.dist);
+                let least = lesser_of(known, entry.dist);
                 self.dists[place] = Some(least);
                 self.clamped[place] = clamped(least);
             }
@@ -114,7 +119,7 @@ impl RootTable {
 
     /// Whether the entry covers one at the position `pos` with the distance `dist`. One comparison refuses almost all
     /// entries, and no branch has to be guessed: no distance counts there as 2^32 - 1, and so does a greater one.
-    pub fn covers(&self, entry: Entry, pos: u32, dist: u64) -> bool
+    pub fn covers(&self, entry: Entry, pos: u32, dist: u128) -> bool
         requires { pos ≤ length self.now }
         ensures { IsTrue result ↔ IsCover self.now pos dist entry }
     {
@@ -122,27 +127,63 @@ impl RootTable {
             return false;
         }
         let place = entry.pos as usize;
-        if u64::from(self.clamped[place]).saturating_add(entry.dist) > dist {
+        if u128::from(self.clamped[place]) + entry.dist.get() > dist {
             return false;
         }
         match self.dists[place] {
-            Some(root) => root <= dist && entry.dist <= dist - root,
+            Some(root) => root.get() + entry.dist.get() <= dist,
+            None => false,
+        }
+    }
+
+    /// The same for an entry in half the room. The first comparison is in words: there `limit` stands for the distance, since
+    /// no sum is as great as 2^64 - 1.
+    pub(crate) fn covers_compact(
+        &self,
+        entry: CompactEntry,
+        pos: u32,
+        dist: u128,
+        limit: u64,
+    ) -> bool
+        requires pos { pos ≤ length self.now }
+        requires limit { limit ≡ min dist (2 ^ 64 - 1) }
+        ensures { IsTrue result ↔ IsCover self.now pos dist (widened entry) }
+    {
+        if entry.pos >= pos {
+            return false;
+        }
+        let place = entry.pos as usize;
+        if u64::from(self.clamped[place]) + u64::from(entry.dist) > limit {
+            return false;
+        }
+        match self.dists[place] {
+            Some(root) => root.get() + u128::from(entry.dist) <= dist,
             None => false,
         }
     }
 }
 
 /// The distance as the test of a cover reads it first, which is never greater.
-fn clamped(dist: u64) -> u32
+fn clamped(dist: Dist) -> u32
     ensures { result ≡ min dist (2 ^ 32 - 1) }
 {
-    u32::try_from(dist).unwrap_or(u32::MAX)
+    dist.to_u32().unwrap_or(u32::MAX)
+}
+
+/// The lesser of two distances.
+fn lesser_of(known: Dist, other: Dist) -> Dist
+    ensures { result ≡ min known other }
+{
+    if other.get() < known.get() {
+        return other;
+    }
+    known
 }
 
 /// The first entry of a row that covers one at the position `pos` with the distance `dist`: its hub ranks above the hub at
 /// `pos`, and its distance together with that of the root in the table is at most `dist`. None where no entry does. It
 /// goes along the row once, and takes no memory. (Pruned landmark labelling, SIGMOD 2013.)
-pub fn covered(row: &[Entry], table: &RootTable, pos: u32, dist: u64) -> Option<Entry>
+pub fn covered(row: &[Entry], table: &RootTable, pos: u32, dist: u128) -> Option<Entry>
     requires { pos ≤ length table.now }
     ensures first { IfSome result (λ e. (k : ℕ) × (slice_get row.now k ≡ Some e) × IsCover table.now pos dist e
         × All (λ f. ¬ IsCover table.now pos dist f) (take k row.now)) }

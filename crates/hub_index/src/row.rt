@@ -73,11 +73,11 @@ impl Row {
             &self.full,
             table,
             entry.pos,
-            entry.dist,
+            entry.dist.get(),
         ) {
             return Offer::Covered {
                 pos: cover.pos,
-                dist: cover.dist,
+                dist: cover.dist.get(),
             };
         }
         if self.push(entry).is_err() {
@@ -91,8 +91,9 @@ impl Row {
         ensures ok { OnOk result (self.new ≡ self.old ++ entry ∷ []) }
         ensures err { OnErr result (self.new ≡ self.old) }
     {
+        let near = entry.dist.to_u32();
         if self.full.is_empty() {
-            if let Ok(dist) = u32::try_from(entry.dist) {
+            if let Some(dist) = near {
                 self.compact.push(CompactEntry {
                     pos: entry.pos,
                     dist,

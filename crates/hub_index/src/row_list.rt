@@ -1,8 +1,11 @@
-ghost use Rattle.std.specs.Prelude.{◌≡◌, ℕ, ◌+◌, ◌-◌, ◌^◌, ◌<◌, ◌≤◌, [], ◌++◌, length, map, replicate, slice_set, vec_len, IfOk, OnOk, OnErr};
+ghost use Rattle.std.specs.Prelude.{◌≡◌, ℕ, ◌+◌, ◌-◌, ◌^◌, ◌<◌, ◌≤◌, [], ◌++◌, length, map, replicate, slice_set, vec_len, IfOk, IfSome, IfNone, OnOk, OnErr};
 ghost use Rattle.walk_laws.specs.Labelling.{label_row};
 ghost use Rattle.hub_index.specs.HubIndex.{with_entry};
 ghost use Rattle.hub_index.specs.NodeEntries.{IsGatheredRow};
+ghost use Rattle.hub_index.specs.Reach.{AreBelow, IsFirstOfRows};
 
+use crate::node_entry::NodeEntry;
+use crate::reach::first_from;
 use std::alloc::{AllocError, Global};
 use std::marker::Model;
 use walk_laws::Entry;
@@ -98,6 +101,21 @@ impl RowList {
         ensures { result.now ≡ label_row self.now v }
     {
         &self.rows[v as usize - 1]
+    }
+
+    /// The first entry, by rising node and then by its place in the row, whose distance is `limit` or more, or None where there
+    /// is none.
+    pub(crate) fn first_from(&self, limit: u128) -> Option<NodeEntry>
+        ensures some { IfSome result (IsFirstOfRows limit self.now) }
+        ensures none { IfNone result (AreBelow limit self.now) }
+    {
+        for k in 0..self.n() {
+            let v = k + 1;
+            if let Some(entry) = first_from(self.row(v), limit) {
+                return Some(NodeEntry::of(v, entry));
+            }
+        }
+        None
     }
 
     /// Puts the entry last in the row of the node `v`, a number from 1. The only error is that memory ran out, and then

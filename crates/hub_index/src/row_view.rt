@@ -7,7 +7,7 @@ pub enum Offer {
     /// It was put in the row.
     Put,
     /// It is needless: the row has this entry, at a position from 0, which covers it.
-    Covered { pos: u32, dist: u64 },
+    Covered { pos: u32, dist: u128 },
     /// It wasn't put, for want of memory.
     NoMemory,
 }

@@ -66,7 +66,7 @@ impl<'a> ShardedRows<'a> {
 
     /// An entry of the row of the node `v`, a number from 1, that covers one at the position `pos`, from 0, with the distance
     /// `dist`, or None where none does.
-    pub fn cover(&self, v: u32, table: &RootTable, pos: u32, dist: u64) -> Option<Entry>
+    pub fn cover(&self, v: u32, table: &RootTable, pos: u32, dist: u128) -> Option<Entry>
         requires node { 1 ≤ v }
         requires within { v ≤ length self.now }
         requires size { pos ≤ length table.now }

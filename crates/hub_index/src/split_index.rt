@@ -1,12 +1,20 @@
-ghost use Rattle.std.specs.Prelude.{◌≡◌, IfOk};
+ghost use Rattle.std.specs.Prelude.{◌≡◌, ◌≢◌, length, IfOk, IfErr};
+ghost use Rattle.walk_laws.specs.Joined.{Joined};
+ghost use Rattle.walk_laws.specs.Labelling.{IsChl};
+ghost use Rattle.walk_laws.specs.Overflow.{Overflows};
+ghost use Rattle.hub_index.specs.declared.build_fault.BuildFault.TheVariants.{NoMemory};
+ghost use Rattle.hub_index.specs.Faults.{TellsFault};
 ghost use Rattle.hub_index.specs.WellFormed.{IsWellFormed};
 
+use crate::build_fault::BuildFault;
 use crate::index::Index;
 use crate::index_rows::IndexRows;
+use crate::reach::{NOT_SHORT, TOO_FAR};
 use crate::split_rows::SplitRows;
 use rank_table::Ranking;
 use std::alloc::{AllocError, Global};
 use std::marker::Model;
+use walk_laws::Graph;
 
 /// An index most of whose entries take half the room: a ranking of the nodes 1..n, and for each node its row. Contracts see the
 /// order of the nodes and the rows.
@@ -37,6 +45,32 @@ impl SplitIndex {
         SplitIndex { ranking, rows }
     }
 
+    /// The index of the canonical hub labelling of the graph, or its first hub that is too far for an index. It looks only at
+    /// entries in full room, and takes no memory.
+    pub fn of_labelling(
+        graph: &Graph,
+        ranking: Ranking,
+        rows: SplitRows,
+    ) -> Result<SplitIndex, BuildFault>
+        requires nodes { length ranking ≡ graph.now.n }
+        requires labelling { IsChl (Joined graph.now.edges) ranking rows }
+        ensures order { IfOk result (λ index. index.order ≡ ranking) }
+        ensures rows { IfOk result (λ index. index.rows ≡ rows) }
+        ensures fits { IfOk result (λ _. ¬ Overflows (Joined graph.now.edges) ranking) }
+        ensures fault { IfErr result (λ fault. TellsFault (Joined graph.now.edges) ranking fault) }
+        ensures overflow { IfErr result (λ fault. fault ≢ NoMemory) }
+    {
+        let _n = graph.n();
+        let _ranked = ranking.n();
+        if let Some(far) = rows.first_from(TOO_FAR) {
+            return Err(BuildFault::Overflow {
+                v: far.node,
+                hub: ranking.at(far.pos),
+            });
+        }
+        Ok(SplitIndex::new(ranking, rows))
+    }
+
     /// Its rows, to be gone along. It takes no memory.
     pub fn rows(&self) -> IndexRows<'_>
         ensures order { result.order ≡ self.now.order }
@@ -51,6 +85,7 @@ impl SplitIndex {
         ensures rows { IfOk result (λ index. index.rows ≡ self.rows) }
     {
         let SplitIndex { ranking, rows } = self;
-        Ok(Index::new(ranking, rows.into_rows(alloc)?))
+        let is_short = rows.first_from(NOT_SHORT).is_none();
+        Ok(Index::with_reach(ranking, rows.into_rows(alloc)?, is_short))
     }
 }

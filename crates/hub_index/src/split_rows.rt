@@ -5,14 +5,16 @@ ghost use Rattle.walk_laws.specs.Labelling.{label_row};
 ghost use Rattle.hub_index.specs.HubIndex.{with_entry};
 ghost use Rattle.hub_index.specs.CompactRows.{row_of_parts, rows_of_parts};
 ghost use Rattle.hub_index.specs.Shards.{AreShards, node_at, shard_count, shard_number, shard_of, shard_size, sharded_rows};
+ghost use Rattle.hub_index.specs.Reach.{AreBelow, IsFirstOfRows};
 ghost use Rattle.hub_index.specs.WellFormed.{IsWellFormed};
 ghost use Rattle.hub_index.specs.RootDistances.{noted, IsCover, HoldsRow};
 ghost use Rattle.hub_index.specs.Views.{IsNode, IsAnswerOf, with_put};
 
-use crate::compact_row::{CompactEntry, cover_of_parts, joined_parts, note_parts};
+use crate::compact_row::{CompactEntry, cover_of_parts, first_of_parts, joined_parts, note_parts};
 use crate::from_last::FromLast;
 use crate::full_rows::FullRows;
 use crate::index_rows::IndexRows;
+use crate::node_entry::NodeEntry;
 use crate::root_table::RootTable;
 use crate::row_list::RowList;
 use crate::row_view::Offer;
@@ -193,10 +195,10 @@ impl SplitRows {
         ensures answer { IsAnswerOf table.now (label_row self.old v) entry result }
         ensures rows { self.new ≡ slice_set self.old (v - 1) (with_put (label_row self.old v) entry result) }
     {
-        if let Some(cover) = self.cover(v, table, entry.pos, entry.dist) {
+        if let Some(cover) = self.cover(v, table, entry.pos, entry.dist.get()) {
             return Offer::Covered {
                 pos: cover.pos,
-                dist: cover.dist,
+                dist: cover.dist.get(),
             };
         }
         if self.push(v, entry).is_err() {
@@ -207,7 +209,7 @@ impl SplitRows {
 
     /// An entry of the row of the node `v`, a number from 1, that covers one at the position `pos`, from 0, with the distance
     /// `dist`, or None where none does.
-    pub fn cover(&self, v: u32, table: &RootTable, pos: u32, dist: u64) -> Option<Entry>
+    pub fn cover(&self, v: u32, table: &RootTable, pos: u32, dist: u128) -> Option<Entry>
         requires node { 1 ≤ v }
         requires within { v ≤ length self.now }
         requires size { pos ≤ length table.now }
@@ -226,8 +228,9 @@ impl SplitRows {
         ensures ok { OnOk result (self.new ≡ with_entry self.old v entry) }
         ensures err { OnErr result (self.new ≡ self.old) }
     {
+        let near = entry.dist.to_u32();
         if self.full.row(v).is_empty() {
-            if let Ok(dist) = u32::try_from(entry.dist) {
+            if let Some(dist) = near {
                 self.compact[v as usize - 1].push(CompactEntry {
                     pos: entry.pos,
                     dist,
@@ -237,6 +240,23 @@ impl SplitRows {
         }
         self.full.push(v, entry)?;
         Ok(())
+    }
+
+    /// The first entry, by rising node and then by its place in the row, whose distance is `limit` or more, or None where there
+    /// is none. Where the limit is above 2^32, it looks only at entries in full room.
+    #[inline(always)]
+    pub(crate) fn first_from(&self, limit: u128) -> Option<NodeEntry>
+        ensures some { IfSome result (IsFirstOfRows limit self.now) }
+        ensures none { IfNone result (AreBelow limit self.now) }
+    {
+        for k in 0..self.compact.len() {
+            let v = k as u32 + 1;
+            let compact = &self.compact[v as usize - 1];
+            if let Some(entry) = first_of_parts(compact, self.full.row(v), limit) {
+                return Some(NodeEntry::of(v, entry));
+            }
+        }
+        None
     }
 
     /// These rows as those of an index with this ranking, to be gone along. It takes no memory.

@@ -15,12 +15,12 @@ use Rattle.walk_laws.proofs.JoinedEdges.{All-arcs, Joined-weight}
 abbrev pub no_arc : Arc
 no_arc = record { to = 0; w = 0 }
 
--- an arc of a graph leads to one of its nodes, by a short weight of at least 1
+-- an arc of a graph leads to one of its nodes, by a weight of at least 1
 pub record IsArc (n : ℕ) (a : Arc) : Type 0 where
   pub from_one : 1 ≤ a.to
   pub up_to_n : a.to ≤ n
   pub weight : 1 ≤ a.w
-  pub light : a.w < 2 ^ 62
+  pub light : a.w < 2 ^ 94
 
 pub arc_at : (n : ℕ) (edges : List Edge) (v : ℕ) (arcs : List Arc) (k : ℕ) (a : Arc) → IsGraph n edges → 1 ≤ v → v ≤ n → ((t w : ℕ) → Contains arcs (record { to = t; w = w }) ↔ Joined edges v t w) → k < length arcs → IsArc n (get_or arcs k a)
 arc_at n edges v arcs k a is from_one up_to_n joined within =

@@ -9,5 +9,3 @@ pub mod ArcsInOrder
 pub mod Onward
 pub mod LabelledWalks
 pub mod PathsDecided
-pub mod TestRows
-pub mod TestGraphs

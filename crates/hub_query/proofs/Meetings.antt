@@ -1,5 +1,5 @@
 -- What two rows say of a pair: something, and one thing only.
-use Rattle.std.proofs.Common.{◌≡◌, ◌⊎◌, ℕ, zero, suc, ◌+◌, ◌-◌, ◌^◌, ◌<◌, ◌≤◌, List, [], ◌∷◌, All, length, map, get_or, Some, None, Option, refl, inl, inr, arith}
+use Rattle.std.proofs.Common.{◌≡◌, ◌⊎◌, ℕ, zero, suc, ◌+◌, ◌^◌, ◌<◌, ◌≤◌, List, [], ◌∷◌, All, length, map, get_or, Some, None, Option, refl, inl, inr, arith}
 use Rattle.std.specs.List.Sorted.{IsStrictlyIncreasing}
 use Rattle.std.proofs.lemmas.Bool.{cases_lt}
 use Rattle.std.proofs.lemmas.List.Elements.{All-contains}
@@ -18,40 +18,44 @@ use Rattle.hub_query.proofs.RowFacts.{row_rises, row_fits, row_positions, HasSum
 pub meet_unique : (at : List ℕ) (rows : List (List Entry)) (u v : ℕ) (a b : Option (ℕ × ℕ)) → IsMeet at rows u v a → IsMeet at rows u v b → a ≡ b
 meet_unique = IsMeet-unique
 
-module _ (first second : List Entry) (fits : All (λ (e : Entry). e.dist < 2 ^ 62) first) (others_fit : All (λ (e : Entry). e.dist < 2 ^ 62) second) where
+module _ (first second : List Entry) (fits : All (λ (e : Entry). e.dist < 2 ^ 64) first) (others_fit : All (λ (e : Entry). e.dist < 2 ^ 64) second) where
+  -- more than each sum
+  abbrev unset : ℕ
+  unset = 2 ^ 65
+
   -- they share no position, or have a least sum
   abbrev Told : Type 0
   Told = ShareNone first second ⊎ ((p : ℕ) × (d : ℕ) × IsLeastSum first second p d)
 
-  told_at_end : (xs ys : List Entry) (pos least : ℕ) → Walked first second xs ys pos least → (xs ≡ []) ⊎ (ys ≡ []) → Told
-  told_at_end xs ys pos least w over = elim (cases_lt least (2 ^ 64 - 1)) [
-    | inl some ↦ inr (pos, least, Walked-some first second xs ys pos least w over (λ none. omega (arith, none)))
-    | inr none ↦ inl (Walked-none first second xs ys pos least w over fits others_fit none)
+  told_at_end : (xs ys : List Entry) (pos least : ℕ) → Walked unset first second xs ys pos least → (xs ≡ []) ⊎ (ys ≡ []) → Told
+  told_at_end xs ys pos least w over = elim (cases_lt least unset) [
+    | inl some ↦ inr (pos, least, Walked-some unset first second xs ys pos least w over (λ none. omega (arith, none)))
+    | inr none ↦ inl (Walked-none unset first second xs ys pos least w over (2 ^ 64) (omega arith) fits others_fit none)
   ]
 
   -- a walk of n steps comes to the end of one of them
-  walk_on : (n : ℕ) (xs ys : List Entry) (pos least : ℕ) → length xs + length ys ≤ n → Walked first second xs ys pos least → Told
+  walk_on : (n : ℕ) (xs ys : List Entry) (pos least : ℕ) → length xs + length ys ≤ n → Walked unset first second xs ys pos least → Told
   walk_on n [] ys pos least few w = told_at_end [] ys pos least w (inl refl)
   walk_on n (a ∷ xs) [] pos least few w = told_at_end (a ∷ xs) [] pos least w (inr refl)
   walk_on zero (a ∷ xs) (b ∷ ys) pos least few w = absurd (omega arith)
   walk_on (suc n) (a ∷ xs) (b ∷ ys) pos least few w = elim (cases_lt a.pos b.pos) [
-    | inl less ↦ walk_on n xs (b ∷ ys) pos least (omega arith) (Walked-past_first first second a b xs ys pos least w less)
+    | inl less ↦ walk_on n xs (b ∷ ys) pos least (omega arith) (Walked-past_first unset first second a b xs ys pos least w less)
     | inr not_less ↦ elim (cases_lt b.pos a.pos) [
-      | inl more ↦ walk_on n (a ∷ xs) ys pos least (omega arith) (Walked-past_second first second a b xs ys pos least w more)
+      | inl more ↦ walk_on n (a ∷ xs) ys pos least (omega arith) (Walked-past_second unset first second a b xs ys pos least w more)
       | inr not_more ↦ elim (cases_lt (a.dist + b.dist) least) [
-        | inl lesser ↦ walk_on n xs ys a.pos (a.dist + b.dist) (omega arith) (Walked-take first second a b xs ys pos least w (omega arith) lesser)
+        | inl lesser ↦ walk_on n xs ys a.pos (a.dist + b.dist) (omega arith) (Walked-take unset first second a b xs ys pos least w (omega arith) lesser)
         | inr no_less ↦
-            let short : a.dist < 2 ^ 62 = All-contains (λ (e : Entry). e.dist < 2 ^ 62) first a fits (w.first_has a (Contains-first a xs)) in
-            let other_short : b.dist < 2 ^ 62 = All-contains (λ (e : Entry). e.dist < 2 ^ 62) second b others_fit (w.second_has b (Contains-first b ys)) in
-            walk_on n xs ys pos least (omega arith) (Walked-keep first second a b xs ys pos least w (omega arith) no_less (omega arith))
+            let short : a.dist < 2 ^ 64 = All-contains (λ (e : Entry). e.dist < 2 ^ 64) first a fits (w.first_has a (Contains-first a xs)) in
+            let other_short : b.dist < 2 ^ 64 = All-contains (λ (e : Entry). e.dist < 2 ^ 64) second b others_fit (w.second_has b (Contains-first b ys)) in
+            walk_on n xs ys pos least (omega arith) (Walked-keep unset first second a b xs ys pos least w (omega arith) no_less (omega arith))
       ]
     ]
   ]
 
   told : IsStrictlyIncreasing (map (λ (e : Entry). e.pos) first) → IsStrictlyIncreasing (map (λ (e : Entry). e.pos) second) → Told
   told rising others_rising =
-      walk_on (length first + length second) first second 0 (2 ^ 64 - 1) (omega arith)
-      (Walked-start first second (AllPairs-from_increasing (map (λ (e : Entry). e.pos) first) rising) (AllPairs-from_increasing (map (λ (e : Entry). e.pos) second) others_rising))
+      walk_on (length first + length second) first second 0 unset (omega arith)
+      (Walked-start unset first second (AllPairs-from_increasing (map (λ (e : Entry). e.pos) first) rising) (AllPairs-from_increasing (map (λ (e : Entry). e.pos) second) others_rising))
 
 -- and the rows of two nodes of an index say one
 pub meet_exists : (at : List ℕ) (rows : List (List Entry)) (u v : ℕ) → IsWellFormed at rows → 1 ≤ u → u ≤ length at → 1 ≤ v → v ≤ length at → (answer : Option (ℕ × ℕ)) × IsMeet at rows u v answer

@@ -37,6 +37,10 @@ module _ {X : Type 0} (R : X → Answer → Type 0) where
   AllZip-both (x ∷ xs) us [] vs h rest = absurd h
   AllZip-both (x ∷ xs) us (y ∷ ys) vs h rest = (h.0, AllZip-both xs us ys vs h.1 rest)
 
+  -- one more on each side
+  pub AllZip-one_more : (xs : List X) (ys : List Answer) (x : X) (y : Answer) → AllZip R xs ys → R x y → AllZip R (xs ++ x ∷ []) (ys ++ y ∷ [])
+  AllZip-one_more xs ys x y h this = AllZip-both xs (x ∷ []) ys (y ∷ []) h (this, tt)
+
   -- the parts side by side have the answers one after another
   pub AllZip-joined : (parts : List (List X)) (results : List (Result (List Answer) AllocError)) (answers : List Answer) → AllZip (λ xs r. IfOk r (AllZip R xs)) parts results → AreJoined (λ (part : List Answer). part) results answers → AllZip R (flat_map (λ l. l) parts) answers
   AllZip-joined [] [] answers h joined = subst (AllZip R []) (sym joined) tt

@@ -1,4 +1,4 @@
--- What a well formed row is to one who walks it: positions of the ranking, which rise, and short distances.
+-- What a well formed row is to one who walks it: positions of the ranking, which rise, and distances below 2^64.
 use Rattle.std.proofs.Common.{ℕ, ◌^◌, ◌<◌, ◌≤◌, List, [], ◌∷◌, ◌++◌, All, Contains, length, map, sym, ap, subst, inl, inr, arith}
 use Rattle.std.specs.List.Sorted.{IsStrictlyIncreasing}
 use Rattle.std.proofs.lemmas.List.Elements.{All-append, All-contains, All-cons, All-nil, All-weaker, All-contains_itself, Contains-append_right}
@@ -35,10 +35,10 @@ module _ (at : List ℕ) (rows : List (List Entry)) (v : ℕ) (well : IsWellForm
   pub row_rises : IsStrictlyIncreasing (map (λ (e : Entry). e.pos) (label_row rows v))
   row_rises = row_is.rising
 
-  -- each distance is short
-  pub row_fits : All (λ (e : Entry). e.dist < 2 ^ 62) (label_row rows v)
+  -- each distance fits in 64 bits
+  pub row_fits : All (λ (e : Entry). e.dist < 2 ^ 64) (label_row rows v)
   row_fits =
-      row_All (λ (e : Entry). e.dist < 2 ^ 62) at v (label_row rows v) row_is
+      row_All (λ (e : Entry). e.dist < 2 ^ 64) at v (label_row rows v) row_is
       (λ k d lt. (row_is.far k d lt).1)
       (omega arith)
 

@@ -1,5 +1,5 @@
 -- How far two rows have been walked, and the best sum so far.
-use Rattle.std.proofs.Common.{◌≡◌, ◌⊎◌, ℕ, ◌+◌, ◌-◌, ◌^◌, ◌<◌, ◌≤◌, List, [], ◌∷◌, All, Contains, length, drop, get_or, sym, subst, inl, inr, arith}
+use Rattle.std.proofs.Common.{◌≡◌, ◌⊎◌, ℕ, ◌+◌, ◌<◌, ◌≤◌, List, [], ◌∷◌, All, Contains, length, drop, get_or, sym, ap, subst, ◌∙◌, inl, inr, arith}
 use Rattle.std.proofs.lemmas.List.{drop_more, drop_all}
 use Rattle.std.proofs.lemmas.List.Elements.{All-contains}
 use Rattle.walk_laws.specs.declared.entry.Entry.{Entry}
@@ -13,23 +13,19 @@ pub record IsNoWorse (pos least q e : ℕ) : Type 0 where
   pub sum : least ≤ e
   pub place : e ≤ least → pos ≤ q
 
--- no sum has been found yet
-abbrev pub IsNone : ℕ → Type 0
-IsNone least = least ≡ 2 ^ 64 - 1
-
--- of two rows the parts xs and ys are left, and least at pos is the best sum of the others
-pub record Walked (first second xs ys : List Entry) (pos least : ℕ) : Type 0 where
+-- of two rows the parts xs and ys are left, and least at pos is the best sum of the others; it is `unset` while none has been found
+pub record Walked (unset : ℕ) (first second xs ys : List Entry) (pos least : ℕ) : Type 0 where
   pub first_rises : Rises pos_of xs
   pub second_rises : Rises pos_of ys
   pub first_has : (x : Entry) → Contains xs x → Contains first x
   pub second_has : (y : Entry) → Contains ys y → Contains second y
   pub best : (q e : ℕ) → HasSum first second q e → HasSum xs ys q e ⊎ IsNoWorse pos least q e
-  pub found : IsNone least ⊎ HasSum first second pos least
-  pub before : IsNone least ⊎ ((q e : ℕ) → HasSum xs ys q e → pos < q)
+  pub found : (least ≡ unset) ⊎ HasSum first second pos least
+  pub before : (least ≡ unset) ⊎ ((q e : ℕ) → HasSum xs ys q e → pos < q)
 
-module _ (first second : List Entry) where
+module _ (unset : ℕ) (first second : List Entry) where
   -- before the first step
-  pub Walked-start : Rises pos_of first → Rises pos_of second → Walked first second first second 0 (2 ^ 64 - 1)
+  pub Walked-start : Rises pos_of first → Rises pos_of second → Walked unset first second first second 0 unset
   Walked-start up others_up = record {
     first_rises = up;
     second_rises = others_up;
@@ -40,7 +36,7 @@ module _ (first second : List Entry) where
     before = inl (omega arith);
   }
 
-  module _ (a b : Entry) (xs ys : List Entry) (pos least : ℕ) (w : Walked first second (a ∷ xs) (b ∷ ys) pos least) where
+  module _ (a b : Entry) (xs ys : List Entry) (pos least : ℕ) (w : Walked unset first second (a ∷ xs) (b ∷ ys) pos least) where
     first_later : (x : Entry) → Contains xs x → Contains first x
     first_later x h = w.first_has x (Contains-next a x xs h)
 
@@ -48,7 +44,7 @@ module _ (first second : List Entry) where
     second_later y h = w.second_has y (Contains-next b y ys h)
 
     -- past a lesser position of the first row
-    pub Walked-past_first : a.pos < b.pos → Walked first second xs (b ∷ ys) pos least
+    pub Walked-past_first : a.pos < b.pos → Walked unset first second xs (b ∷ ys) pos least
     Walked-past_first less = record {
       first_rises = Rises-rest pos_of a xs w.first_rises;
       second_rises = w.second_rises;
@@ -63,7 +59,7 @@ module _ (first second : List Entry) where
     }
 
     -- past a lesser position of the second
-    pub Walked-past_second : b.pos < a.pos → Walked first second (a ∷ xs) ys pos least
+    pub Walked-past_second : b.pos < a.pos → Walked unset first second (a ∷ xs) ys pos least
     Walked-past_second less = record {
       first_rises = w.first_rises;
       second_rises = Rises-rest pos_of b ys w.second_rises;
@@ -91,7 +87,7 @@ module _ (first second : List Entry) where
       later_sum q e s = Rises-first pos_of a (record { pos = q; dist = s.before }) xs w.first_rises s.in_first
 
       -- past a position of both, whose sum is no less
-      pub Walked-keep : least ≤ a.dist + b.dist → a.dist + b.dist < 2 ^ 64 - 1 → Walked first second xs ys pos least
+      pub Walked-keep : least ≤ a.dist + b.dist → a.dist + b.dist < unset → Walked unset first second xs ys pos least
       Walked-keep no_less short = record {
         first_rises = Rises-rest pos_of a xs w.first_rises;
         second_rises = Rises-rest pos_of b ys w.second_rises;
@@ -105,7 +101,7 @@ module _ (first second : List Entry) where
         ];
       }
         where
-          earlier : IsNone least ⊎ (pos < a.pos)
+          earlier : (least ≡ unset) ⊎ (pos < a.pos)
           earlier = elim w.before [ inl none ↦ inl none | inr later ↦ inr (later a.pos (a.dist + b.dist) here) ]
 
           still : (q e : ℕ) → HasSum (a ∷ xs) (b ∷ ys) q e → HasSum xs ys q e ⊎ IsNoWorse pos least q e
@@ -118,7 +114,7 @@ module _ (first second : List Entry) where
           ]
 
       -- past a position of both, whose sum is less
-      pub Walked-take : a.dist + b.dist < least → Walked first second xs ys a.pos (a.dist + b.dist)
+      pub Walked-take : a.dist + b.dist < least → Walked unset first second xs ys a.pos (a.dist + b.dist)
       Walked-take less = record {
         first_rises = Rises-rest pos_of a xs w.first_rises;
         second_rises = Rises-rest pos_of b ys w.second_rises;
@@ -136,7 +132,7 @@ module _ (first second : List Entry) where
           ]
 
   -- at the end of a row
-  module _ (xs ys : List Entry) (pos least : ℕ) (w : Walked first second xs ys pos least) (over : (xs ≡ []) ⊎ (ys ≡ [])) where
+  module _ (xs ys : List Entry) (pos least : ℕ) (w : Walked unset first second xs ys pos least) (over : (xs ≡ []) ⊎ (ys ≡ [])) where
     none_left : (q e : ℕ) → HasSum xs ys q e → ⊥
     none_left q e s = elim over [
       | inl end ↦ Contains-empty (record { pos = q; dist = s.before }) (subst (λ l. Contains l (record { pos = q; dist = s.before })) end s.in_first)
@@ -147,14 +143,14 @@ module _ (first second : List Entry) where
     no_worse q e s = elim (w.best q e s) [ inl left ↦ absurd (none_left q e left) | inr worse ↦ worse ]
 
     -- no sum has been found, and none is there
-    pub Walked-none : All (λ (x : Entry). x.dist < 2 ^ 62) first → All (λ (x : Entry). x.dist < 2 ^ 62) second → 2 ^ 64 - 1 ≤ least → ShareNone first second
-    Walked-none fits others_fit none p d s =
-        let short : s.before < 2 ^ 62 = All-contains (λ (x : Entry). x.dist < 2 ^ 62) first (record { pos = p; dist = s.before }) fits s.in_first in
-        let others_short : s.after < 2 ^ 62 = All-contains (λ (x : Entry). x.dist < 2 ^ 62) second (record { pos = p; dist = s.after }) others_fit s.in_second in
-        omega (arith, (no_worse p d s).sum, s.long)
+    pub Walked-none : (bound : ℕ) → bound + bound ≤ unset → All (λ (x : Entry). x.dist < bound) first → All (λ (x : Entry). x.dist < bound) second → unset ≤ least → ShareNone first second
+    Walked-none bound room fits others_fit none p d s =
+        let short : s.before < bound = All-contains (λ (x : Entry). x.dist < bound) first (record { pos = p; dist = s.before }) fits s.in_first in
+        let others_short : s.after < bound = All-contains (λ (x : Entry). x.dist < bound) second (record { pos = p; dist = s.after }) others_fit s.in_second in
+        omega (arith, (no_worse p d s).sum, s.long, room, none, short, others_short)
 
     -- the one that has been found is the least
-    pub Walked-some : (least ≡ 2 ^ 64 - 1 → ⊥) → IsLeastSum first second pos least
+    pub Walked-some : (least ≡ unset → ⊥) → IsLeastSum first second pos least
     Walked-some some = elim w.found [
       | inl none ↦ absurd (some none)
       | inr sum ↦ record { sum = sum; least = λ q e s. (no_worse q e s).sum; highest = λ q s. (no_worse q least s).place (omega arith) }
@@ -164,32 +160,39 @@ module _ (first second : List Entry) where
 abbrev pub nothing : Entry
 nothing = record { pos = 0; dist = 0 }
 
--- the same steps of two places, which are within the rows
-module _ (first second : List Entry) (i j pos least : ℕ) (within : i < length first) (others_within : j < length second) (w : Walked first second (drop i first) (drop j second) pos least) where
-  opened : Walked first second (get_or first i nothing ∷ drop (i + 1) first) (get_or second j nothing ∷ drop (j + 1) second) pos least
+-- the same steps of two places, which are within the rows, where a and b were read
+module _ (unset : ℕ) (first second : List Entry) (i j pos least : ℕ) (within : i < length first) (others_within : j < length second) (w : Walked unset first second (drop i first) (drop j second) pos least) (a b : Entry) (read : a ≡ get_or first i nothing) (others_read : b ≡ get_or second j nothing) where
+  first_opened : a ∷ drop (i + 1) first ≡ drop i first
+  first_opened = ap (λ (x : Entry). x ∷ drop (i + 1) first) read ∙ sym (drop_more first i nothing within)
+
+  second_opened : b ∷ drop (j + 1) second ≡ drop j second
+  second_opened = ap (λ (y : Entry). y ∷ drop (j + 1) second) others_read ∙ sym (drop_more second j nothing others_within)
+
+  opened : Walked unset first second (a ∷ drop (i + 1) first) (b ∷ drop (j + 1) second) pos least
   opened =
-      subst (λ ys. Walked first second (get_or first i nothing ∷ drop (i + 1) first) ys pos least) (drop_more second j nothing others_within)
-      (subst (λ xs. Walked first second xs (drop j second) pos least) (drop_more first i nothing within) w)
+      subst (λ ys. Walked unset first second (a ∷ drop (i + 1) first) ys pos least) (sym second_opened)
+      (subst (λ xs. Walked unset first second xs (drop j second) pos least) (sym first_opened) w)
 
-  pub Walked-step_first : (get_or first i nothing).pos < (get_or second j nothing).pos → Walked first second (drop (i + 1) first) (drop j second) pos least
+  pub Walked-step_first : a.pos < b.pos → Walked unset first second (drop (i + 1) first) (drop j second) pos least
   Walked-step_first less =
-      subst (λ ys. Walked first second (drop (i + 1) first) ys pos least) (sym (drop_more second j nothing others_within))
-      (Walked-past_first first second (get_or first i nothing) (get_or second j nothing) (drop (i + 1) first) (drop (j + 1) second) pos least opened less)
+      subst (λ ys. Walked unset first second (drop (i + 1) first) ys pos least) second_opened
+      (Walked-past_first unset first second a b (drop (i + 1) first) (drop (j + 1) second) pos least opened less)
 
-  pub Walked-step_second : (get_or second j nothing).pos < (get_or first i nothing).pos → Walked first second (drop i first) (drop (j + 1) second) pos least
+  pub Walked-step_second : b.pos < a.pos → Walked unset first second (drop i first) (drop (j + 1) second) pos least
   Walked-step_second less =
-      subst (λ xs. Walked first second xs (drop (j + 1) second) pos least) (sym (drop_more first i nothing within))
-      (Walked-past_second first second (get_or first i nothing) (get_or second j nothing) (drop (i + 1) first) (drop (j + 1) second) pos least opened less)
+      subst (λ xs. Walked unset first second xs (drop (j + 1) second) pos least) first_opened
+      (Walked-past_second unset first second a b (drop (i + 1) first) (drop (j + 1) second) pos least opened less)
 
-  module _ (same : (get_or first i nothing).pos ≡ (get_or second j nothing).pos) where
-    pub Walked-step_keep : least ≤ (get_or first i nothing).dist + (get_or second j nothing).dist → All (λ (x : Entry). x.dist < 2 ^ 62) first → All (λ (x : Entry). x.dist < 2 ^ 62) second → Walked first second (drop (i + 1) first) (drop (j + 1) second) pos least
-    Walked-step_keep no_less fits others_fit =
-        Walked-keep first second (get_or first i nothing) (get_or second j nothing) (drop (i + 1) first) (drop (j + 1) second) pos least opened same no_less
-        (omega (arith, fits i nothing within, others_fit j nothing others_within))
+  module _ (same : a.pos ≡ b.pos) (sum : ℕ) (adds : sum ≡ a.dist + b.dist) where
+    pub Walked-step_keep : least ≤ sum → (bound : ℕ) → bound + bound ≤ unset → All (λ (x : Entry). x.dist < bound) first → All (λ (x : Entry). x.dist < bound) second → Walked unset first second (drop (i + 1) first) (drop (j + 1) second) pos least
+    Walked-step_keep no_less bound room fits others_fit =
+        Walked-keep unset first second a b (drop (i + 1) first) (drop (j + 1) second) pos least opened same (omega (arith, no_less, adds))
+        (omega (arith, room, fits i nothing within, others_fit j nothing others_within, ap (λ (x : Entry). x.dist) read, ap (λ (x : Entry). x.dist) others_read))
 
-    pub Walked-step_take : (get_or first i nothing).dist + (get_or second j nothing).dist < least → Walked first second (drop (i + 1) first) (drop (j + 1) second) (get_or first i nothing).pos ((get_or first i nothing).dist + (get_or second j nothing).dist)
+    pub Walked-step_take : sum < least → Walked unset first second (drop (i + 1) first) (drop (j + 1) second) a.pos sum
     Walked-step_take less =
-        Walked-take first second (get_or first i nothing) (get_or second j nothing) (drop (i + 1) first) (drop (j + 1) second) pos least opened same less
+        subst (Walked unset first second (drop (i + 1) first) (drop (j + 1) second) a.pos) (sym adds)
+        (Walked-take unset first second a b (drop (i + 1) first) (drop (j + 1) second) pos least opened same (omega (arith, less, adds)))
 
 -- at the end of a row nothing is left of it
 pub drop-either_all : (first second : List Entry) (i j : ℕ) → (length first ≤ i) ⊎ (length second ≤ j) → (drop i first ≡ []) ⊎ (drop j second ≡ [])

@@ -1,8 +1,14 @@
 -- A row laid out by position, so that the sums with another row are met in one walk of the other (pruned landmark labelling, SIGMOD 2013).
-use Rattle.std.specs.Prelude.{◌≡◌, ◌⊎◌, ℕ, ◌^◌, ◌<◌, List, All, Contains, length, slice_index_or}
+use Rattle.std.specs.Prelude.{◌≡◌, ◌⊎◌, ℕ, ◌^◌, ◌<◌, ◌≤◌, List, All, Contains, length, slice_index_or}
 use Rattle.walk_laws.specs.declared.entry.Entry.{Entry}
+use Rattle.walk_laws.specs.Labelling.{label_row}
+use Rattle.hub_index.specs.HubIndex.{HubIndex}
 
--- what stands where a row has no entry: more than each sum of two distances
+-- each distance of the index is short, so that a sum of two takes no more than 63 bits
+abbrev pub AreShort : HubIndex → Type 0
+AreShort index = (v : ℕ) → 1 ≤ v → v ≤ length index.order → All (λ e. e.dist < 2 ^ 62) (label_row index.rows v)
+
+-- what stands where a row has no entry: more than each sum of two short distances
 abbrev pub far : ℕ
 far = 2 ^ 63
 

@@ -5,5 +5,5 @@ pub enum Answer {
     Far,
     /// The least sum of the distances to a hub that both rows have, in the graph's weights, and the highest-ranked hub of
     /// that sum, a node number from 1.
-    Near { hub: u32, dist: u64 },
+    Near { hub: u32, dist: u128 },
 }

@@ -2,13 +2,14 @@ ghost use Rattle.std.specs.Prelude.{◌≡◌, ℕ, ◌^◌, ◌<◌, ◌≤◌,
 ghost use Rattle.std.specs.List.{AllZip};
 ghost use Rattle.walk_laws.specs.Labelling.{label_row};
 ghost use Rattle.walk_laws.specs.Meet.{IsMeet};
-ghost use Rattle.hub_query.specs.HubTables.{HoldsRow, ArePlaces};
+ghost use Rattle.hub_query.specs.HubTables.{AreShort, HoldsRow, ArePlaces};
 ghost use Rattle.hub_query.specs.Meant.{meant, IsMeetOf};
 ghost use Rattle.hub_query.specs.Parts.{AreJoined};
 
 use crate::answer::Answer;
 use crate::answers::Answers;
 use crate::hub_table::{clear, empty_table, least_through, load};
+use crate::meeting::ask;
 use dimacs_text::Pairs;
 use hub_index::Index;
 use rayon::current_num_threads;
@@ -69,6 +70,9 @@ fn ask_part(alloc: Global, index: &Index, pairs: &[(u32, u32)]) -> Result<Answer
     requires nodes { All (λ p. (1 ≤ p.0) × (p.0 ≤ length index.now.order) × (1 ≤ p.1) × (p.1 ≤ length index.now.order)) pairs.now }
     ensures { IfOk result (λ answers. AllZip (IsMeetOf index.now) pairs.now answers) }
 {
+    if !index.is_short() {
+        return ask_each(alloc, index, pairs);
+    }
     let mut answers = vec![in alloc; Answer::Far; pairs.len()]?;
     let Some(first) = pairs.first() else {
         return Ok(Answers::new(answers));
@@ -76,6 +80,19 @@ fn ask_part(alloc: Global, index: &Index, pairs: &[(u32, u32)]) -> Result<Answer
     let mut table = table_of(alloc, index, first.0)?;
     let places = by_first_node(alloc, pairs)?;
     ask_places(index, pairs, &places, first.0, &mut table, &mut answers);
+    Ok(Answers::new(answers))
+}
+
+/// The answers of pairs, in their order, one by one: a table has no room for long distances. The only error is that memory ran
+/// out.
+fn ask_each(alloc: Global, index: &Index, pairs: &[(u32, u32)]) -> Result<Answers, AllocError>
+    requires { All (λ p. (1 ≤ p.0) × (p.0 ≤ length index.now.order) × (1 ≤ p.1) × (p.1 ≤ length index.now.order)) pairs.now }
+    ensures { IfOk result (λ answers. AllZip (IsMeetOf index.now) pairs.now answers) }
+{
+    let mut answers = Vec::with_capacity(alloc, pairs.len())?;
+    for pair in pairs {
+        answers.push(ask(index, pair.0, pair.1))?;
+    }
     Ok(Answers::new(answers))
 }
 
@@ -89,6 +106,7 @@ fn ask_places(
     table: &mut [u64],
     answers: &mut [Answer],
 )
+    requires short { AreShort index.now }
     requires nodes { All (λ p. (1 ≤ p.0) × (p.0 ≤ length index.now.order) × (1 ≤ p.1) × (p.1 ≤ length index.now.order)) _pairs.now }
     requires places { ArePlaces _pairs.now places.now }
     requires held { (1 ≤ held) × (held ≤ length index.now.order) }
@@ -148,6 +166,7 @@ fn turn(index: &Index, table: &mut [u64], held: u32, u: u32)
 /// What the rows of the nodes `u` and `v` say of the pair, by a table that holds the row of the node `held`, and then that of
 /// `u`; nodes are numbers from 1.
 fn ask_from(index: &Index, table: &mut [u64], held: u32, u: u32, v: u32) -> Answer
+    requires short { AreShort index.now }
     requires held { (1 ≤ held) × (held ≤ length index.now.order) }
     requires first { (1 ≤ u) × (u ≤ length index.now.order) }
     requires second { (1 ≤ v) × (v ≤ length index.now.order) }
@@ -161,7 +180,7 @@ fn ask_from(index: &Index, table: &mut [u64], held: u32, u: u32, v: u32) -> Answ
     match least_through(table, index.row(v)) {
         None => Answer::Far,
         Some((pos, dist)) => Answer::Near {
-            dist,
+            dist: u128::from(dist),
             hub: index.ranking().at(pos),
         },
     }

@@ -7,7 +7,7 @@ ghost use Rattle.hub_query.specs.HubTables.{HoldsRow, far};
 use hub_index::Entry;
 use std::alloc::{AllocError, Global};
 
-/// What a table has at a position where the row has no entry, 2^63: more than each sum of two distances of an index.
+/// What a table has at a position where the row has no entry, 2^63: more than each sum of two distances of a short index.
 const FAR: u64 = 9223372036854775808;
 
 /// A table of the positions 0..n that holds no row. The only error is that memory ran out.
@@ -23,11 +23,12 @@ pub fn load(table: &mut [u64], row: &[Entry])
     requires empty { HoldsRow [] table.old }
     requires rises { IsStrictlyIncreasing (map (λ e. e.pos) row.now) }
     requires within { All (λ e. e.pos < length table.old) row.now }
+    requires fits { All (λ e. e.dist < 2 ^ 64) row.now }
     ensures row { HoldsRow row.now table.new }
     ensures size { length table.new ≡ length table.old }
 {
     for entry in row {
-        table[entry.pos as usize] = entry.dist;
+        table[entry.pos as usize] = entry.dist.get_u64();
     }
 }
 
@@ -55,7 +56,7 @@ pub fn least_through(table: &[u64], row: &[Entry]) -> Option<(u32, u64)>
 {
     let (mut pos, mut least) = (0, FAR);
     for entry in row {
-        let sum = table[entry.pos as usize] + entry.dist;
+        let sum = table[entry.pos as usize] + entry.dist.get_u64();
         if sum < least {
             pos = entry.pos;
             least = sum;

@@ -3,7 +3,7 @@ ghost use Rattle.std.specs.List.Sorted.{IsStrictlyIncreasing};
 ghost use Rattle.walk_laws.specs.declared.graph.Edge.{Edge};
 ghost use Rattle.walk_laws.specs.Answer.{IsAnswer};
 ghost use Rattle.walk_laws.specs.Joined.{Joined};
-ghost use Rattle.walk_laws.specs.Labelling.{IsChl};
+ghost use Rattle.walk_laws.specs.Labelling.{IsChl, label_row};
 ghost use Rattle.walk_laws.specs.Laws.{WeighAtLeastOne};
 ghost use Rattle.walk_laws.specs.Meet.{IsLeastSum, ShareNone, IsMeet};
 ghost use Rattle.hub_query.specs.Meant.{meant};
@@ -30,18 +30,69 @@ pub fn ask(index: &Index, u: u32, v: u32) -> Answer
     ensures answer { (edges : List Edge) → WeighAtLeastOne edges → IsChl (Joined edges) index.now.order index.now.rows
         → IsAnswer (Joined edges) index.now.order u v (meant result) }
 {
-    match least_sum(index.row(u), index.row(v)) {
+    let ranking = index.ranking();
+    match least_of(index, u, v) {
         None => Answer::Far,
         Some((pos, dist)) => Answer::Near {
             dist,
-            hub: index.ranking().at(pos),
+            hub: ranking.at(pos),
         },
     }
 }
 
-/// The least position with the least sum of two distances at one position, and that sum; None where the rows share no
-/// position.
-fn least_sum(first: &[Entry], second: &[Entry]) -> Option<(u32, u64)>
+/// The least position with the least sum of two distances at one position of the rows of the nodes `u` and `v`, numbers
+/// from 1, and that sum; None where the rows share no position.
+fn least_of(index: &Index, u: u32, v: u32) -> Option<(u32, u128)>
+    requires first { 1 ≤ u }
+    requires first_within { u ≤ length index.now.order }
+    requires second { 1 ≤ v }
+    requires second_within { v ≤ length index.now.order }
+    ensures { MatchOption result (ShareNone (label_row index.now.rows u) (label_row index.now.rows v))
+        (λ best. IsLeastSum (label_row index.now.rows u) (label_row index.now.rows v) best.0 best.1) }
+{
+    if index.is_short() {
+        least_short_sum(index.row(u), index.row(v))
+    } else {
+        least_sum(index.row(u), index.row(v))
+    }
+}
+
+/// The same of two rows.
+fn least_sum(first: &[Entry], second: &[Entry]) -> Option<(u32, u128)>
+    requires first_rises { IsStrictlyIncreasing (map (λ e. e.pos) first.now) }
+    requires second_rises { IsStrictlyIncreasing (map (λ e. e.pos) second.now) }
+    requires first_fits { All (λ e. e.dist < 2 ^ 64) first.now }
+    requires second_fits { All (λ e. e.dist < 2 ^ 64) second.now }
+    ensures { MatchOption result (ShareNone first.now second.now) (λ best. IsLeastSum first.now second.now best.0 best.1) }
+{
+    let (mut i, mut j) = (0, 0);
+    let (mut pos, mut least) = (0, u128::MAX);
+    while i < first.len() && j < second.len() {
+        let a = first[i];
+        let b = second[j];
+        if a.pos == b.pos {
+            let total = a.dist.get() + b.dist.get();
+            if total < least {
+                pos = a.pos;
+                least = total;
+            }
+            i += 1;
+            j += 1;
+        } else if a.pos < b.pos {
+            i += 1;
+        } else {
+            j += 1;
+        }
+    }
+    if least == u128::MAX {
+        None
+    } else {
+        Some((pos, least))
+    }
+}
+
+/// The same of two rows with short distances, whose sums are found faster.
+fn least_short_sum(first: &[Entry], second: &[Entry]) -> Option<(u32, u128)>
     requires first_rises { IsStrictlyIncreasing (map (λ e. e.pos) first.now) }
     requires second_rises { IsStrictlyIncreasing (map (λ e. e.pos) second.now) }
     requires first_fits { All (λ e. e.dist < 2 ^ 62) first.now }
@@ -54,7 +105,7 @@ fn least_sum(first: &[Entry], second: &[Entry]) -> Option<(u32, u64)>
         let a = first[i];
         let b = second[j];
         if a.pos == b.pos {
-            let sum = a.dist + b.dist;
+            let sum = a.dist.get_u64() + b.dist.get_u64();
             if sum < least {
                 pos = a.pos;
                 least = sum;
@@ -70,6 +121,6 @@ fn least_sum(first: &[Entry], second: &[Entry]) -> Option<(u32, u64)>
     if least == u64::MAX {
         None
     } else {
-        Some((pos, least))
+        Some((pos, u128::from(least)))
     }
 }

@@ -8,7 +8,7 @@ pub enum Path {
     /// The rows of the two nodes share no hub.
     Unreachable,
     /// A walk of the graph of this length, with the nodes that it passes, both ends counted.
-    Walk { length: u64, nodes: Nodes },
+    Walk { length: u128, nodes: Nodes },
     /// The index is of another graph: from `at` no neighbour leads on to `to` as the rows have it.
     Stuck { at: u32, to: u32 },
 }

@@ -15,7 +15,7 @@ use std::alloc::{AllocError, Global};
 use walk_laws::{Arc, Graph};
 
 /// Whether the rows of the nodes `x` and `v`, numbers from 1, say that they are `dist` apart.
-fn are_apart_by(index: &Index, x: u32, v: u32, dist: u64) -> bool
+fn are_apart_by(index: &Index, x: u32, v: u32, dist: u128) -> bool
     requires first { 1 ≤ x }
     requires first_within { x ≤ length index.now.order }
     requires second { 1 ≤ v }
@@ -29,7 +29,7 @@ fn are_apart_by(index: &Index, x: u32, v: u32, dist: u64) -> bool
 }
 
 /// The arc from `x` to the least node that is onward to `v`, where the rows put `x` at `left` from it.
-fn arc_onward(graph: &Graph, index: &Index, x: u32, v: u32, left: u64) -> Option<Arc>
+fn arc_onward(graph: &Graph, index: &Index, x: u32, v: u32, left: u128) -> Option<Arc>
     requires graph { IsGraph graph.now.n graph.now.edges }
     requires size { length index.now.order ≡ graph.now.n }
     requires first { 1 ≤ x }
@@ -40,7 +40,8 @@ fn arc_onward(graph: &Graph, index: &Index, x: u32, v: u32, left: u64) -> Option
         (λ arc. LeadsOn (Joined graph.now.edges) index.now v x left arc) }
 {
     for arc in graph.arcs(x) {
-        if arc.w <= left && are_apart_by(index, arc.to, v, left - arc.w) {
+        let w = u128::from(arc.w);
+        if w <= left && are_apart_by(index, arc.to, v, left - w) {
             return Some(*arc);
         }
     }
@@ -85,7 +86,7 @@ fn walk(
     index: &Index,
     u: u32,
     v: u32,
-    far: u64,
+    far: u128,
 ) -> Result<Path, AllocError>
     requires graph { IsGraph graph.now.n graph.now.edges }
     requires size { length index.now.order ≡ graph.now.n }
@@ -104,7 +105,7 @@ fn walk(
             return Ok(Path::Stuck { at, to: v });
         };
         at = arc.to;
-        left -= arc.w;
+        left -= u128::from(arc.w);
         nodes.push(at)?;
     }
     Ok(Path::Walk {

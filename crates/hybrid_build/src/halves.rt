@@ -1,13 +1,15 @@
 //! The two halves of a build: the rows of the roots that are planted, and the index to which supersteps bring them. What each
 //! hands on names how many roots were planted, which nobody can say of the index alone.
-ghost use Rattle.std.specs.Prelude.{◌≡◌, ◌<◌, ◌≤◌, length, min, IfOk};
+ghost use Rattle.std.specs.Prelude.{◌≡◌, ◌<◌, ◌≤◌, length, min, IfOk, IfErr};
 ghost use Rattle.walk_laws.specs.Joined.{Joined};
 ghost use Rattle.walk_laws.specs.Labelling.{IsChl, IsPartChl};
+ghost use Rattle.walk_laws.specs.Overflow.{Overflows};
+ghost use Rattle.hub_index.specs.Faults.{TellsFault};
 ghost use Rattle.renumbering.specs.Copies.{IsCopyOf};
 
 use desk_io::Gate;
 use gll_build::grow_roots;
-use hub_index::{RowList, SplitIndex};
+use hub_index::{BuildFault, RowList, SplitIndex};
 use plant_build::plant_roots;
 use renumbering::{Job, WorkingCopy};
 use std::alloc::AllocError;
@@ -73,14 +75,14 @@ impl Model for HybridIndex {
 impl HybridIndex {
     /// The second half: supersteps over the rows that were planted, on the copy on which they were, until no root is left, and the index
     /// of the graph and the ranking that the copy was made of. Each worker puts `cut` entries at least in a superstep while roots are
-    /// left. The only error is that memory ran out.
+    /// left. Where a hub is too far for an index the first such one is told; the only other error is that memory ran out.
     pub fn grown_from<R: Threads + Wait + Sync, G: Gate + Sync>(
         rt: &R,
         job: &Job<'_>,
         copy: WorkingCopy,
         planted: PlantedRows,
         gate: &G,
-    ) -> Result<HybridIndex, AllocError>
+    ) -> Result<HybridIndex, BuildFault>
         requires copy { IsCopyOf job.now.graph.now job.now.ranking.now copy }
         requires copied { length copy.ranking ≡ copy.graph.n }
         requires within { planted.roots ≤ job.now.graph.now.n }
@@ -88,6 +90,8 @@ impl HybridIndex {
         ensures planted { IfOk result (λ hybrid. hybrid.planted ≡ planted.roots) }
         ensures order { IfOk result (λ hybrid. hybrid.index.order ≡ job.now.ranking.now) }
         ensures labelling { IfOk result (λ hybrid. IsChl (Joined job.now.graph.now.edges) job.now.ranking.now hybrid.index.rows) }
+        ensures fits { IfOk result (λ _. ¬ Overflows (Joined job.now.graph.now.edges) job.now.ranking.now) }
+        ensures fault { IfErr result (λ fault. TellsFault (Joined job.now.graph.now.edges) job.now.ranking.now fault) }
     {
         let PlantedRows { rows, roots } = planted;
         let copied = Job::new(job.alloc, &copy.graph, &copy.ranking, job.workers, job.cut);

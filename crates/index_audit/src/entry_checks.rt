@@ -33,6 +33,7 @@ pub fn fault_at<V: Beside>(
 {
     let row = index.row(v);
     let entry = row[place];
+    let dist = entry.dist.get();
     let hub = index.ranking().at(entry.pos);
     let around = look_around(graph, index, v, hub, entry);
     if !around.walked {
@@ -41,7 +42,7 @@ pub fn fault_at<V: Beside>(
     if let Some(to) = around.uncovered {
         return Some(Audit::NotCovered { v, to, hub });
     }
-    if let Some(pos) = first_meet(&row[..place], index.row(hub), entry.dist) {
+    if let Some(pos) = first_meet(&row[..place], index.row(hub), dist) {
         let by = index.ranking().at(pos);
         return Some(Audit::Redundant { v, hub, by });
     }

@@ -2,10 +2,10 @@ ghost use Rattle.std.specs.Prelude.{◌≡◌, ℕ, ◌<◌, ◌≤◌, Contains
 ghost use Rattle.std.specs.List.Sorted.{IsStrictlyIncreasing};
 ghost use Rattle.index_audit.specs.Places.{BelowUpTo, pos_at};
 
-use hub_index::Entry;
+use walk_laws::{Dist, Entry};
 
 /// The distance that a row has at the position `pos`, from 0, in as many steps as the logarithm of its length.
-pub fn distance_at(row: &[Entry], pos: u32) -> Option<u64>
+pub fn distance_at(row: &[Entry], pos: u32) -> Option<Dist>
     requires { IsStrictlyIncreasing (map (λ e. e.pos) row.now) }
     ensures { MatchOption result ((d : ℕ) → ¬ Contains row.now (record { pos = pos; dist = d })) (λ d. Contains row.now (record { pos = pos; dist = d })) }
 {

@@ -1,5 +1,5 @@
 //! What the rows of a node's neighbours tell of an entry of its row, each looked at once.
-ghost use Rattle.std.specs.Prelude.{◌≡◌, ◌↔◌, ℕ, ◌+◌, ◌^◌, ◌<◌, ◌≤◌, Some, MatchOption, IsTrue, length, slice_get};
+ghost use Rattle.std.specs.Prelude.{◌≡◌, ◌↔◌, ℕ, ◌≤◌, Some, MatchOption, IsTrue, length, slice_get};
 ghost use Rattle.walk_laws.specs.Graph.{IsGraph};
 ghost use Rattle.walk_laws.specs.Joined.{Joined};
 ghost use Rattle.entry_vias.specs.RowVias.{IsNearer, IsFirstNearer};
@@ -8,8 +8,8 @@ ghost use Rattle.index_audit.specs.Neighbours.{IsToldBy};
 
 use crate::covering::first_meet;
 use crate::lookup::distance_at;
-use hub_index::{Entry, Index};
-use walk_laws::{Arc, Graph};
+use hub_index::Index;
+use walk_laws::{Arc, Entry, Graph};
 
 /// What the row of a neighbour tells of an entry.
 #[derive(Clone, Copy)]
@@ -39,13 +39,15 @@ fn look_at(index: &Index, hub: u32, entry: Entry, arc: Arc) -> Told
     requires place { slice_get index.now.order entry.pos ≡ Some hub }
     requires node { 1 ≤ arc.to }
     requires within { arc.to ≤ length index.now.order }
-    requires fits { entry.dist + arc.w < 2 ^ 64 }
     ensures { IsToldBy index.now.rows hub entry arc result }
 {
     let row = index.row(arc.to);
-    let way = entry.dist + arc.w;
+    let dist = entry.dist.get();
+    let weight = u128::from(arc.w);
+    let way = dist + weight;
     if let Some(far) = distance_at(row, entry.pos) {
-        if far <= entry.dist && entry.dist - far == arc.w {
+        let far = far.get();
+        if far + weight == dist {
             return Told::Nearer;
         }
         if far <= way {
@@ -65,7 +67,6 @@ pub fn look_around(graph: &Graph, index: &Index, v: u32, hub: u32, entry: Entry)
     requires node { 1 ≤ v }
     requires within { v ≤ graph.now.n }
     requires place { slice_get index.now.order entry.pos ≡ Some hub }
-    requires fits { entry.dist < 2 ^ 62 }
     ensures nearer { MatchOption result.nearer ((z : ℕ) → ¬ IsNearer (Joined graph.now.edges) index.now.rows v entry z) (λ y. IsFirstNearer (Joined graph.now.edges) index.now.rows v entry y) }
     ensures walked { IsTrue result.walked ↔ IsWalked (Joined graph.now.edges) index.now.rows v hub entry }
     ensures covered { MatchOption result.uncovered (IsCovered (Joined graph.now.edges) index.now.rows v hub entry) (λ to. IsFirstUncovered (Joined graph.now.edges) index.now.rows v hub entry to) }

@@ -1,5 +1,5 @@
 -- How a reader answers a piece.
-use Rattle.std.proofs.Common.{◌≡◌, ◌⊎◌, ℕ, List, [], Some, None, Result, Ok, Err, refl, sym, ap, subst, ◌∙◌, inl, inr}
+use Rattle.std.proofs.Common.{◌≡◌, ◌⊎◌, ℕ, List, [], Some, None, Result, Ok, Err, refl, sym, ap, ◌∙◌, inl, inr}
 use Rattle.desk_io.specs.Reader.{TakesPiece}
 use Rattle.index_file.specs.declared.fault.IndexFault.{IndexFault}
 use Rattle.index_file.specs.declared.fault.IndexFault.TheVariants.{NoMemory}

@@ -115,12 +115,12 @@ module _ (done : ReadRows) (count : ℕ) (prefix : List Entry) (vias : List ℕ)
       (Conforms-number (Distance done (record { count = count; entries = prefix; vias = vias }) (next_own done)) 0 (after_distance done (record { count = count; entries = prefix; vias = vias }) (own_entry done.order (next_node done))) (omega arith) (λ at. rw distance refl))
 
   -- and those of another one
-  other_entry : (e : Entry) → least_after prefix ≤ e.pos → e.pos < next_own done → (1 ≤ e.dist) × (e.dist < 2 ^ 62) → length prefix + 1 < count →
+  other_entry : (e : Entry) → least_after prefix ≤ e.pos → e.pos < next_own done → (1 ≤ e.dist) × (e.dist < 2 ^ 64) → length prefix + 1 < count →
       Conforms (Position done (record { count = count; entries = prefix; vias = vias })) (entry_bytes e) (after_distance done (record { count = count; entries = prefix; vias = vias }) e)
   other_entry e above below far more =
       let is : eqb (length prefix + 1) count ≡ false = ne_eqb _ _ (λ same. omega arith) in
       let position : is_next_position (next_own done) (record { count = count; entries = prefix; vias = vias }) e.pos ≡ true = rw (le-leb (least_after prefix) e.pos above, is) (lt-ltb e.pos (next_own done) below) in
-      let distance : is_next_distance (record { count = count; entries = prefix; vias = vias }) e.dist ≡ true = rw is (and_from (leb 1 e.dist) (ltb e.dist (2 ^ 62)) (le-leb 1 e.dist far.0) (lt-ltb e.dist (2 ^ 62) far.1)) in
+      let distance : is_next_distance (record { count = count; entries = prefix; vias = vias }) e.dist ≡ true = rw is (and_from (leb 1 e.dist) (ltb e.dist (2 ^ 64)) (le-leb 1 e.dist far.0) (lt-ltb e.dist (2 ^ 64) far.1)) in
       Conforms-then _ _ _ (word e.pos) (big_bytes 8 e.dist)
       (Conforms-number (Position done (record { count = count; entries = prefix; vias = vias })) e.pos (Distance done (record { count = count; entries = prefix; vias = vias }) e.pos) (omega arith) (λ at. rw position refl))
       (Conforms-number (Distance done (record { count = count; entries = prefix; vias = vias }) e.pos) e.dist (after_distance done (record { count = count; entries = prefix; vias = vias }) e) (omega (arith, far.1)) (λ at. rw distance refl))
@@ -139,7 +139,7 @@ module _ (done : ReadRows) (plain : is_some done.vias ≡ false) (count : ℕ) (
   next_plain : (part : Part) (e : Entry) → after_distance done part e ≡ after_entry done (with_entry part e)
   next_plain part e = rw plain refl
 
-  Conforms-entries : (prefix left : List Entry) → Rises pos_of (prefix ++ (left ++ own_entry done.order (next_node done) ∷ [])) → All (λ e. (1 ≤ e.dist) × (e.dist < 2 ^ 62)) left → length (prefix ++ (left ++ own_entry done.order (next_node done) ∷ [])) ≡ count →
+  Conforms-entries : (prefix left : List Entry) → Rises pos_of (prefix ++ (left ++ own_entry done.order (next_node done) ∷ [])) → All (λ e. (1 ≤ e.dist) × (e.dist < 2 ^ 64)) left → length (prefix ++ (left ++ own_entry done.order (next_node done) ∷ [])) ≡ count →
       Conforms (Position done (record { count = count; entries = prefix; vias = [] })) (flat_map entry_bytes (left ++ own_entry done.order (next_node done) ∷ [])) (after_row (with_row done (prefix ++ (left ++ own_entry done.order (next_node done) ∷ [])) []))
   Conforms-entries prefix [] up far size =
       let long = length-append prefix (own_entry done.order (next_node done) ∷ []) in
@@ -180,7 +180,7 @@ module _ (done : ReadRows) (traced : is_some done.vias ≡ true) (count : ℕ) (
       let via : is_next_via (length done.order) (next_node done) (record { count = count; entries = prefix; vias = vias }) y ≡ true = rw is (and_from (leb 1 y) (leb y (length done.order) && not (eqb y (next_node done))) (le-leb 1 y node.0) (and_from (leb y (length done.order)) (not (eqb y (next_node done))) (le-leb y (length done.order) node.1) other)) in
       Conforms-number (Via done (record { count = count; entries = prefix; vias = vias }) e) y (after_entry done (record { count = count; entries = prefix ++ e ∷ []; vias = vias ++ y ∷ [] })) small (λ at. rw via refl)
 
-  Conforms-traced_entries : (prefix left : List Entry) (vias ahead : List ℕ) → Rises pos_of (prefix ++ (left ++ own_entry done.order (next_node done) ∷ [])) → All (λ e. (1 ≤ e.dist) × (e.dist < 2 ^ 62)) left → length (prefix ++ (left ++ own_entry done.order (next_node done) ∷ [])) ≡ count →
+  Conforms-traced_entries : (prefix left : List Entry) (vias ahead : List ℕ) → Rises pos_of (prefix ++ (left ++ own_entry done.order (next_node done) ∷ [])) → All (λ e. (1 ≤ e.dist) × (e.dist < 2 ^ 64)) left → length (prefix ++ (left ++ own_entry done.order (next_node done) ∷ [])) ≡ count →
       length ahead ≡ length left → All (λ y. (1 ≤ y) × (y ≤ length done.order) × (y ≢ next_node done)) ahead → length done.order < 2 ^ 32 →
       Conforms (Position done (record { count = count; entries = prefix; vias = vias })) (flat_map traced_entry_bytes (zip (left ++ own_entry done.order (next_node done) ∷ []) (ahead ++ 0 ∷ []))) (after_row (with_row done (prefix ++ (left ++ own_entry done.order (next_node done) ∷ [])) (vias ++ (ahead ++ 0 ∷ []))))
   Conforms-traced_entries prefix [] vias [] up far size same node few =

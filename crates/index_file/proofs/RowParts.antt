@@ -1,5 +1,5 @@
 -- A row in two parts: how long it is, and where its entries stand.
-use Rattle.std.proofs.Common.{◌≡◌, ℕ, ◌+◌, ◌<◌, List, length, map, get_or, sym, ap, ◌∙◌, arith}
+use Rattle.std.proofs.Common.{◌≡◌, ℕ, ◌+◌, ◌<◌, List, All, length, map, get_or, sym, ap, subst, ◌∙◌, arith}
 use Rattle.std.proofs.lemmas.List.{length-append, length-map, get_or-map, get_or_append_left, get_or-append-add}
 use Rattle.walk_laws.specs.declared.entry.Entry.{Entry}
 use Rattle.hub_index.specs.CompactRows.{widened, row_of_parts}
@@ -21,3 +21,7 @@ module _ (compact : List CompactEntry) (full : List Entry) where
   full_at i d =
       ap (λ k. get_or (row_of_parts compact full) (k + i) d) (sym first_size)
       ∙ get_or-append-add (map (λ e. widened e) compact) full i d
+
+  -- what holds of the row holds of its second part
+  pub All-full : (P : Entry → Type 0) → All P (row_of_parts compact full) → All P full
+  All-full P all k d lt = subst P (full_at k d) (all (length compact + k) d (omega (arith, lt, length-row_of_parts)))

@@ -110,11 +110,11 @@ below_own own pos part may more =
 pub above_all : (own pos : ℕ) (part : Part) → is_next_position own part pos ≡ true → least_after part.entries ≤ pos
 above_all own pos part may = leb-true _ _ (and_parts _ _ may).0
 
-far_off : (part : Part) (dist : ℕ) → is_next_distance part dist ≡ true → is_last part ≡ false → (1 ≤ dist) × (dist < 2 ^ 62)
+far_off : (part : Part) (dist : ℕ) → is_next_distance part dist ≡ true → is_last part ≡ false → (1 ≤ dist) × (dist < 2 ^ 64)
 far_off part dist may more =
-    let test : (leb 1 dist && ltb dist (2 ^ 62)) ≡ true = rw more at may in
-    let both = and_parts (leb 1 dist) (ltb dist (2 ^ 62)) test in
-    (leb-true 1 dist both.0, ltb-true dist (2 ^ 62) both.1)
+    let test : (leb 1 dist && ltb dist (2 ^ 64)) ≡ true = rw more at may in
+    let both = and_parts (leb 1 dist) (ltb dist (2 ^ 64)) test in
+    (leb-true 1 dist both.0, ltb-true dist (2 ^ 64) both.1)
 
 -- an entry that isn't the last one leaves a part of a row
 pub IsPart-more : (own pos dist : ℕ) (part : Part) (vias : List ℕ) → IsPart own part → is_next_position own part pos ≡ true → is_next_distance part dist ≡ true → is_last part ≡ false → IsPart own (record { count = part.count; entries = part.entries ++ record { pos = pos; dist = dist } ∷ []; vias = vias })
@@ -124,7 +124,7 @@ IsPart-more own pos dist part vias is position distance more =
     record {
       rising = rising_push part.entries e is.rising above;
       below = omega (arith, least_after-push part.entries e above, below_own own pos part position more);
-      far = All-push (λ x. (1 ≤ x.dist) × (x.dist < 2 ^ 62)) part.entries e is.far (far_off part dist distance more);
+      far = All-push (λ x. (1 ≤ x.dist) × (x.dist < 2 ^ 64)) part.entries e is.far (far_off part dist distance more);
       more = omega (arith, length-append part.entries (e ∷ []), is.more, not_last);
     }
   where

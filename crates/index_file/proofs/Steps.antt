@@ -1,7 +1,7 @@
 -- The steps of the reading: each leads as the bytes that it takes do.
 use Rattle.std.proofs.Common.{◌≡◌, ◌⊎◌, ℕ, zero, suc, ◌+◌, ◌<◌, ◌≤◌, Bool, true, false, if◌then◌else◌, is_some, List, [], ◌∷◌, ◌++◌, length, take, drop, get_or, Result, Ok, Err, refl, sym, ap, subst, ◌∙◌, inl, inr, append_assoc, arith}
 use Rattle.std.proofs.Math.ListN.{get_or-append}
-use Rattle.std.proofs.lemmas.Bool.{ne_eqb, eqb-false, cases_lt}
+use Rattle.std.proofs.lemmas.Bool.{eq-eqb, ne_eqb, eqb-true, eqb-false, cases_lt}
 use Rattle.std.proofs.lemmas.List.{length-append, append-nil, get_or_past, get_or-append-add, take-append-drop, length-take, length-drop}
 use Rattle.byteorder.specs.Endian.{big_number}
 use Rattle.byteorder.specs.Numbers.{big_from-take}
@@ -9,11 +9,11 @@ use Rattle.walk_laws.specs.declared.entry.Entry.{Entry}
 use Rattle.index_file.specs.declared.fault.IndexFault.{IndexFault}
 use Rattle.index_file.specs.declared.fault.IndexFault.TheVariants as fault
 use Rattle.index_file.specs.declared.next.Next.{Next}
-use Rattle.index_file.specs.declared.next.Next.TheVariants.{Node, Position, Distance, Via}
-use Rattle.index_file.specs.Parts.{Names, ReadRows, Part, with_node, is_new_node, next_node, next_own, with_entry, with_via, is_last, is_next_position, is_next_distance, is_next_via}
+use Rattle.index_file.specs.declared.next.Next.TheVariants.{Node, Count, Position, Distance, Via}
+use Rattle.index_file.specs.Parts.{Names, ReadRows, Part, with_node, with_row, is_new_node, next_node, next_own, no_entries, with_entry, with_via, is_last, is_next_position, is_next_distance, is_next_via}
 use Rattle.index_file.specs.Judging.{Reached, ◌>>=◌, width, after_field, after_node, after_distance, after_entry, fed}
 use Rattle.index_file.specs.Cutting.{fed-append, fed-err}
-use Rattle.index_file.specs.Gives.{Takes, Refuses, at_node, at_position, at_via, entry_width}
+use Rattle.index_file.specs.Gives.{Takes, Refuses, at_node, at_count, at_position, at_via, entry_width}
 use Rattle.index_file.specs.Sound.{IsSound}
 use Rattle.index_file.proofs.Fields.{IsBytes, All-from_bytes, bytes_from_All, no_bytes, fed-field, fed-rest_of_field}
 use Rattle.index_file.proofs.SoundBytes.{width-some, Leads-bytes}
@@ -106,6 +106,9 @@ Runs-more old cur new bytes rest field left runs fits parts leads =
       sound = IsSound-fed cur new field runs.sound of_field leads;
       takes = Takes-more old cur new bytes rest field left runs.takes parts leads;
     }
+
+pub Runs-then : (old cur new : Reached) (bytes rest left : List ℕ) → Runs old bytes cur rest → IsSound new → Takes cur rest new left → Runs old bytes new left
+Runs-then old cur new bytes rest left runs sound takes = record { sound = sound; takes = Takes-then old cur new bytes rest left runs.takes takes }
 
 pub fed-node : (names : Names) (at v : ℕ) (field : List ℕ) → length field ≡ 4 → v ≡ big_number 4 field → is_new_node names v ≡ true → length names.order + 1 < names.n → fed (Ok (at_node names at)) field ≡ Ok (at_node (with_node names v) (at + 4))
 fed-node names at v field long is new more =
@@ -200,34 +203,55 @@ pub entry_width-between : (done : ReadRows) → (12 ≤ entry_width done) × (en
 entry_width-between done = width_between (is_some done.vias)
 
 -- an entry that isn't the last one of its row leaves the row open
-open_row : (done : ReadRows) (part : Part) (e : Entry) (vias : List ℕ) → is_last part ≡ false → after_entry done (record { count = part.count; entries = part.entries ++ e ∷ []; vias = vias }) ≡ Position done (record { count = part.count; entries = part.entries ++ e ∷ []; vias = vias })
-open_row done part e vias more = rw (ne_eqb (length (part.entries ++ e ∷ [])) part.count (λ same. eqb-false (length part.entries + 1) part.count more (omega (arith, length-append part.entries (e ∷ []))))) refl
+pub open_row : (done : ReadRows) (part new : Part) → is_last part ≡ false → new.count ≡ part.count → length new.entries ≡ length part.entries + 1 → after_entry done new ≡ Position done new
+open_row done part new more count long = rw (ne_eqb (length new.entries) new.count (λ same. eqb-false (length part.entries + 1) part.count more (omega (arith, count, long, same)))) refl
+
+-- and the last one of a row that isn't the last closes it
+pub closed_row : (done : ReadRows) (part new : Part) → is_last part ≡ true → new.count ≡ part.count → length new.entries ≡ length part.entries + 1 → length done.rows + 1 < length done.order → after_entry done new ≡ Count (with_row done new.entries new.vias)
+closed_row done part new last count long more =
+    rw (eq-eqb (length new.entries) new.count (omega (arith, count, long, eqb-true (length part.entries + 1) part.count last)))
+    (rw (ne_eqb (length (done.rows ++ new.entries ∷ [])) (length done.order) (λ same. omega (arith, length-append done.rows (new.entries ∷ []), same, more))) refl)
+
+-- the number of entries of a row
+module _ (done : ReadRows) (at count : ℕ) (field : List ℕ) (long : length field ≡ 4) (is : count ≡ big_number 4 field) where
+  count_value : big_number (length field) field ≡ count
+  count_value = ap (λ k. big_number k field) long ∙ sym is
+
+  pub fed-count : (count ≡ 0 → ⊥) → fed (Ok (at_count done at)) field ≡ Ok (at_position done (no_entries count) (at + 4))
+  fed-count some =
+      let judged : after_field at (Count done) count ≡ Ok (Position done (no_entries count)) = rw (ne_eqb count 0 some) refl in
+      fed-accepted (Count done) at field (Position done (no_entries count)) long (ap (after_field at (Count done)) count_value ∙ judged)
+      ∙ ap (λ k. Ok (record { next = Position done (no_entries count); held = []; at = at + k })) long
+
+  pub fed-no_count : count ≡ 0 → fed (Ok (at_count done at)) field ≡ Err (fault.Row (next_node done) 0)
+  fed-no_count none =
+      let judged : after_field at (Count done) count ≡ Err (fault.Row (next_node done) 0) = rw (eq-eqb count 0 none) refl in
+      fed-refused (Count done) at field (fault.Row (next_node done) 0) long (ap (after_field at (Count done)) count_value ∙ judged)
 
 -- the bytes of an entry without a via
-pub fed-plain : (done : ReadRows) (part : Part) (e : Entry) (at : ℕ) (field head tail : List ℕ) → is_last part ≡ false → is_some done.vias ≡ false → length head ≡ 12 → length field ≡ entry_width done → field ≡ head ++ tail → fed (Ok (at_position done part at)) head ≡ Ok (record { next = after_distance done part e; held = []; at = at + 12 }) → fed (Ok (at_position done part at)) field ≡ Ok (at_position done (with_entry part e) (at + entry_width done))
-fed-plain done part e at field head tail more plain head_long long parts taken =
+pub fed-plain : (done : ReadRows) (part : Part) (e : Entry) (at : ℕ) (field head tail : List ℕ) → is_some done.vias ≡ false → length head ≡ 12 → length field ≡ entry_width done → field ≡ head ++ tail → fed (Ok (at_position done part at)) head ≡ Ok (record { next = after_distance done part e; held = []; at = at + 12 }) → fed (Ok (at_position done part at)) field ≡ Ok (record { next = after_entry done (with_entry part e); held = []; at = at + entry_width done })
+fed-plain done part e at field head tail plain head_long long parts taken =
     let whole : length field ≡ 12 = rw plain at long in
     let none : tail ≡ [] = nothing tail (omega (arith, ap length parts, length-append head tail, head_long, whole)) in
-    let next : after_distance done part e ≡ Position done (with_entry part e) = rw plain (open_row done part e part.vias more) in
+    let next : after_distance done part e ≡ after_entry done (with_entry part e) = rw plain refl in
     let width_is : 12 ≡ entry_width done = rw plain refl in
     ap (fed (Ok (at_position done part at))) (parts ∙ ap (λ t. head ++ t) none ∙ append-nil head) ∙ taken
     ∙ ap (λ n. Ok (record { next = n; held = []; at = at + 12 })) next
-    ∙ ap (λ k. Ok (at_position done (with_entry part e) (at + k))) width_is
+    ∙ ap (λ k. Ok (record { next = after_entry done (with_entry part e); held = []; at = at + k })) width_is
   where
     nothing : (xs : List ℕ) → length xs ≡ 0 → xs ≡ []
     nothing [] none = refl
     nothing (x ∷ xs) none = absurd (omega arith)
 
 -- and of one with a via
-pub fed-traced : (done : ReadRows) (part : Part) (e : Entry) (y at : ℕ) (field head tail : List ℕ) → is_last part ≡ false → is_some done.vias ≡ true → field ≡ head ++ tail → fed (Ok (at_position done part at)) head ≡ Ok (record { next = after_distance done part e; held = []; at = at + 12 }) → fed (Ok (at_via done part e (at + 12))) tail ≡ Ok (record { next = after_entry done (with_via (with_entry part e) y); held = []; at = at + 12 + 4 }) → fed (Ok (at_position done part at)) field ≡ Ok (at_position done (with_via (with_entry part e) y) (at + entry_width done))
-fed-traced done part e y at field head tail more traced parts taken via =
+pub fed-traced : (done : ReadRows) (part : Part) (e : Entry) (y at : ℕ) (field head tail : List ℕ) → is_some done.vias ≡ true → field ≡ head ++ tail → fed (Ok (at_position done part at)) head ≡ Ok (record { next = after_distance done part e; held = []; at = at + 12 }) → fed (Ok (at_via done part e (at + 12))) tail ≡ Ok (record { next = after_entry done (with_via (with_entry part e) y); held = []; at = at + 12 + 4 }) → fed (Ok (at_position done part at)) field ≡ Ok (record { next = after_entry done (with_via (with_entry part e) y); held = []; at = at + entry_width done })
+fed-traced done part e y at field head tail traced parts taken via =
     let next : after_distance done part e ≡ Via done part e = rw traced refl in
     let width_is : at + 12 + 4 ≡ at + entry_width done = rw traced (omega arith) in
     ap (fed (Ok (at_position done part at))) parts ∙ fed-append (Ok (at_position done part at)) head tail
     ∙ ap (λ r. fed r tail) (taken ∙ ap (λ n. Ok (record { next = n; held = []; at = at + 12 })) next)
     ∙ via
-    ∙ ap (λ n. Ok (record { next = n; held = []; at = at + 12 + 4 })) (open_row done part e (part.vias ++ y ∷ []) more)
-    ∙ ap (λ k. Ok (at_position done (with_via (with_entry part e) y) k)) width_is
+    ∙ ap (λ k. Ok (record { next = after_entry done (with_via (with_entry part e) y); held = []; at = k })) width_is
 
 -- a via that is refused
 pub fed-refused_via : (done : ReadRows) (part : Part) (e : Entry) (at : ℕ) (field head tail : List ℕ) (f : IndexFault) → is_some done.vias ≡ true → field ≡ head ++ tail → fed (Ok (at_position done part at)) head ≡ Ok (record { next = after_distance done part e; held = []; at = at + 12 }) → Refuses (at_via done part e (at + 12)) tail f → Refuses (at_position done part at) field f

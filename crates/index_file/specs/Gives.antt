@@ -3,7 +3,7 @@ use Rattle.std.specs.Prelude.{◌≡◌, ◌⊎◌, ℕ, List, [], ◌++◌, is_
 use Rattle.walk_laws.specs.declared.entry.Entry.{Entry}
 use Rattle.index_file.specs.declared.fault.IndexFault.{IndexFault}
 use Rattle.index_file.specs.declared.fault.IndexFault.TheVariants.{NoMemory}
-use Rattle.index_file.specs.declared.next.Next.TheVariants.{Node, Position, Via}
+use Rattle.index_file.specs.declared.next.Next.TheVariants.{Node, Count, Position, Via}
 use Rattle.index_file.specs.Parts.{Names, ReadRows, Part}
 use Rattle.index_file.specs.Judging.{Reached, fed}
 
@@ -17,9 +17,12 @@ abbrev pub answer_of : Result Reached IndexFault → Result (Unit {0}) IndexFaul
 answer_of (Ok p) = Ok tt
 answer_of (Err e) = Err e
 
--- at a node of the order, and at a position of a row
+-- at a node of the order, at the number of entries of a row, and at a position of a row
 abbrev pub at_node : Names → ℕ → Reached
 at_node names at = record { next = Node names; held = []; at = at }
+
+abbrev pub at_count : ReadRows → ℕ → Reached
+at_count done at = record { next = Count done; held = []; at = at }
 
 abbrev pub at_position : ReadRows → Part → ℕ → Reached
 at_position done part at = record { next = Position done part; held = []; at = at }

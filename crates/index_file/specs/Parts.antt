@@ -83,9 +83,9 @@ least_after (e ∷ entries) = max (e.pos + 1) (least_after entries)
 abbrev pub is_next_position : ℕ → Part → ℕ → Bool
 is_next_position own part pos = nat_le (least_after part.entries) pos && (if is_last part then pos == own else nat_lt pos own)
 
--- at the last place 0, elsewhere 1..2^62-1
+-- at the last place 0, elsewhere any other number of eight bytes
 abbrev pub is_next_distance : Part → ℕ → Bool
-is_next_distance part dist = if is_last part then dist == 0 else (nat_le 1 dist && nat_lt dist (2 ^ 62))
+is_next_distance part dist = if is_last part then dist == 0 else (nat_le 1 dist && nat_lt dist (2 ^ 64))
 
 -- of the row of v in an index of n nodes: at the last place 0, elsewhere a node, but v
 abbrev pub is_next_via : ℕ → ℕ → Part → ℕ → Bool

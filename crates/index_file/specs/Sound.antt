@@ -42,7 +42,7 @@ pub record AreRows (done : ReadRows) : Type 0 where
 pub record IsPart (own : ℕ) (part : Part) : Type 0 where
   pub rising : IsStrictlyIncreasing (map (λ e. e.pos) part.entries)
   pub below : least_after part.entries ≤ own
-  pub far : All (λ e. (1 ≤ e.dist) × (e.dist < 2 ^ 62)) part.entries
+  pub far : All (λ e. (1 ≤ e.dist) × (e.dist < 2 ^ 64)) part.entries
   pub more : length part.entries < part.count
 
 -- vias that may stand before the last one of the row of v in an index of n nodes, one for each entry

@@ -1,5 +1,6 @@
-ghost use Rattle.std.specs.Prelude.{◌≡◌, ℕ, ◌+◌, ◌^◌, ◌<◌, ◌≤◌, ◌==◌, [], length, is_some, IfSome, IfOk, OnOk};
+ghost use Rattle.std.specs.Prelude.{◌≡◌, ◌↔◌, ℕ, ◌+◌, ◌^◌, ◌<◌, ◌≤◌, ◌==◌, [], All, length, is_some, IsTrue, IfSome, IfOk, OnOk};
 ghost use Rattle.walk_laws.specs.Ranking.{IsRanking};
+ghost use Rattle.hub_index.specs.Reach.{IsBelow};
 ghost use Rattle.hub_index.specs.WellFormed.{IsWellFormed};
 ghost use Rattle.entry_vias.specs.RowVias.{HaveVias};
 ghost use Rattle.index_file.specs.Parts.{next_node, next_own, no_vias, more_vias, with_row};
@@ -19,15 +20,20 @@ pub struct Done {
     ranking: Ranking,
     rows: Vec<Vec<Entry>>,
     vias: Option<Vias>,
+    /// Whether all distances are below 2^62.
+    is_short: bool,
 }
 
 impl Model for Done {
-    ghost use Rattle.std.specs.Prelude.{map};
+    ghost use Rattle.std.specs.Prelude.{◌^◌, map, IsTrue};
+    ghost use Rattle.hub_index.specs.Reach.{AreBelow};
     ghost use Rattle.index_file.specs.Parts.{ReadRows};
 
     ghost Value = { ReadRows };
 
     ghost view = { λ d. record { order = d.ranking; rows = map (λ row. row.items) d.rows.items; vias = d.vias } };
+
+    ghost invariant = { λ d. IsTrue d.is_short → AreBelow (2 ^ 62) (map (λ row. row.items) d.rows.items) };
 }
 
 impl Done {
@@ -40,6 +46,7 @@ impl Done {
             ranking: Ranking::new(alloc, order)?,
             rows: Vec::new(alloc),
             vias: none_yet(alloc, traced)?,
+            is_short: true,
         })
     }
 
@@ -64,6 +71,13 @@ impl Done {
         self.rows.len() == self.ranking.n() as usize
     }
 
+    /// Whether the next row isn't the last one.
+    pub fn has_more(&self) -> bool
+        ensures { IsTrue result ↔ (length self.now.rows + 1 < length self.now.order) }
+    {
+        self.rows.len() + 1 < self.ranking.n() as usize
+    }
+
     /// The node, a number from 1, whose row is the next one.
     pub fn node(&self) -> u32
         requires { length self.now.rows < 2 ^ 30 }
@@ -81,11 +95,18 @@ impl Done {
         self.ranking.pos(self.node())
     }
 
-    /// Puts one row more last, with its vias where the index has such.
-    pub fn push(&mut self, row: Vec<Entry>, row_vias: &[u32]) -> Result<(), AllocError>
-        requires { IfSome self.old.vias (λ vias. length vias + 1 < 2 ^ 32) }
+    /// Puts one row more last, with its vias where the index has such; it may be said that its distances are below 2^62.
+    pub fn push(
+        &mut self,
+        row: Vec<Entry>,
+        row_vias: &[u32],
+        is_short: bool,
+    ) -> Result<(), AllocError>
+        requires few { IfSome self.old.vias (λ vias. length vias + 1 < 2 ^ 32) }
+        requires short { IsTrue is_short → All (IsBelow (2 ^ 62)) row.items }
         ensures { OnOk result (self.new ≡ with_row self.old row.items row_vias.now) }
     {
+        self.is_short = self.is_short && is_short;
         self.rows.push(row)?;
         push_vias(&mut self.vias, row_vias)
     }
@@ -100,8 +121,9 @@ impl Done {
             ranking,
             rows,
             vias,
+            is_short,
         } = self;
-        let index = Index::new(ranking, RowList::from_rows(rows));
+        let index = Index::with_reach(ranking, RowList::from_rows(rows), is_short);
         match vias {
             None => StoredIndex::Plain(index),
             Some(vias) => StoredIndex::Traced(TracedIndex::new(index, vias)),

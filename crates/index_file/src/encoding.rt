@@ -1,4 +1,4 @@
-ghost use Rattle.std.specs.Prelude.{◌≡◌, ℕ, ◌+◌, ◌*◌, ◌^◌, ◌<◌, ◌≤◌, ◌++◌, length, flat_map, IfSome, IfOk, OnOk};
+ghost use Rattle.std.specs.Prelude.{◌≡◌, ℕ, ◌+◌, ◌*◌, ◌^◌, ◌<◌, ◌≤◌, ◌++◌, All, length, flat_map, IfSome, IfOk, OnOk};
 ghost use Rattle.std.specs.Option.{option_copied};
 ghost use Rattle.walk_laws.specs.Labelling.{label_row};
 ghost use Rattle.hub_index.specs.CompactRows.{row_of_parts};
@@ -178,15 +178,16 @@ fn push_node(
 
 /// Puts the row in these parts at the end: the number of its entries, and the entries.
 fn push_row(out: &mut Vec<u8>, compact: &[CompactEntry], full: &[Entry]) -> Result<(), AllocError>
-    requires { length (row_of_parts compact.now full.now) < 2 ^ 32 }
+    requires few { length (row_of_parts compact.now full.now) < 2 ^ 32 }
+    requires fits { All (λ e. e.dist < 2 ^ 64) full.now }
     ensures { OnOk result (out.new.items ≡ out.old.items ++ row_bytes (row_of_parts compact.now full.now)) }
 {
     push_word(out, (compact.len() + full.len()) as u32)?;
     for entry in compact {
-        push_entry(out, entry.widened())?;
+        push_entry(out, entry.pos, u64::from(entry.dist))?;
     }
     for entry in full {
-        push_entry(out, *entry)?;
+        push_entry(out, entry.pos, entry.dist.get_u64())?;
     }
     Ok(())
 }
@@ -199,34 +200,42 @@ fn push_traced_row(
     vias: &[u32],
 ) -> Result<(), AllocError>
     requires few { length (row_of_parts compact.now full.now) < 2 ^ 32 }
+    requires fits { All (λ e. e.dist < 2 ^ 64) full.now }
     requires vias { length vias.now ≡ length (row_of_parts compact.now full.now) }
     ensures { OnOk result (out.new.items ≡ out.old.items ++ traced_row_bytes (row_of_parts compact.now full.now, vias.now)) }
 {
     push_word(out, vias.len() as u32)?;
     for i in 0..compact.len() {
-        push_traced_entry(out, compact[i].widened(), vias[i])?;
+        let entry = compact[i];
+        push_traced_entry(out, entry.pos, u64::from(entry.dist), vias[i])?;
     }
     for i in 0..full.len() {
-        push_traced_entry(out, full[i], vias[compact.len() + i])?;
+        let entry = full[i];
+        push_traced_entry(
+            out,
+            entry.pos,
+            entry.dist.get_u64(),
+            vias[compact.len() + i],
+        )?;
     }
     Ok(())
 }
 
-/// Puts an entry at the end.
-fn push_entry(out: &mut Vec<u8>, entry: Entry) -> Result<(), AllocError>
-    ensures { OnOk result (out.new.items ≡ out.old.items ++ entry_bytes entry) }
+/// Puts the entry of this position and this distance at the end.
+fn push_entry(out: &mut Vec<u8>, pos: u32, dist: u64) -> Result<(), AllocError>
+    ensures { OnOk result (out.new.items ≡ out.old.items ++ entry_bytes (record { pos = pos; dist = dist })) }
 {
     let mut bytes = [0; 12];
-    BigEndian::write_u32(&mut bytes, entry.pos);
-    BigEndian::write_u64(&mut bytes[4..], entry.dist);
+    BigEndian::write_u32(&mut bytes, pos);
+    BigEndian::write_u64(&mut bytes[4..], dist);
     out.extend_from_slice(&bytes)
 }
 
-/// Puts an entry with its via at the end.
-fn push_traced_entry(out: &mut Vec<u8>, entry: Entry, via: u32) -> Result<(), AllocError>
-    ensures { OnOk result (out.new.items ≡ out.old.items ++ traced_entry_bytes (entry, via)) }
+/// Puts the entry of this position and this distance with its via at the end.
+fn push_traced_entry(out: &mut Vec<u8>, pos: u32, dist: u64, via: u32) -> Result<(), AllocError>
+    ensures { OnOk result (out.new.items ≡ out.old.items ++ traced_entry_bytes (record { pos = pos; dist = dist }, via)) }
 {
-    push_entry(out, entry)?;
+    push_entry(out, pos, dist)?;
     push_word(out, via)
 }
 

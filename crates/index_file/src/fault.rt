@@ -23,7 +23,7 @@ pub enum IndexFault {
     /// isn't that of `v` at the last place, or isn't below that of `v` at another.
     #[error("index: row {v} {place}")]
     Row { v: u32, place: u32 },
-    /// In the row of the node `v` the last distance isn't 0, or the one at another place, from 0, is 0 or above 2^62-1.
+    /// In the row of the node `v` the last distance isn't 0, or the one at another place, from 0, is 0.
     #[error("index: distance {v} {place}")]
     Distance { v: u32, place: u32 },
     /// In the row of the node `v`, of a file of version 2, the last via isn't 0, or the one at another place, from 0, is 0, `v`

@@ -14,7 +14,7 @@ use crate::next::Next;
 use crate::part_row::PartRow;
 use byteorder::{BigEndian, ByteOrder};
 use std::alloc::{AllocError, Global};
-use walk_laws::Entry;
+use walk_laws::{Dist, Entry};
 
 /// The first bytes of an index file.
 pub const LETTERS: [u8; 7] = *b"CHLABEL";
@@ -167,7 +167,11 @@ fn after_distance(done: Done, part: PartRow, pos: u32, dist: u64) -> Result<Next
     ensures { Gives result (after_field 0 (Distance done part pos) dist) }
 {
     accept_distance(&done, &part, dist)?;
-    Ok(distance_accepted(done, part, Entry { pos, dist })?)
+    let entry = Entry {
+        pos,
+        dist: Dist::of_u64(dist),
+    };
+    Ok(distance_accepted(done, part, entry)?)
 }
 
 /// After a distance that was accepted comes the via of the entry, where the index has such.
@@ -227,7 +231,8 @@ fn after_whole_row(mut done: Done, part: PartRow) -> Result<Next, AllocError>
     requires { IfSome done.vias (λ vias. length vias + 1 < 2 ^ 32) }
     ensures { IfOk result (λ next. next ≡ after_row (with_row done part.entries part.vias)) }
 {
+    let is_short = part.is_short();
     let (row, row_vias) = part.into_parts();
-    done.push(row, &row_vias)?;
+    done.push(row, &row_vias, is_short)?;
     Ok(after_rows(done))
 }

@@ -1,12 +1,13 @@
-ghost use Rattle.std.specs.Prelude.{◌≡◌, ℕ, ◌≤◌, [], length, OnOk};
+ghost use Rattle.std.specs.Prelude.{◌≡◌, ℕ, ◌^◌, ◌≤◌, [], All, length, IsTrue, OnOk};
+ghost use Rattle.hub_index.specs.Reach.{IsBelow};
 ghost use Rattle.index_file.specs.Parts.{Part, least_after, is_last, is_next_position, is_next_distance, is_next_via, no_entries, with_entry, with_via};
 
 use std::alloc::{AllocError, Global};
 use std::marker::Model;
 use walk_laws::Entry;
 
-/// The greatest distance of an entry, 2^62-1.
-pub const MAX_DISTANCE: u64 = 4611686018427387903;
+/// 2^62: where all distances of an index are below it, two of them have a sum in 64 bits.
+const NOT_SHORT: u128 = 4_611_686_018_427_387_904;
 
 /// The entries of a row that isn't whole yet, and their vias where the index has such.
 #[derive(Drop)]
@@ -14,20 +15,23 @@ pub struct PartRow {
     count: u32,
     /// The least position above those of the entries.
     least: u64,
+    /// Whether all distances are below 2^62.
+    is_short: bool,
     entries: Vec<Entry>,
     /// Empty where the index has none.
     vias: Vec<u32>,
 }
 
 impl Model for PartRow {
-    ghost use Rattle.std.specs.Prelude.{◌≡◌};
+    ghost use Rattle.std.specs.Prelude.{◌≡◌, ◌^◌, All, IsTrue};
+    ghost use Rattle.hub_index.specs.Reach.{IsBelow};
     ghost use Rattle.index_file.specs.Parts.{Part, least_after};
 
     ghost Value = { Part };
 
     ghost view = { λ p. record { count = p.count; entries = p.entries.items; vias = p.vias.items } };
 
-    ghost invariant = { λ p. p.least ≡ least_after p.entries.items };
+    ghost invariant = { λ p. (p.least ≡ least_after p.entries.items) × (IsTrue p.is_short → All (IsBelow (2 ^ 62)) p.entries.items) };
 }
 
 impl PartRow {
@@ -38,6 +42,7 @@ impl PartRow {
         PartRow {
             count,
             least: 0,
+            is_short: true,
             entries: Vec::new(alloc),
             vias: Vec::new(alloc),
         }
@@ -82,11 +87,7 @@ impl PartRow {
     pub fn is_next_distance(&self, dist: u64) -> bool
         ensures { result ≡ is_next_distance self.now dist }
     {
-        if self.is_last() {
-            dist == 0
-        } else {
-            dist >= 1 && dist <= MAX_DISTANCE
-        }
+        if self.is_last() { dist == 0 } else { dist >= 1 }
     }
 
     /// Whether the via may be the next one in the row of the node `v`, in an index of `n` nodes.
@@ -119,8 +120,11 @@ impl PartRow {
         requires { least_after self.old.entries ≤ entry.pos }
         ensures ok { OnOk result (self.new ≡ with_entry self.old entry) }
     {
+        let pos = entry.pos;
+        let dist = entry.dist.get();
         self.entries.push(entry)?;
-        self.least = u64::from(entry.pos) + 1;
+        self.least = u64::from(pos) + 1;
+        self.is_short = self.is_short && dist < NOT_SHORT;
         Ok(())
     }
 
@@ -130,6 +134,13 @@ impl PartRow {
     {
         self.vias.push(via)?;
         Ok(())
+    }
+
+    /// Whether all distances are below 2^62.
+    pub fn is_short(&self) -> bool
+        ensures { IsTrue result → All (IsBelow (2 ^ 62)) self.now.entries }
+    {
+        self.is_short
     }
 
     /// The entries, and their vias.

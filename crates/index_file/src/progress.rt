@@ -1,7 +1,7 @@
-ghost use Rattle.std.specs.Prelude.{◌≡◌, ℕ, ◌+◌, ◌<◌, ◌≤◌, false, [], ◌∷◌, length, All, Ok, Err, IfSome, IfNone, IfOk, OnOk, IfErr};
+ghost use Rattle.std.specs.Prelude.{◌≡◌, ℕ, ◌+◌, ◌^◌, ◌<◌, ◌≤◌, true, [], ◌∷◌, length, All, IsTrue, Ok, Err, IfSome, IfNone, IfOk, OnOk, IfErr};
 ghost use Rattle.index_file.specs.Parts.{next_own, is_last, least_after, with_entry, with_via};
 ghost use Rattle.index_file.specs.Judging.{start, width, after_distance, after_entry, fed, end_of_fields, end_of};
-ghost use Rattle.index_file.specs.Gives.{Gives, Takes, Refuses, at_node, at_position, at_via, entry_width};
+ghost use Rattle.index_file.specs.Gives.{Gives, Takes, Refuses, at_node, at_count, at_position, at_via, entry_width};
 ghost use Rattle.index_file.specs.Sound.{AreReading, IsSound};
 ghost use Rattle.index_file.specs.declared.fault.IndexFault.TheVariants.{Short};
 ghost use Rattle.index_file.specs.declared.next.Next.TheVariants.{End};
@@ -17,7 +17,7 @@ use crate::stored_index::StoredIndex;
 use byteorder::{BigEndian, ByteOrder};
 use std::alloc::{AllocError, Global};
 use std::marker::Model;
-use walk_laws::Entry;
+use walk_laws::{Dist, Entry};
 
 /// How far a reading has come: what the whole fields came to, the bytes of the field that isn't whole, and the offset at
 /// which that field begins.
@@ -73,7 +73,7 @@ impl Progress {
         ensures refused { IfErr result (Refuses self rest.now) }
     {
         let (stepped, left) = self.step(alloc, rest)?;
-        stepped.run(left)
+        stepped.run(alloc, left)
     }
 
     /// Takes the next field, or a byte of it where the piece doesn't hold it whole.
@@ -95,8 +95,8 @@ impl Progress {
         Ok((progress, left))
     }
 
-    /// Takes at once the nodes of the order, or the entries of the row, that the bytes hold whole, but for the last one.
-    fn run<'a>(self, rest: &'a [u8]) -> Result<(Progress, &'a [u8]), IndexFault>
+    /// Takes at once the nodes of the order, but for the last one, or the entries and the rows, that the bytes hold whole.
+    fn run<'a>(self, alloc: Global, rest: &'a [u8]) -> Result<(Progress, &'a [u8]), IndexFault>
         ensures taken { IfOk result (λ r. Takes self rest.now r.0 r.1.now) }
         ensures refused { IfErr result (Refuses self rest.now) }
     {
@@ -106,7 +106,7 @@ impl Progress {
         }
         match next {
             Next::Node(names) => run_of_names(names, held, at, rest),
-            Next::Position(done, part) => run_of_entries(done, part, held, at, rest),
+            Next::Position(done, part) => run_of_rows(alloc, done, part, held, at, rest),
             next => Ok((Progress { next, held, at }, rest)),
         }
     }
@@ -210,8 +210,9 @@ fn run_of_names<'a>(
     Ok((Progress { next, held, at }, left))
 }
 
-/// Takes the entries of the row that the bytes hold whole, but for the last one of the row.
-fn run_of_entries<'a>(
+/// Takes the entries and the rows that the bytes hold whole.
+fn run_of_rows<'a>(
+    alloc: Global,
     done: Done,
     part: PartRow,
     held: Vec<u8>,
@@ -223,7 +224,7 @@ fn run_of_entries<'a>(
     ensures taken { IfOk result (λ r. Takes (at_position done part at) rest.now r.0 r.1.now) }
     ensures refused { IfErr result (Refuses (at_position done part at) rest.now) }
 {
-    let (part, at, left) = take_entries(&done, part, at, rest)?;
+    let (done, part, at, left) = take_rows(alloc, done, part, at, rest)?;
     let next = Next::Position(done, part);
     Ok((Progress { next, held, at }, left))
 }
@@ -252,6 +253,95 @@ fn take_names<'a>(
         rest = left;
     }
     Ok((names, at, rest))
+}
+
+/// The entries of the row that the bytes hold whole, and the rows after it, but for the last entry of a row after which the bytes
+/// hold no number of entries, or no row comes.
+fn take_rows<'a>(
+    alloc: Global,
+    mut done: Done,
+    part: PartRow,
+    at: u64,
+    bytes: &'a [u8],
+) -> Result<(Done, PartRow, u64, &'a [u8]), IndexFault>
+    requires { IsSound (at_position done part at) }
+    ensures sound { IfOk result (λ r. IsSound (at_position r.0 r.1 r.2)) }
+    ensures taken { IfOk result (λ r. Takes (at_position done part at) bytes.now (at_position r.0 r.1 r.2) r.3.now) }
+    ensures refused { IfErr result (Refuses (at_position done part at) bytes.now) }
+{
+    let (mut part, mut at, mut rest) = take_entries(&done, part, at, bytes)?;
+    while holds_next(&done, &part, rest) {
+        let size = entry_width(&done) + 4;
+        let (field, left) = rest.split_at(size);
+        let row = next_row(alloc, &mut done, part, field)?;
+        let (taken, end, left) = take_entries(&done, row, at + size as u64, left)?;
+        part = taken;
+        at = end;
+        rest = left;
+    }
+    Ok((done, part, at, rest))
+}
+
+/// Whether the next entry is the last one of its row, another row comes after it, and the bytes hold the entry and that row's number
+/// of entries.
+fn holds_next(done: &Done, part: &PartRow, rest: &[u8]) -> bool
+    ensures last { IsTrue result → is_last part.now ≡ true }
+    ensures more { IsTrue result → length done.now.rows + 1 < length done.now.order }
+    ensures whole { IsTrue result → entry_width done.now + 4 ≤ length rest.now }
+{
+    part.is_last() && done.has_more() && rest.len() >= entry_width(done) + 4
+}
+
+/// Takes the last entry of a row and the number of entries of the row after it.
+fn next_row(
+    alloc: Global,
+    done: &mut Done,
+    part: PartRow,
+    field: &[u8],
+) -> Result<PartRow, IndexFault>
+    requires reading { AreReading done.old part }
+    requires last { is_last part ≡ true }
+    requires more { length done.old.rows + 1 < length done.old.order }
+    requires whole { length field.now ≡ entry_width done.old + 4 }
+    ensures taken { IfOk result (λ row. (at : ℕ) → fed (Ok (at_position done.old part at)) field.now ≡ Ok (at_position done.new row (at + (entry_width done.old + 4)))) }
+    ensures refused { IfErr result (λ e. (at : ℕ) → Refuses (at_position done.old part at) field.now e) }
+{
+    let (entry, count) = field.split_at(field.len() - 4);
+    end_row(done, part, entry)?;
+    begin_row(alloc, done, count)
+}
+
+/// Takes the last entry of a row, which isn't the last row, of its bytes.
+fn end_row(done: &mut Done, mut part: PartRow, field: &[u8]) -> Result<(), IndexFault>
+    requires reading { AreReading done.old part }
+    requires last { is_last part ≡ true }
+    requires more { length done.old.rows + 1 < length done.old.order }
+    requires whole { length field.now ≡ entry_width done.old }
+    ensures small { OnOk result (length done.new.rows < 2 ^ 30) }
+    ensures taken { OnOk result ((at : ℕ) → fed (Ok (at_position done.old part at)) field.now ≡ Ok (at_count done.new (at + entry_width done.old))) }
+    ensures refused { IfErr result (λ e. (at : ℕ) → Refuses (at_position done.old part at) field.now e) }
+{
+    let own = done.own();
+    take_entry(done, own, &mut part, field)?;
+    let is_short = part.is_short();
+    let (row, row_vias) = part.into_parts();
+    done.push(row, &row_vias, is_short)?;
+    Ok(())
+}
+
+/// Takes the number of entries of a row.
+fn begin_row(alloc: Global, done: &Done, field: &[u8]) -> Result<PartRow, IndexFault>
+    requires small { length done.now.rows < 2 ^ 30 }
+    requires whole { length field.now ≡ 4 }
+    ensures taken { IfOk result (λ row. (at : ℕ) → fed (Ok (at_count done.now at)) field.now ≡ Ok (at_position done.now row (at + 4))) }
+    ensures refused { IfErr result (λ e. (at : ℕ) → Refuses (at_count done.now at) field.now e) }
+{
+    let count = BigEndian::read_u32(field);
+    if count == 0 {
+        let v = done.node();
+        return Err(IndexFault::Row { v, place: 0 });
+    }
+    Ok(PartRow::new(alloc, count))
 }
 
 /// How many bytes an entry has, with its via where the index has such.
@@ -298,13 +388,15 @@ fn make_room(done: &Done, part: &mut PartRow, entries: usize) -> Result<(), Allo
     part.reserve(more)
 }
 
-/// Takes the next entry of a row, which isn't its last one, of its bytes.
+/// Takes the next entry of a row of its bytes.
+#[inline(always)]
 fn take_entry(done: &Done, own: u32, part: &mut PartRow, field: &[u8]) -> Result<(), IndexFault>
     requires reading { AreReading done.now part.old }
     requires own { own ≡ next_own done.now }
-    requires more { is_last part.old ≡ false }
     requires whole { length field.now ≡ entry_width done.now }
-    ensures taken { OnOk result ((at : ℕ) → fed (Ok (at_position done.now part.old at)) field.now ≡ Ok (at_position done.now part.new (at + entry_width done.now))) }
+    ensures count { OnOk result (part.new.count ≡ part.old.count) }
+    ensures more { OnOk result (length part.new.entries ≡ length part.old.entries + 1) }
+    ensures taken { OnOk result ((at : ℕ) → fed (Ok (at_position done.now part.old at)) field.now ≡ Ok (record { next = after_entry done.now part.new; held = []; at = at + entry_width done.now })) }
     ensures refused { IfErr result (λ e. (at : ℕ) → Refuses (at_position done.now part.old at) field.now e) }
 {
     let (head, tail) = field.split_at(12);
@@ -313,7 +405,7 @@ fn take_entry(done: &Done, own: u32, part: &mut PartRow, field: &[u8]) -> Result
         part.push(entry)?;
         return Ok(());
     }
-    let via = judge_via(done, part, entry, tail)?;
+    let via = judge_via(done, part, &entry, tail)?;
     part.push_via(via)?;
     part.push(entry)?;
     Ok(())
@@ -328,21 +420,22 @@ fn judge_entry(done: &Done, own: u32, part: &PartRow, head: &[u8]) -> Result<Ent
     ensures taken { IfOk result (λ e. (at : ℕ) → fed (Ok (at_position done.now part.now at)) head.now ≡ Ok (record { next = after_distance done.now part.now e; held = []; at = at + 12 })) }
     ensures refused { IfErr result (λ e. (at : ℕ) → Refuses (at_position done.now part.now at) head.now e) }
 {
-    let entry = Entry {
-        pos: BigEndian::read_u32(head),
-        dist: BigEndian::read_u64(&head[4..]),
-    };
-    accept_position(done, own, part, entry.pos)?;
-    accept_distance(done, part, entry.dist)?;
-    Ok(entry)
+    let pos = BigEndian::read_u32(head);
+    let dist = BigEndian::read_u64(&head[4..]);
+    accept_position(done, own, part, pos)?;
+    accept_distance(done, part, dist)?;
+    Ok(Entry {
+        pos,
+        dist: Dist::of_u64(dist),
+    })
 }
 
 /// Judges the four bytes of the entry's via.
-fn judge_via(done: &Done, part: &PartRow, entry: Entry, tail: &[u8]) -> Result<u32, IndexFault>
+fn judge_via(done: &Done, part: &PartRow, entry: &Entry, tail: &[u8]) -> Result<u32, IndexFault>
     requires reading { AreReading done.now part.now }
     requires whole { length tail.now ≡ 4 }
-    ensures taken { IfOk result (λ y. (at : ℕ) → fed (Ok (at_via done.now part.now entry at)) tail.now ≡ Ok (record { next = after_entry done.now (with_via (with_entry part.now entry) y); held = []; at = at + 4 })) }
-    ensures refused { IfErr result (λ e. (at : ℕ) → Refuses (at_via done.now part.now entry at) tail.now e) }
+    ensures taken { IfOk result (λ y. (at : ℕ) → fed (Ok (at_via done.now part.now entry.now at)) tail.now ≡ Ok (record { next = after_entry done.now (with_via (with_entry part.now entry.now) y); held = []; at = at + 4 })) }
+    ensures refused { IfErr result (λ e. (at : ℕ) → Refuses (at_via done.now part.now entry.now at) tail.now e) }
 {
     let via = BigEndian::read_u32(tail);
     accept_via(done, part, via)?;

@@ -65,16 +65,17 @@ pub row_there : (rows : List (Vec Entry Global)) (i : ℕ) (d : Vec Entry Global
 row_there rows i d within = get_or-map (λ (r : Vec Entry Global). r.items) rows i d [] within
 
 -- the entries of a hub among those so far, and the next one
-module _ (entries : List HubEntry) (i : ℕ) (d : HubEntry) (within : i < length entries) (q : ℕ) where
-  pub hub_after : (get_or entries i d).of ≡ q → entries_of_hub (take (i + 1) entries) q ≡ entries_of_hub (take i entries) q ++ (get_or entries i d).entry ∷ []
-  hub_after same =
-      ap (λ es. entries_of_hub es q) (take_more entries i d within) ∙ entries_of_hub-append (take i entries) (get_or entries i d ∷ []) q
-      ∙ ap (λ es. entries_of_hub (take i entries) q ++ es) (same_hub (get_or entries i d) q same)
+module _ (entries : List HubEntry) (i : ℕ) (x : HubEntry) (is : x ≡ get_or entries i x) (within : i < length entries) (q : ℕ) where
+  one_more : entries_of_hub (take (i + 1) entries) q ≡ entries_of_hub (take i entries) q ++ entries_of_hub (x ∷ []) q
+  one_more =
+      ap (λ es. entries_of_hub es q) (take_more entries i x within) ∙ entries_of_hub-append (take i entries) (get_or entries i x ∷ []) q
+      ∙ ap (λ y. entries_of_hub (take i entries) q ++ entries_of_hub (y ∷ []) q) (sym is)
 
-  pub hub_still : (get_or entries i d).of ≢ q → entries_of_hub (take (i + 1) entries) q ≡ entries_of_hub (take i entries) q
-  hub_still other =
-      ap (λ es. entries_of_hub es q) (take_more entries i d within) ∙ entries_of_hub-append (take i entries) (get_or entries i d ∷ []) q
-      ∙ ap (λ es. entries_of_hub (take i entries) q ++ es) (other_hub (get_or entries i d) q other) ∙ append-nil (entries_of_hub (take i entries) q)
+  pub hub_after : x.of ≡ q → entries_of_hub (take (i + 1) entries) q ≡ entries_of_hub (take i entries) q ++ x.entry ∷ []
+  hub_after same = one_more ∙ ap (λ es. entries_of_hub (take i entries) q ++ es) (same_hub x q same)
+
+  pub hub_still : x.of ≢ q → entries_of_hub (take (i + 1) entries) q ≡ entries_of_hub (take i entries) q
+  hub_still other = one_more ∙ ap (λ es. entries_of_hub (take i entries) q ++ es) (other_hub x q other) ∙ append-nil (entries_of_hub (take i entries) q)
 
 -- rows in which the entries of their hubs stand, sorted, are gathered
 module _ (first next : ℕ) (entries : List HubEntry) (rows : List (Vec Entry Global)) (enough : next - first ≤ length rows) (sorted : (k : ℕ) → k < next - first → IsGatheredRow (entries_of_hub entries (first + k)) (get_or (items_of rows) k [])) where

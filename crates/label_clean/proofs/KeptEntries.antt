@@ -1,7 +1,6 @@
 -- What is kept of a row, entry by entry.
-use Rattle.std.proofs.Common.{◌≡◌, ◌≢◌, ℕ, ◌+◌, ◌<◌, ◌≤◌, List, [], ◌∷◌, ◌++◌, Contains, length, map, get_or, take, sym, subst, ◌∙◌, inl, inr, arith, add-one}
-use Rattle.std.proofs.Math.Seq.{take-suc}
-use Rattle.std.proofs.lemmas.List.{take_all, length-map, length-take, get_or-map, get_or-take, get_or_default, map-append}
+use Rattle.std.proofs.Common.{◌≡◌, ◌≢◌, ℕ, ◌+◌, ◌<◌, ◌≤◌, List, [], ◌∷◌, ◌++◌, Contains, length, map, get_or, take, sym, ap, subst, ◌∙◌, inl, inr, arith}
+use Rattle.std.proofs.lemmas.List.{take_all, length-map, length-take, get_or-map, get_or-take, get_or_default, map-append, take_more}
 use Rattle.std.proofs.lemmas.List.Elements.{All-append, All-contains_itself, All-map, All-weaker, Contains-append_left, Contains-append_right, Contains-append_cases, Contains-get_or}
 use Rattle.std.proofs.lemmas.List.Kept.{AllPairs-cons}
 use Rattle.std.proofs.lemmas.List.Quantifiers.{all_pairs_push}
@@ -100,18 +99,18 @@ module _ (P : Entry → Type 0) where
         ]
       ]
 
-  module _ (row kept : List Entry) (i : ℕ) (d : Entry) (within : i < length row) (so_far : IsKept P (take i row) kept) where
-    cut : take (i + 1) row ≡ take i row ++ get_or row i d ∷ []
-    cut = rw add-one (take-suc row i d within)
+  module _ (row kept : List Entry) (i : ℕ) (x : Entry) (is : x ≡ get_or row i x) (within : i < length row) (so_far : IsKept P (take i row) kept) where
+    cut : take (i + 1) row ≡ take i row ++ x ∷ []
+    cut = take_more row i x within ∙ ap (λ y. take i row ++ y ∷ []) (sym is)
 
     -- the entry at the place is kept
-    pub IsKept-with : HasEachOnce row → ¬ P (get_or row i d) → IsKept P (take (i + 1) row) (kept ++ get_or row i d ∷ [])
+    pub IsKept-with : HasEachOnce row → ¬ P x → IsKept P (take (i + 1) row) (kept ++ x ∷ [])
     IsKept-with once good =
-        subst (λ xs. IsKept P xs (kept ++ get_or row i d ∷ [])) (sym cut) (one_more_kept (take i row) kept (get_or row i d) so_far (λ e h. before_place row i d e once within h) good)
+        subst (λ xs. IsKept P xs (kept ++ x ∷ [])) (sym cut) (one_more_kept (take i row) kept x so_far (λ e h same. before_place row i x e once within h (same ∙ ap pos_of is)) good)
 
     -- or left out
-    pub IsKept-without : P (get_or row i d) → IsKept P (take (i + 1) row) kept
-    IsKept-without bad = subst (λ xs. IsKept P xs kept) (sym cut) (one_left_out (take i row) kept (get_or row i d) so_far bad)
+    pub IsKept-without : P x → IsKept P (take (i + 1) row) kept
+    IsKept-without bad = subst (λ xs. IsKept P xs kept) (sym cut) (one_left_out (take i row) kept x so_far bad)
 
   -- after the last entry the whole row has been gone through
   pub IsKept-whole : (row kept : List Entry) (i : ℕ) → length row ≤ i → IsKept P (take i row) kept → IsKept P row kept

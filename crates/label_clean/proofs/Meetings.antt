@@ -16,7 +16,7 @@ never_falls row up i j d le lt = elim (cases_lt i j) [
 ]
 
 -- an entry at the position p stands at the point that parts the row
-pub stands_there : (row : List Entry) (p place b : ℕ) → IsStrictlyIncreasing (map pos_of row) → IsPartitionPoint (λ (e : Entry). ltb e.pos p ≡ true) (λ e. ltb e.pos p ≡ false) row place → Contains row (entry p b) → (place < length row) × (get_or row place (entry 0 0) ≡ entry p b)
+pub stands_there : (row : List Entry) (p place b : ℕ) → IsStrictlyIncreasing (map pos_of row) → IsPartitionPoint (λ (e : Entry). ltb e.pos p ≡ true) (λ e. ltb e.pos p ≡ false) row place → Contains row (entry p b) → (place < length row) × ((none : Entry) → get_or row place none ≡ entry p b)
 stands_there row p place b rising parted (k, within, is) =
     let there : (get_or row k (entry p b)).pos ≡ p = ap pos_of is in
     elim (cases_lt k place) [
@@ -30,7 +30,7 @@ stands_there row p place b rising parted (k, within, is) =
         | inr at ↦
             let same : k ≡ place = omega (arith, from, at) in (
               omega (arith, same, within),
-              get_or_default row place (entry 0 0) (entry p b) (omega (arith, same, within)) ∙ subst (λ i. get_or row i (entry p b) ≡ entry p b) same is,
+              λ none. get_or_default row place none (entry p b) (omega (arith, same, within)) ∙ subst (λ i. get_or row i (entry p b) ≡ entry p b) same is,
             )
       ]
     ]

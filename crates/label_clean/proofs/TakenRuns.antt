@@ -38,33 +38,32 @@ GoesOnFrom-put now after v u e v_in u_from is = elim (cases_eq u v) [
 ]
 
 -- the entries of a row among those of a run so far, and the next one
-module _ (run : List NodeEntry) (i : ℕ) (d : NodeEntry) (within : i < length run) where
-  abbrev x : NodeEntry
-  x = get_or run i d
+module _ (run : List NodeEntry) (i : ℕ) (x : NodeEntry) (is : x ≡ get_or run i x) (within : i < length run) where
+  one_more : (k : ℕ) → entries_of_node (take (i + 1) run) k ≡ entries_of_node (take i run) k ++ entry_if x.node k (entry_of x)
+  one_more k =
+      ap (λ es. entries_of_node es k) (take_more run i x within) ∙ entries_of_node-append (take i run) (get_or run i x ∷ []) k
+      ∙ ap (λ y. entries_of_node (take i run) k ++ entries_of_node (y ∷ []) k) (sym is)
+      ∙ ap (λ es. entries_of_node (take i run) k ++ es) (entries_of_node-one x k)
 
-  pub at_its_row : (k : ℕ) → (get_or run i d).node ≡ k → entries_of_node (take (i + 1) run) k ≡ entries_of_node (take i run) k ++ entry_of (get_or run i d) ∷ []
-  at_its_row k same =
-      ap (λ es. entries_of_node es k) (take_more run i d within) ∙ entries_of_node-append (take i run) (x ∷ []) k
-      ∙ ap (λ es. entries_of_node (take i run) k ++ es) (entries_of_node-one x k ∙ ap (λ u. entry_if u k (entry_of x)) same ∙ entry_if-same k (entry_of x))
+  pub at_its_row : (k : ℕ) → x.node ≡ k → entries_of_node (take (i + 1) run) k ≡ entries_of_node (take i run) k ++ entry_of x ∷ []
+  at_its_row k same = one_more k ∙ ap (λ es. entries_of_node (take i run) k ++ es) (ap (λ u. entry_if u k (entry_of x)) same ∙ entry_if-same k (entry_of x))
 
-  pub at_other_rows : (k : ℕ) → (get_or run i d).node ≢ k → entries_of_node (take (i + 1) run) k ≡ entries_of_node (take i run) k
-  at_other_rows k other =
-      ap (λ es. entries_of_node es k) (take_more run i d within) ∙ entries_of_node-append (take i run) (x ∷ []) k
-      ∙ ap (λ es. entries_of_node (take i run) k ++ es) (entries_of_node-one x k ∙ entry_if-other x.node k (entry_of x) other) ∙ append-nil (entries_of_node (take i run) k)
+  pub at_other_rows : (k : ℕ) → x.node ≢ k → entries_of_node (take (i + 1) run) k ≡ entries_of_node (take i run) k
+  at_other_rows k other = one_more k ∙ ap (λ es. entries_of_node (take i run) k ++ es) (entry_if-other x.node k (entry_of x) other) ∙ append-nil (entries_of_node (take i run) k)
 
-  pub run_cut : (k : ℕ) → (get_or run i d).node ≡ k → entries_of_node run k ≡ entries_of_node (take i run) k ++ entry_of (get_or run i d) ∷ entries_of_node (drop (i + 1) run) k
+  pub run_cut : (k : ℕ) → x.node ≡ k → entries_of_node run k ≡ entries_of_node (take i run) k ++ entry_of x ∷ entries_of_node (drop (i + 1) run) k
   run_cut k same =
       ap (λ es. entries_of_node es k) (sym (take-append-drop (i + 1) run)) ∙ entries_of_node-append (take (i + 1) run) (drop (i + 1) run) k
       ∙ ap (λ es. es ++ entries_of_node (drop (i + 1) run) k) (at_its_row k same) ∙ append_assoc (entries_of_node (take i run) k) (entry_of x ∷ []) (entries_of_node (drop (i + 1) run) k)
 
 -- the next entry of a run, at its own row and at the others
-module _ (edges : List Edge) (at : List ℕ) (p c q v : ℕ) (hub_row before done more : List Entry) (k : ℕ) (run : List NodeEntry) (i : ℕ) (d : NodeEntry) (within : i < length run) (next : JoinsNext edges at p c q v hub_row before done (entries_of_node run k) more) (row : List Entry) (has : HasHubs edges at v before (done ++ entries_of_node (take i run) k) row) where
-  pub others_stay : (get_or run i d).node ≢ k → HasHubs edges at v before (done ++ entries_of_node (take (i + 1) run) k) row
-  others_stay other = subst (λ es. HasHubs edges at v before (done ++ es) row) (sym (at_other_rows run i d within k other)) has
+module _ (edges : List Edge) (at : List ℕ) (p c q v : ℕ) (hub_row before done more : List Entry) (k : ℕ) (run : List NodeEntry) (i : ℕ) (x : NodeEntry) (is : x ≡ get_or run i x) (within : i < length run) (next : JoinsNext edges at p c q v hub_row before done (entries_of_node run k) more) (row : List Entry) (has : HasHubs edges at v before (done ++ entries_of_node (take i run) k) row) where
+  pub others_stay : x.node ≢ k → HasHubs edges at v before (done ++ entries_of_node (take (i + 1) run) k) row
+  others_stay other = subst (λ es. HasHubs edges at v before (done ++ es) row) (sym (at_other_rows run i x is within k other)) has
 
-  module _ (same : (get_or run i d).node ≡ k) where
+  module _ (same : x.node ≡ k) where
     abbrev e : Entry
-    e = entry_of (get_or run i d)
+    e = entry_of x
 
     abbrev some : List Entry
     some = entries_of_node (take i run) k
@@ -73,20 +72,20 @@ module _ (edges : List Edge) (at : List ℕ) (p c q v : ℕ) (hub_row before don
     rest = entries_of_node (drop (i + 1) run) k
 
     abbrev Covered : Type 0
-    Covered = (x : Entry) × Contains row x × (p ≤ x.pos) × IsCovering hub_row q (get_or run i d).dist x
+    Covered = (y : Entry) × Contains row y × (p ≤ y.pos) × IsCovering hub_row q x.dist y
 
     pub its_row_ends_below : EndsBelow q row
-    its_row_ends_below = row_ends_below edges at p c q v hub_row before done (entries_of_node run k) more next some rest e (run_cut run i d within k same) row has
+    its_row_ends_below = row_ends_below edges at p c q v hub_row before done (entries_of_node run k) more next some rest e (run_cut run i x is within k same) row has
 
     pub its_hub_row_rises : IsStrictlyIncreasing (map pos_of hub_row)
-    its_hub_row_rises = hub_row_rises edges at p c q v hub_row before done (entries_of_node run k) more next some rest e (run_cut run i d within k same) row has
+    its_hub_row_rises = hub_row_rises edges at p c q v hub_row before done (entries_of_node run k) more next some rest e (run_cut run i x is within k same) row has
 
     pub its_row_stays : Covered → HasHubs edges at v before (done ++ entries_of_node (take (i + 1) run) k) row
     its_row_stays covered =
-        subst (λ es. HasHubs edges at v before (done ++ es) row) (sym (at_its_row run i d within k same))
-        (HasHubs-without edges at p c q v hub_row before done (entries_of_node run k) more next some rest e (run_cut run i d within k same) row has covered)
+        subst (λ es. HasHubs edges at v before (done ++ es) row) (sym (at_its_row run i x is within k same))
+        (HasHubs-without edges at p c q v hub_row before done (entries_of_node run k) more next some rest e (run_cut run i x is within k same) row has covered)
 
-    pub its_row_grows : (Covered → ⊥) → HasHubs edges at v before (done ++ entries_of_node (take (i + 1) run) k) (row ++ entry_of (get_or run i d) ∷ [])
+    pub its_row_grows : (Covered → ⊥) → HasHubs edges at v before (done ++ entries_of_node (take (i + 1) run) k) (row ++ entry_of x ∷ [])
     its_row_grows free =
-        subst (λ es. HasHubs edges at v before (done ++ es) (row ++ e ∷ [])) (sym (at_its_row run i d within k same))
-        (HasHubs-with edges at p c q v hub_row before done (entries_of_node run k) more next some rest e (run_cut run i d within k same) row has free)
+        subst (λ es. HasHubs edges at v before (done ++ es) (row ++ e ∷ [])) (sym (at_its_row run i x is within k same))
+        (HasHubs-with edges at p c q v hub_row before done (entries_of_node run k) more next some rest e (run_cut run i x is within k same) row has free)

@@ -7,13 +7,13 @@ use walk_laws::Entry;
 
 /// Whether an entry of the row covers one at the position `pos`, from 0, with the distance `dist`. Along a near row, whose
 /// distances rise, it goes no further than to the first entry that is farther than `dist` by itself.
-pub fn is_covered(row: &[Entry], is_near: bool, table: &RootTable, pos: u32, dist: u64) -> bool
+pub fn is_covered(row: &[Entry], is_near: bool, table: &RootTable, pos: u32, dist: u128) -> bool
     requires nearing { IsTrue is_near → IsNonDecreasingBy (λ e. e.dist) row.now }
     requires position { pos ≤ length table.now }
     ensures { IsTrue result ↔ HasCover table.now pos dist row.now }
 {
     for entry in row {
-        if is_near && entry.dist > dist {
+        if is_near && entry.dist.get() > dist {
             return false;
         }
         if table.covers(*entry, pos, dist) {
@@ -24,7 +24,7 @@ pub fn is_covered(row: &[Entry], is_near: bool, table: &RootTable, pos: u32, dis
 }
 
 /// Whether an entry and one of a row by rising position cover one at the position `pos`, from 0, with the distance `dist`.
-pub fn covers(other: Entry, row: &[Entry], pos: u32, dist: u64) -> bool
+pub fn covers(other: Entry, row: &[Entry], pos: u32, dist: u128) -> bool
     ensures { IsStrictlyIncreasing (map (λ e. e.pos) row.now) → IsTrue result ↔ IsCovering row.now pos dist other }
 {
     if other.pos >= pos {
@@ -34,10 +34,11 @@ pub fn covers(other: Entry, row: &[Entry], pos: u32, dist: u64) -> bool
 }
 
 /// Whether a row by rising position has an entry at the position of another one, whose distances are together at most `dist`.
-fn meets(row: &[Entry], other: Entry, dist: u64) -> bool
+fn meets(row: &[Entry], other: Entry, dist: u128) -> bool
     ensures { IsStrictlyIncreasing (map (λ e. e.pos) row.now) → IsTrue result ↔ Meets row.now other dist }
 {
-    if other.dist > dist {
+    let far = other.dist.get();
+    if far > dist {
         return false;
     }
     let place = row.partition_point(|e| e.pos < other.pos);
@@ -48,5 +49,5 @@ fn meets(row: &[Entry], other: Entry, dist: u64) -> bool
     if met.pos != other.pos {
         return false;
     }
-    met.dist <= dist - other.dist
+    met.dist.get() <= dist - far
 }

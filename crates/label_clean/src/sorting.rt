@@ -50,7 +50,7 @@ fn put_near(ranking: &Ranking, place: usize, row: &mut Vec<Entry>)
 {
     let n = ranking.n();
     if ranking.pos(place as u32 + 1) < near_count(n) {
-        row.sort_unstable_by_key(|e| e.dist);
+        row.sort_unstable_by_key(|e| e.dist.get());
     }
 }
 

@@ -71,7 +71,7 @@ fn take_run(
         if !all && !ends_below(rows, entry.node, pos) {
             continue;
         }
-        if is_covered_late(rows, entry.node, first, hub_row, pos, entry.dist) {
+        if is_covered_late(rows, entry.node, first, hub_row, pos, entry.dist.get()) {
             continue;
         }
         rows.push(entry.node, entry.entry())?;
@@ -113,7 +113,7 @@ fn is_covered_late(
     first: u32,
     hub_row: &[Entry],
     pos: u32,
-    dist: u64,
+    dist: u128,
 ) -> bool
     requires { IsNode (length rows.now) v }
     ensures { IsStrictlyIncreasing (map (λ e. e.pos) (label_row rows.now v)) → IsStrictlyIncreasing (map (λ e. e.pos) hub_row.now)

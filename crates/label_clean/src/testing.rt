@@ -25,7 +25,7 @@ fn is_needless(ranking: &Ranking, near: &RowList, table: &RootTable, entry: Entr
 {
     let hub = ranking.at(entry.pos);
     let is_near = entry.pos < near_count(ranking.n());
-    is_covered(near.row(hub), is_near, table, entry.pos, entry.dist)
+    is_covered(near.row(hub), is_near, table, entry.pos, entry.dist.get())
 }
 
 /// Puts the entries of a node's row that are not needless in `kept`, in the place of what there was, where the table has the

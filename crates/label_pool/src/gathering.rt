@@ -11,7 +11,7 @@ use crate::layout::{cell_in, cell_named, dist_word, head_word, next_word, pos_in
 use atomic_table::Closed;
 use hub_index::RowList;
 use std::alloc::{AllocError, Global};
-use walk_laws::Entry;
+use walk_laws::{Dist, Entry};
 
 /// The rows of all chains, each newest first. The only error is that memory ran out.
 pub fn gathered(
@@ -76,7 +76,7 @@ fn entries_in(
         let dist = closed.word(dist_word(n, cell));
         entries.push(Entry {
             pos: pos_in(next),
-            dist,
+            dist: Dist::of_u64(dist),
         })?;
         at = cell_in(next);
     }

@@ -14,6 +14,7 @@ use crate::rule::{About, Draws, FillsNext, Law, LinkFact, Links, Opens, View};
 use atomic_table::{Seat, Shared};
 use std::sync::Wait;
 use table_seats::SeatView;
+use walk_laws::Dist;
 
 /// The words of a pool.
 pub type Words<F> = Shared<(), SeatView<View<F>>, About<F>, Law>;
@@ -55,13 +56,13 @@ pub fn refill<F: LinkFact>(
 }
 
 /// Opens the first cell that the seat has in reserve, a number from 0, in a pool of `n` nodes, and stores the distance of an
-/// entry there.
+/// entry there, which is below 2^64.
 pub fn open_first<F: LinkFact>(
     words: &Words<F>,
     seat: &mut Seat<(), SeatView<View<F>>>,
     n: u32,
     cell: u32,
-    dist: u64,
+    dist: Dist,
 )
     requires table { seat.old.table_id ≡ words.now.table_id }
     requires inside { dist_at n cell < words.now.table_id.words }
@@ -69,10 +70,11 @@ pub fn open_first<F: LinkFact>(
     requires n { seat.old.me.0.knows.n ≡ n }
     requires filling { seat.old.me.0.knows.filling ≡ None }
     requires reserve { (rest : List ℕ) × (seat.old.me.0.knows.reserve ≡ cell ∷ rest) }
+    requires near { dist < 2 ^ 64 }
     ensures same { (seat.new.table_id ≡ seat.old.table_id) × (seat.new.id ≡ seat.old.id) }
     ensures opened { (rest : List ℕ) → seat.old.me.0.knows.reserve ≡ cell ∷ rest → seat.new.me ≡ (knowing seat.old.me.0 (with_opened seat.old.me.0.knows cell rest dist), seat.old.me.1) }
 {
-    words.store::<Opens>(seat, dist_word(n, cell), dist);
+    words.store::<Opens>(seat, dist_word(n, cell), dist.get_u64());
 }
 
 /// Links the filled cell, a number from 0, before the chain of the node `v`, a number from 1, in a pool of `n` nodes. It

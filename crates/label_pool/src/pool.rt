@@ -141,13 +141,15 @@ impl<F: LinkFact> Pool<F> {
         Ok((pool, seat))
     }
 
-    /// Puts the entry before the chain of the node `v`, a number from 1. Where the seat has no cell in reserve it draws a
-    /// block of cells, once; where no block has the number that it drew it answers Full, and the seat is past the cells and
-    /// puts no more. It tries its link again where others came first, which may take forever as far as its contract goes.
+    /// Puts the entry, with a distance below 2^64, before the chain of the node `v`, a number from 1. Where the seat has no cell
+    /// in reserve it draws a block of cells, once; where no block has the number that it drew it answers Full, and the seat is
+    /// past the cells and puts no more. It tries its link again where others came first, which may take forever as far as its
+    /// contract goes.
     pub fn put<R: Wait>(&self, rt: &R, seat: &mut PoolSeat<F>, v: u32, entry: Entry) -> PoolPut
         requires seat { IsSeatOf self.now seat.old }
         requires past { seat.old.past ≡ None }
         requires node { IsNode self.now.n v }
+        requires near { entry.dist < 2 ^ 64 }
         requires fact { IsMet F.fact self.now.fact v entry }
         ensures put { IfPut result (HasPut seat.old v entry seat.new) }
         ensures full { IfFull result (λ cell cells. (seat.old.reserve ≡ []) × (self.now.cells ≤ cell) × ((block : ℕ) × (cell ≡ block * self.now.block)) × (cells ≡ self.now.cells) × (seat.new ≡ record seat.old { past = Some cell })) }

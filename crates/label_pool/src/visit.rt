@@ -8,7 +8,7 @@ use crate::pool::Pool;
 use crate::rule::{LinkFact, Reads};
 use crate::seat::PoolSeat;
 use std::marker::Model;
-use walk_laws::Entry;
+use walk_laws::{Dist, Entry};
 
 /// A walk of the entries of a node, as far as it has come. Contracts see the cell at which it stands, or none at the end.
 #[derive(Drop)]
@@ -47,7 +47,7 @@ impl Visit {
         self.at = cell_in(next);
         Some(Entry {
             pos: pos_in(next),
-            dist,
+            dist: Dist::of_u64(dist),
         })
     }
 }

@@ -1,6 +1,8 @@
-ghost use Rattle.std.specs.Prelude.{◌≡◌, ℕ, ◌-◌, ◌≤◌, [], All, length, IfOk};
+ghost use Rattle.std.specs.Prelude.{◌≡◌, ℕ, ◌-◌, ◌≤◌, [], All, length, IfOk, IfErr};
 ghost use Rattle.walk_laws.specs.Joined.{Joined};
 ghost use Rattle.walk_laws.specs.Labelling.{IsChl};
+ghost use Rattle.walk_laws.specs.Overflow.{Overflows};
+ghost use Rattle.hub_index.specs.Faults.{TellsFault};
 ghost use Rattle.label_clean.specs.Below.{HoldsBelow, IsChlBelow};
 ghost use Rattle.lcc_build.specs.Shares.{HasWorked, IsDone, IsNew, IsReady, IsShareOf, IsSoundGround};
 
@@ -9,7 +11,7 @@ use crate::in_order::rows_in_order;
 use crate::share::Share;
 use crate::workers::{Worker, joined, seated};
 use desk_io::Gate;
-use hub_index::{Index, RowList};
+use hub_index::{BuildFault, Index, RowList};
 use label_clean::clean_in_place;
 use label_clean::laws::the_whole_is_the_labelling;
 use label_rows::Rows;
@@ -26,7 +28,7 @@ use walk_laws::Graph;
 /// neighbours stand near one another ([`WorkingCopy`]). One worker grows the pruned trees of the roots one after another, with
 /// no lock and nothing to clean. Several claim roots one by one, and grow their pruned trees at the same time over rows that
 /// all of them write; then the rows are cleaned, on all cores. The gate is told of each root when its tree begins and when
-/// it ends. The only error is that memory ran out.
+/// it ends. The errors are that a hub is too far for an index, and that memory ran out.
 ///
 /// In the square 1-2-3-4-1 of weights 1, of which a smaller number ranks higher, the tree of node 2 ends at 3 where it comes
 /// after that of node 1, which is a hub of 2 and of 4 and covers the way from 2 to 4. Where it comes before, or meanwhile,
@@ -38,12 +40,14 @@ pub fn build_lcc<R: Threads + Wait + Sync, G: Gate + Sync>(
     ranking: &Ranking,
     workers: u32,
     gate: &G,
-) -> Result<Index, AllocError>
+) -> Result<Index, BuildFault>
     requires nodes { length ranking.now ≡ graph.now.n }
     requires workers_from { 1 ≤ workers }
     requires workers_to { workers ≤ 64 }
     ensures order { IfOk result (λ index. index.order ≡ ranking.now) }
     ensures labelling { IfOk result (λ index. IsChl (Joined graph.now.edges) ranking.now index.rows) }
+    ensures fits { IfOk result (λ _. ¬ Overflows (Joined graph.now.edges) ranking.now) }
+    ensures fault { IfErr result (λ fault. TellsFault (Joined graph.now.edges) ranking.now fault) }
 {
     let copy = WorkingCopy::new(alloc, graph, ranking)?;
     let job = Job::new(alloc, &copy.graph, &copy.ranking, workers, 1);

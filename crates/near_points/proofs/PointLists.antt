@@ -88,8 +88,7 @@ module _ (index : HubIndex) (nodes words starts : List ℕ) (inverted : IsInvert
   dist_short : (v : ℕ) (e : Entry) → Contains nodes v → Contains (label_row index.rows v) e → e.dist < 2 ^ 64
   dist_short v e there held =
       let within = All-contains (λ v. (1 ≤ v) × (v ≤ length index.order)) nodes v inverted.within there in
-      let short : e.dist < 2 ^ 62 = All-contains (λ (e : Entry). e.dist < 2 ^ 62) (label_row index.rows v) e (row_fits index.order index.rows v well within.0 within.1) held in
-      omega (arith, short)
+      All-contains (λ (e : Entry). e.dist < 2 ^ 64) (label_row index.rows v) e (row_fits index.order index.rows v well within.0 within.1) held
 
   -- the point of a word, its position and its distance
   module _ (word : ℕ) (is : IsPointWord index.rows nodes word) where

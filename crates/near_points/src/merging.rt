@@ -25,6 +25,7 @@ pub fn begin(
 ) -> Result<(), AllocError>
     requires starts { AreStarts words.now starts.now }
     requires within { All (λ e. e.pos + 1 < length starts.now) row.now }
+    requires short { All (λ e. e.dist < 2 ^ 64) row.now }
     requires none { heap_items cursors.old ≡ [] }
     requires heap { HasLeastFirst (heap_items cursors.old) }
     ensures heap { OnOk result (HasLeastFirst (heap_items cursors.new)) }
@@ -44,12 +45,13 @@ pub fn begin(
 
 /// The cursor at a place of the list of a hub, of which this is the source's entry.
 fn cursor_at(words: &[u128], entry: Entry, at: usize) -> Cursor
-    requires { at < length words.now }
+    requires at { at < length words.now }
+    requires short { entry.dist < 2 ^ 64 }
     ensures at { result.at ≡ at }
     ensures key { result.key.0 ≡ key_by entry (word_at words.now at) }
 {
     let word = words[at];
-    let dist = u128::from(entry.dist) + dist_of(word);
+    let dist = entry.dist.get() + dist_of(word);
     Cursor {
         key: Reverse(dist * NODES + u128::from(node_of(word))),
         at,

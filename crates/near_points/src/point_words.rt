@@ -15,9 +15,10 @@ const DISTS: u128 = 18446744073709551616;
 
 /// The word of an entry in the row of the node, a number from 1.
 fn word_of(entry: Entry, node: u32) -> u128
+    requires { entry.dist < 2 ^ 64 }
     ensures { result ≡ number_of entry.pos entry.dist node }
 {
-    (u128::from(entry.pos) * DISTS + u128::from(entry.dist)) * NODES + u128::from(node)
+    (u128::from(entry.pos) * DISTS + entry.dist.get()) * NODES + u128::from(node)
 }
 
 /// The position, from 0, that a word says.
@@ -55,6 +56,7 @@ pub fn words_of(alloc: Global, index: &Index, nodes: &[u32]) -> Result<Vec<u128>
 
 /// Puts the words of a row, that of the node, a number from 1, after others. The only error is that memory ran out.
 fn add_row(words: &mut Vec<u128>, row: &[Entry], node: u32) -> Result<(), AllocError>
+    requires { All (λ e. e.dist < 2 ^ 64) row.now }
     ensures { OnOk result (words.new.items ≡ words.old.items ++ map (λ e. number_of e.pos e.dist node) row.now) }
 {
     for entry in row {

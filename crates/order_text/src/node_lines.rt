@@ -150,7 +150,7 @@ fn node_of_line(line: &[u8], n: u32, line_number: u64) -> Result<u32, OrderFault
     let Some(v) = value else {
         return Err(OrderFault::BadNumber { line: line_number });
     };
-    if v == 0 || v > u64::from(n) {
+    if v == 0 || v > u128::from(n) {
         return Err(OrderFault::NodeRange { line: line_number });
     }
     Ok(v as u32)

@@ -9,7 +9,7 @@ use entry_sinks::EntrySink;
 use plant_tree::Planter;
 use renumbering::Job;
 use std::alloc::AllocError;
-use walk_laws::Entry;
+use walk_laws::{Dist, Entry};
 
 /// Plants the trees that a batch has of the first so many roots: of so many batches that with number `batch` has the positions
 /// `batch`, `batch + batches`, and so on. So batches are of even work, though the first roots have the greatest trees. The only
@@ -66,7 +66,7 @@ fn plant_root<G: Gate>(
 }
 
 /// Puts the entries of the tree of the root at the position `p`.
-fn put_tree(sink: &mut EntrySink, p: u32, planted: &[(u32, u64)]) -> Result<(), AllocError>
+fn put_tree(sink: &mut EntrySink, p: u32, planted: &[(u32, Dist)]) -> Result<(), AllocError>
     requires { AreOfNodes sink.old.n planted.now }
     ensures sink { sink.new.n ≡ sink.old.n }
     ensures grows { OnOk result ((v : ℕ) → sunk_at sink.new v ≡ sunk_at sink.old v ++ entries_of p v planted.now) }

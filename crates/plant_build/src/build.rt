@@ -1,6 +1,8 @@
-ghost use Rattle.std.specs.Prelude.{◌≡◌, ◌*◌, ◌^◌, ◌<◌, ◌≤◌, All, length, IfOk};
+ghost use Rattle.std.specs.Prelude.{◌≡◌, ◌*◌, ◌^◌, ◌<◌, ◌≤◌, All, length, IfOk, IfErr};
 ghost use Rattle.walk_laws.specs.Joined.{Joined};
 ghost use Rattle.walk_laws.specs.Labelling.{IsChl, IsPartChl};
+ghost use Rattle.walk_laws.specs.Overflow.{Overflows};
+ghost use Rattle.hub_index.specs.Faults.{TellsFault};
 ghost use Rattle.entry_sinks.specs.Sunk.{sunk_at, HoldsPart};
 ghost use Rattle.plant_build.specs.Marks.{IsMissing};
 ghost use Rattle.plant_build.specs.Rounds.{share_of};
@@ -12,7 +14,7 @@ use crate::crew::crew_of;
 use crate::worker::PlantWorker;
 use desk_io::Gate;
 use entry_sinks::{EntrySink, gather};
-use hub_index::{Index, RowList};
+use hub_index::{BuildFault, Index, RowList};
 use plant_tree::Planter;
 use rank_table::Ranking;
 use renumbering::{Job, WorkingCopy};
@@ -21,11 +23,11 @@ use std::sync::Wait;
 use std::thread::{self, Threads};
 use walk_laws::Graph;
 
-/// The index of the canonical hub labelling of a graph under a ranking of its nodes, by planted trees of all roots. It
-/// begins with a copy of both in which neighbours stand near one another ([`WorkingCopy`]). The roots are dealt in batches of
+/// The index of the canonical hub labelling of a graph under a ranking of its nodes, by planted trees of all roots, or the first
+/// hub that is too far for an index. It begins with a copy of both in which neighbours stand near one another ([`WorkingCopy`]). The roots are dealt in batches of
 /// at most `cut` to so many workers, and who has none left steals from the others. The caller itself plants each batch that
-/// came from nobody. The gate sees each root begin, and end with the number of its entries. The only error is that memory
-/// ran out.
+/// came from nobody. The gate sees each root begin, and end with the number of its entries. The only other error is that
+/// memory ran out.
 pub fn build_plant<R: Threads + Wait + Sync, G: Gate + Sync>(
     rt: &R,
     alloc: Global,
@@ -34,7 +36,7 @@ pub fn build_plant<R: Threads + Wait + Sync, G: Gate + Sync>(
     workers: u32,
     cut: u32,
     gate: &G,
-) -> Result<Index, AllocError>
+) -> Result<Index, BuildFault>
     requires nodes { length ranking.now ≡ graph.now.n }
     requires workers_from { 1 ≤ workers }
     requires workers_to { workers ≤ 64 }
@@ -42,6 +44,8 @@ pub fn build_plant<R: Threads + Wait + Sync, G: Gate + Sync>(
     requires cut_to { cut ≤ 2 ^ 30 }
     ensures order { IfOk result (λ index. index.order ≡ ranking.now) }
     ensures labelling { IfOk result (λ index. IsChl (Joined graph.now.edges) ranking.now index.rows) }
+    ensures fits { IfOk result (λ _. ¬ Overflows (Joined graph.now.edges) ranking.now) }
+    ensures fault { IfErr result (λ fault. TellsFault (Joined graph.now.edges) ranking.now fault) }
 {
     let copy = WorkingCopy::new(alloc, graph, ranking)?;
     let all = copy.graph.n();

@@ -13,7 +13,7 @@ use frontier::{Found, Frontier, Reach};
 use rank_table::Ranking;
 use std::alloc::{AllocError, Global};
 use std::marker::Model;
-use walk_laws::{AnyArc, ArcRow, Graph};
+use walk_laws::{AnyArc, ArcRow, Dist, Graph};
 
 /// Plants the trees of a graph's roots one after another, in memory that is taken once. Contracts see the number of nodes.
 #[derive(Debug, Drop)]
@@ -121,7 +121,7 @@ fn relax_row(
     requires nodes { length frontier.old ≡ length ranking.now + 1 }
     requires few { length ranking.now ≤ 2 ^ 30 }
     requires ends { All (λ a. (1 ≤ a.to) × (a.to ≤ length ranking.now)) (arcs_in row) }
-    requires fits { All (λ a. found.dist + a.w < 2 ^ 64) (arcs_in row) }
+    requires fits { All (λ a. found.dist + a.w < 2 ^ 96) (arcs_in row) }
     requires count { count ≡ wanted p frontier.old }
     ensures same { length frontier.new ≡ length frontier.old }
     ensures relaxed { OnOk result (frontier.new ≡ relaxed_all ranking.now found (arcs_in row.entry) frontier.old) }
@@ -145,7 +145,7 @@ fn relax<A: AnyArc>(
     requires nodes { length frontier.old ≡ length ranking.now + 1 }
     requires few { length ranking.now ≤ 2 ^ 30 }
     requires ends { All (λ a. (1 ≤ a.to) × (a.to ≤ length ranking.now)) (map (λ a. A.arc a) arcs.now) }
-    requires fits { All (λ a. found.dist + a.w < 2 ^ 64) (map (λ a. A.arc a) arcs.now) }
+    requires fits { All (λ a. found.dist + a.w < 2 ^ 96) (map (λ a. A.arc a) arcs.now) }
     requires count { count ≡ wanted p frontier.old }
     ensures same { length frontier.new ≡ length frontier.old }
     ensures relaxed { OnOk result (frontier.new ≡ relaxed_all ranking.now found (map (λ a. A.arc a) arcs.now) frontier.old) }
@@ -154,7 +154,7 @@ fn relax<A: AnyArc>(
     let mut wanted = count;
     for arc in arcs {
         let arc = arc.widened();
-        let dist = found.dist + arc.w;
+        let dist = found.dist + arc.w as u128;
         let before = frontier.reach(arc.to);
         if !before.improves(dist) {
             continue;
@@ -181,10 +181,11 @@ fn wants(reach: Reach<Highest>, p: u32) -> u32
 
 /// Puts a settled node among the planted ones where it carries the root at the position `p`.
 fn label(planted: &mut Planted, v: u32, found: Found<Highest>, p: u32) -> Result<(), AllocError>
+    requires { found.dist < 2 ^ 96 }
     ensures { OnOk result (planted.new.items ≡ labels_with p planted.old.items v found) }
 {
     if found.carried.position == p {
-        planted.push((v, found.dist))?;
+        planted.push((v, Dist::of(found.dist)))?;
     }
     Ok(())
 }

@@ -7,10 +7,10 @@ ghost use Rattle.plant_tree.specs.Planted.{AreOfNodes};
 use crate::planter::Planter;
 use rank_table::Ranking;
 use std::alloc::{AllocError, Global};
-use walk_laws::Graph;
+use walk_laws::{Dist, Graph};
 
 /// The nodes for which a root is canonical, each with its distance from the root.
-pub type Planted = Vec<(u32, u64)>;
+pub type Planted = Vec<(u32, Dist)>;
 
 /// The planted tree of the node at the position `p`, which counts from 0: by rising node, the nodes for which that
 /// node is canonical, with their distances. (Planting Trees, PVLDB 2019.) The only error is that memory ran out.

@@ -1,8 +1,9 @@
 -- Chains through a list of entries, and what a walk of one finds.
-use Rattle.std.proofs.Common.{◌≡◌, ◌≢◌, ℕ, ◌+◌, ◌-◌, ◌<◌, ◌≤◌, inl, inr, List, [], ◌∷◌, ◌++◌, length, get_or, set, take, reverse, sym, ap, subst, ◌∙◌, arith}
+use Rattle.std.proofs.Common.{◌≡◌, ◌≢◌, ◌↔◌, true, true≢false, nat_eq, ℕ, ◌+◌, ◌-◌, ◌<◌, ◌≤◌, inl, inr, List, [], ◌∷◌, ◌++◌, length, get_or, set, take, reverse, sym, ap, subst, ◌∙◌, arith}
 use Rattle.std.proofs.Math.ListN.{length-set}
 use Rattle.std.proofs.lemmas.Bool.{cases_lt, cases_eq}
-use Rattle.std.proofs.lemmas.List.{append-nil, get_or_default, get_or_push, get_or-set_same, get_or-set_other, length-append, reverse-append, take_all}
+use Rattle.std.proofs.lemmas.Bool.Decides.{eqb_tells}
+use Rattle.std.proofs.lemmas.List.{append-nil, get_or_default, get_or_push, get_or-set_same, get_or-set_other, length-append, reverse-append, reverse-reverse, take_all}
 use Rattle.walk_laws.specs.declared.entry.Entry.{Entry}
 use Rattle.hub_index.specs.declared.node_entry.NodeEntry.{NodeEntry}
 use Rattle.hub_index.specs.NodeEntries.{entries_of_node, entry_if, entry_of}
@@ -11,7 +12,7 @@ use Rattle.hub_index.proofs.GatheredRows.{entries_of_node-more, entry_if-other, 
 use Rattle.pool_view.specs.declared.chains.Chains.{Chains}
 use Rattle.pool_view.specs.Chains.{AreChained, AreEmpty, head_of}
 use Rattle.pool_view.specs.Links.{IsChain}
-use Rattle.pool_view.proofs.Linked.{IsChain-more}
+use Rattle.pool_view.proofs.Linked.{IsChain-more, no_more}
 
 -- one more entry is chained
 module _ (entries : List NodeEntry) (many : ℕ) (d : NodeEntry) (node : ℕ) (old new : Chains) (within : many < length entries) (is : (get_or entries many d).node ≡ node) (place : IsNode (length old.heads.items) node) (chained : AreChained entries many old) (nexts_are : new.nexts.items ≡ old.nexts.items ++ head_of old node ∷ []) (heads_are : new.heads.items ≡ set old.heads.items (node - 1) (many + 1)) where
@@ -97,6 +98,16 @@ AreChained-none entries chains empty none = record {
 pub whole_chain : (entries : List NodeEntry) (chains : Chains) → AreChained entries (length entries) chains → (v : ℕ) → IsNode (length chains.heads.items) v → IsChain entries chains.nexts.items (head_of chains v) (reverse (entries_of_node entries v))
 whole_chain entries chains chained v v_in =
     subst (λ es. IsChain entries chains.nexts.items (head_of chains v) (reverse (entries_of_node es v))) (take_all (length entries) entries (omega arith)) (chained.chain v v_in)
+
+-- whether there is an entry is to be seen by the head
+pub head_tells : (entries : List NodeEntry) (chains : Chains) → AreChained entries (length entries) chains → (v : ℕ) → IsNode (length chains.heads.items) v → nat_eq (head_of chains v) 0 ≡ true ↔ (entries_of_node entries v ≡ [])
+head_tells entries chains chained v v_in =
+    let row = entries_of_node entries v in
+    let chain = whole_chain entries chains chained v v_in in
+    elim (eqb_tells (head_of chains v) 0) [
+      | inl end ↦ (λ _. sym (reverse-reverse row) ∙ ap reverse (no_more entries chains.nexts.items (head_of chains v) (reverse row) chain (omega (arith, end.1))), λ _. end.0)
+      | inr on ↦ (λ is. absurd (true≢false (sym is ∙ on.0)), λ none. absurd (on.1 (subst (λ es. IsChain entries chains.nexts.items (head_of chains v) (reverse es)) none chain)))
+    ]
 
 pub head_within : (entries : List NodeEntry) (many : ℕ) (chains : Chains) → AreChained entries many chains → (v : ℕ) → IsNode (length chains.heads.items) v → head_of chains v ≤ many
 head_within entries many chains chained v v_in = elim (cases_lt (head_of chains v) 1) [

@@ -1,5 +1,5 @@
 -- What a visit and a put keep of a view.
-use Rattle.std.proofs.Common.{◌≡◌, inl, inr, ℕ, Bool, true, false, List, [], ◌∷◌, ◌++◌, map, reverse, sym, ap, subst, ◌∙◌}
+use Rattle.std.proofs.Common.{◌≡◌, inl, inr, ℕ, Bool, true, false, List, [], ◌∷◌, ◌++◌, reverse, sym, ap, subst, ◌∙◌}
 use Rattle.std.proofs.lemmas.Bool.{cases_eq}
 use Rattle.std.proofs.lemmas.List.{append_assoc, append-nil, reverse-append}
 use Rattle.walk_laws.specs.declared.entry.Entry.{Entry}
@@ -7,7 +7,7 @@ use Rattle.walk_laws.specs.Labelling.{label_row}
 use Rattle.label_pool.specs.declared.rule.Linked.{Linked}
 use Rattle.label_pool.specs.Seats.{Seated, HasPut, HasFound}
 use Rattle.pool_view.specs.Fitting.{Fitting, MayStand}
-use Rattle.pool_view.specs.Putting.{Putting, IsPooledBy, put_entry}
+use Rattle.pool_view.specs.Putting.{AreFar, Putting, IsListFrom, IsPooledBy}
 use Rattle.pool_view.specs.Seen.{IsSeen, seen_chain}
 use Rattle.pool_view.specs.Viewing.{Viewing, IsViewing, IsOpen, HasVisited, IsInPool, fact_of, seen_row, whole_row}
 use Rattle.pool_view.proofs.SeenChains.{look_at, IsSeen-looked, IsSeen-looked_else, IsSeen-put, IsSeen-put_else, seen-looked, seen-put}
@@ -55,10 +55,10 @@ viewing-put before seat v e viewing put stands =
 
 -- nothing was put
 pub stays_pooled : (before seat : Seated Fitting) (puts : Putting) → seat.puts ≡ before.puts → IsPooledBy before puts → IsPooledBy seat puts
-stays_pooled before seat puts same by = by ∙ ap (map put_entry) (sym same)
+stays_pooled before seat puts same by = subst (λ ps. IsListFrom ps puts.kept puts.list) (sym same) by
 
 pub stays_open : (past : Bool) (before seat : Seated Fitting) (puts new : Putting) → seat.past ≡ before.past → new.kept ≡ puts.kept → IsOpen past before puts → IsOpen past seat new
-stays_open false before seat puts new same none opened = (same ∙ opened.0, none ∙ opened.1)
+stays_open false before seat puts new same none opened = (same ∙ opened.0, subst AreFar (sym none) opened.1)
 stays_open true before seat puts new same none opened = (opened.0, same ∙ opened.1)
 
 -- what is seen after a visit is what it found

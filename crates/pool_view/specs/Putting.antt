@@ -1,9 +1,9 @@
 -- What one worker puts in a superstep, in the pool and in rows of its own.
-use Rattle.std.specs.Prelude.{◌≡◌, ℕ, List, [], ◌∷◌, ◌++◌, All, None, length, map, replicate}
+use Rattle.std.specs.Prelude.{◌≡◌, ℕ, ◌^◌, ◌≤◌, List, [], ◌∷◌, ◌++◌, All, None, length, map, replicate}
 use Rattle.walk_laws.specs.declared.entry.Entry.{Entry}
 use Rattle.hub_index.specs.declared.node_entry.NodeEntry.{NodeEntry}
 use Rattle.hub_index.specs.HubIndex.{with_entry}
-use Rattle.hub_index.specs.NodeEntries.{entry_of}
+use Rattle.hub_index.specs.NodeEntries.{entries_of_node, entry_of}
 use Rattle.hub_index.specs.Views.{IsNode}
 use Rattle.pool_view.specs.declared.chains.Chains.{Chains}
 use Rattle.pool_view.specs.Chains.{AreChained}
@@ -11,10 +11,10 @@ use Rattle.label_pool.specs.declared.rule.Put.{Put}
 use Rattle.label_pool.specs.Seats.{Seated}
 use Rattle.pool_view.specs.Fitting.{Fitting}
 
--- the number of nodes, what was put in the pool, and what was kept after that
+-- the number of nodes, all that was put, in order, and what of it was kept, in order
 pub record Putting : Type 0 where
   pub n : ℕ
-  pub pooled : List NodeEntry
+  pub list : List NodeEntry
   pub kept : List NodeEntry
 
 -- the list, with the entry of v last
@@ -30,10 +30,6 @@ rows_with rows (e ∷ es) = rows_with (with_entry rows e.node (entry_of e)) es
 abbrev pub own_rows : Putting → List (List Entry)
 own_rows puts = rows_with (replicate puts.n []) puts.kept
 
--- all that was put, in that order
-abbrev pub all_put : Putting → List NodeEntry
-all_put puts = puts.pooled ++ puts.kept
-
 -- the entries are of nodes, and all of them are chained
 pub record AreKept (entries : List NodeEntry) (chains : Chains) : Type 0 where
   pub nodes : All (λ e. IsNode (length chains.heads.items) e.node) entries
@@ -43,12 +39,24 @@ pub record AreKept (entries : List NodeEntry) (chains : Chains) : Type 0 where
 abbrev pub put_entry : Put → NodeEntry
 put_entry put = record { node = put.node; pos = put.linked.entry.pos; dist = put.linked.entry.dist }
 
--- what is told of the pool is what the seat put there, in that order
-abbrev pub IsPooledBy : Seated Fitting → Putting → Type 0
-IsPooledBy seat puts = puts.pooled ≡ map put_entry seat.puts
+-- the first of the entries, if there is one, is so far that a cell has no room for its distance
+abbrev pub BeginsFar : List Entry → Type 0
+BeginsFar [] = Unit {0}
+BeginsFar (e ∷ es) = 2 ^ 64 ≤ e.dist
 
--- the list has what the seat put in the pool, in that order, and after it what was kept: nothing, where the seat has not drawn past the last cell
+-- at each node, what is kept begins with such an entry
+abbrev pub AreFar : List NodeEntry → Type 0
+AreFar kept = (v : ℕ) → BeginsFar (entries_of_node kept v)
+
+-- at each node the list has what was put in the pool, in that order, and after it what was kept
+abbrev pub IsListFrom : List Put → List NodeEntry → List NodeEntry → Type 0
+IsListFrom puts kept list = (v : ℕ) → entries_of_node list v ≡ entries_of_node (map put_entry puts) v ++ entries_of_node kept v
+
+abbrev pub IsPooledBy : Seated Fitting → Putting → Type 0
+IsPooledBy seat puts = IsListFrom seat.puts puts.kept puts.list
+
+-- at each node the list has what the seat put in the pool, in that order, and after it what was kept: while the seat has not drawn past the last cell, nothing but an entry too far for a cell and what comes after it
 pub record IsListOf (seat : Seated Fitting) (list : List NodeEntry) : Type 0 where
   pub kept : List NodeEntry
-  pub list_is : list ≡ map put_entry seat.puts ++ kept
-  pub none : seat.past ≡ None → kept ≡ []
+  pub list_is : IsListFrom seat.puts kept list
+  pub far : seat.past ≡ None → AreFar kept

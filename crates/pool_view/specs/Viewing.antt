@@ -1,5 +1,5 @@
 -- What one worker sees of the rows of a superstep (Planting Trees, PVLDB 2019), and what its calls change.
-use Rattle.std.specs.Prelude.{◌≡◌, ◌⊎◌, ℕ, ◌≤◌, Bool, true, false, List, [], ◌++◌, All, Contains, None, Some, Option, length, reverse}
+use Rattle.std.specs.Prelude.{◌≡◌, ◌≢◌, ◌⊎◌, ℕ, ◌^◌, ◌≤◌, Bool, true, false, List, [], ◌++◌, All, Contains, None, Some, Option, length, reverse}
 use Rattle.walk_laws.specs.declared.entry.Entry.{Entry}
 use Rattle.walk_laws.specs.Joined.{Joined}
 use Rattle.walk_laws.specs.Labelling.{EntryFits, label_row}
@@ -15,7 +15,7 @@ use Rattle.label_pool.specs.declared.rule.Linked.{Linked}
 use Rattle.label_pool.specs.Chains.{entries_of}
 use Rattle.label_pool.specs.Seats.{PoolId, Seated, HasPut, HasFound}
 use Rattle.pool_view.specs.Fitting.{Fitting, MayStand, edges_of, order_of, IsFittingPool}
-use Rattle.pool_view.specs.Putting.{Putting, listed}
+use Rattle.pool_view.specs.Putting.{AreFar, Putting, listed}
 use Rattle.pool_view.specs.Seen.{IsSeen, seen_chain}
 
 -- A worker at the rows: its seat at the pool, the rows of the global table, its own rows, and the list of what it put
@@ -58,9 +58,9 @@ pub record IsViewing (view : Viewing) : Type 0 where
   pub seen : (v : ℕ) → IsSeen (fact_of view v) view.seat.looks view.seat.marks v
   pub nodes : All (λ e. IsNode (length (order_of view.seat.pool.fact)) e.node) view.list
 
--- as long as the seat has not drawn past the last cell nothing is kept
+-- as long as the seat has not drawn past the last cell, what is kept at a node begins with an entry too far for a cell
 abbrev pub IsOpen : Bool → Seated Fitting → Putting → Type 0
-IsOpen false seat puts = (seat.past ≡ None) × (puts.kept ≡ [])
+IsOpen false seat puts = (seat.past ≡ None) × AreFar puts.kept
 IsOpen true seat puts = (cell : ℕ) × (seat.past ≡ Some cell)
 
 -- a visit of v that finds this chain
@@ -77,11 +77,16 @@ pub record IsInPool (before : Viewing) (v : ℕ) (e : Entry) (after : Viewing) :
 abbrev pub IsPast : Viewing → Viewing → Type 0
 IsPast before after = (cell : ℕ) × (after ≡ record before { seat = record before.seat { past = Some cell } })
 
--- the pool had no cell for it, and the entry was put in the worker's own row
+-- an entry at this distance is one for the own row, where the number past the cells is this: the seat has drawn past the last cell, or a cell has no room for the distance, or the own row has entries, and what is put later comes last
+abbrev pub IsForOwn : Viewing → ℕ → ℕ → Option ℕ → Type 0
+IsForOwn view v dist past = ((cell : ℕ) × (past ≡ Some cell)) ⊎ ((past ≡ view.seat.past) × ((2 ^ 64 ≤ dist) ⊎ (label_row view.own v ≢ [])))
+
+-- the entry was put in the worker's own row, for which the seat may have drawn past the last cell
 pub record IsInOwn (before : Viewing) (v : ℕ) (e : Entry) (after : Viewing) : Type 0 where
   pub within : v ≤ length before.own
-  pub cell : ℕ
-  pub same : after ≡ record before { seat = record before.seat { past = Some cell }; own = with_entry before.own v e }
+  pub past : Option ℕ
+  pub for_own : IsForOwn before v e.dist past
+  pub same : after ≡ record before { seat = record before.seat { past = past }; own = with_entry before.own v e }
 
 -- the entry was put in the one or in the other
 abbrev pub IsPlaced : Viewing → ℕ → Entry → Viewing → Type 0
@@ -91,7 +96,7 @@ IsPlaced before v e after = IsInPool before v e after ⊎ IsInOwn before v e aft
 abbrev pub HasGained : Viewing → ℕ → Entry → Viewing → Type 0
 HasGained before v e after = IsPlaced (record before { list = listed before.list v e }) v e after
 
--- what an offer changes after its visit: nothing where an entry covers; the entry is put in the pool, or, where that has no cell for it, in the worker's own row, and listed; where that finds no memory nothing is gained
+-- what an offer changes after its visit: nothing where an entry covers; the entry is put in the pool, or in the worker's own row, and listed; where that finds no memory nothing is gained
 abbrev pub IsAfter : Viewing → ℕ → Entry → Offer → Viewing → Type 0
 IsAfter before v e IsPut after = HasGained before v e after
 IsAfter before v e (Covered pos dist) after = after ≡ before

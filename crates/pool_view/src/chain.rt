@@ -29,22 +29,23 @@ pub fn note_chain(pool: &Pool<Fits>, seat: &mut PoolSeat<Fits>, v: u32, table: &
     }
 }
 
-/// The newest entry of the chain of the node `v`, a number from 1, that covers the entry by way of the root's hubs in the
-/// table, or None where none of the whole chain does.
+/// The newest entry of the chain of the node `v`, a number from 1, that covers one at the position `pos`, from 0, with the
+/// distance `dist` by way of the root's hubs in the table, or None where none of the whole chain does.
 pub fn covered_in_chain(
     pool: &Pool<Fits>,
     seat: &mut PoolSeat<Fits>,
     v: u32,
     table: &RootTable,
-    entry: Entry,
+    pos: u32,
+    dist: u128,
 ) -> Option<Entry>
     requires seat { IsSeatOf pool.now seat.old }
     requires node { IsNode pool.now.n v }
     requires cells { pool.now.cells < 2 ^ 32 }
-    requires pos { entry.pos ≤ length table.now }
+    requires pos { pos ≤ length table.now }
     ensures chain { (found : List Linked) × HasFound MayStand pool.now seat.old v found seat.new
-        × IfSome result (λ c. Contains (entries_of found) c × IsCover table.now entry.pos entry.dist c)
-        × IfNone result (All (λ c. ¬ IsCover table.now entry.pos entry.dist c) (entries_of found)) }
+        × IfSome result (λ c. Contains (entries_of found) c × IsCover table.now pos dist c)
+        × IfNone result (All (λ c. ¬ IsCover table.now pos dist c) (entries_of found)) }
 {
     let mut cover = None;
     let mut walk = pool.visit(seat, v);
@@ -52,8 +53,9 @@ pub fn covered_in_chain(
         let Some(other) = walk.next(pool, seat) else {
             break;
         };
-        if cover.is_none() && table.covers(other, entry.pos, entry.dist) {
-            cover = Some(other);
+        let other = &other;
+        if cover.is_none() && table.covers(*other, pos, dist) {
+            cover = Some(*other);
         }
     }
     cover

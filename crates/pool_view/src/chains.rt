@@ -1,5 +1,5 @@
 //! Chains through a list of entries of many nodes, one for each node.
-ghost use Rattle.std.specs.Prelude.{◌≡◌, ℕ, ◌+◌, ◌<◌, List, All, get_or, length, reverse, IfOk, OnOk, OnErr};
+ghost use Rattle.std.specs.Prelude.{◌≡◌, ◌↔◌, ℕ, ◌+◌, ◌<◌, List, [], All, IsTrue, get_or, length, reverse, IfOk, OnOk, OnErr};
 ghost use Rattle.hub_index.specs.declared.node_entry.NodeEntry.{NodeEntry as ANodeEntry};
 ghost use Rattle.hub_index.specs.NodeEntries.{entries_of_node};
 ghost use Rattle.hub_index.specs.Views.{IsNode};
@@ -59,6 +59,14 @@ impl Chains {
             nexts: self.nexts.as_slice(),
             link: self.heads[v as usize - 1],
         }
+    }
+
+    /// Whether the node `v`, a number from 1, has no entry in the list that is chained.
+    pub fn is_empty_at(&self, v: u32) -> bool
+        requires { IsNode (length self.now.heads.items) v }
+        ensures { (entries : List ANodeEntry) → AreChained entries (length entries) self.now → IsTrue result ↔ (entries_of_node entries v ≡ []) }
+    {
+        self.heads[v as usize - 1] == 0
     }
 
     /// Empties the chains of a list. It costs the entries.

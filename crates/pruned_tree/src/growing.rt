@@ -13,7 +13,7 @@ use frontier::Frontier;
 use hub_index::{Entry, Offer, RootTable, RowView};
 use rank_table::Ranking;
 use std::alloc::{AllocError, Global};
-use walk_laws::{AnyArc, ArcRow, Graph};
+use walk_laws::{AnyArc, ArcRow, Dist, Graph};
 
 /// Grows the pruned tree of the root at the position `p`, which counts from 0, and answers how many entries it put.
 ///
@@ -81,7 +81,7 @@ fn grow_from<R: RowView>(
     while let Some((v, found)) = frontier.take() {
         let entry = Entry {
             pos: p,
-            dist: found.dist,
+            dist: Dist::of(found.dist),
         };
         match view.offer(v, entry, table) {
             Offer::Put => {}
@@ -101,10 +101,10 @@ fn relax_row(
     row: ArcRow<'_>,
     ranking: &Ranking,
     p: u32,
-    dist: u64,
+    dist: u128,
 ) -> Result<(), AllocError>
     requires ends { All (λ a. (1 ≤ a.to) × (a.to ≤ length ranking.now)) (arcs_in row) }
-    requires fits { All (λ a. dist + a.w < 2 ^ 64) (arcs_in row) }
+    requires fits { All (λ a. dist + a.w < 2 ^ 96) (arcs_in row) }
     requires nodes { length frontier.old ≡ length ranking.now + 1 }
     ensures same { length frontier.new ≡ length frontier.old }
     ensures relaxed { OnOk result (IsRelaxed ranking.now p dist (length (arcs_in row.entry)) (arcs_in row.entry) frontier.old frontier.new) }
@@ -121,17 +121,17 @@ fn relax<A: AnyArc>(
     arcs: &[A],
     ranking: &Ranking,
     p: u32,
-    dist: u64,
+    dist: u128,
 ) -> Result<(), AllocError>
     requires ends { All (λ a. (1 ≤ a.to) × (a.to ≤ length ranking.now)) (map (λ a. A.arc a) arcs.now) }
-    requires fits { All (λ a. dist + a.w < 2 ^ 64) (map (λ a. A.arc a) arcs.now) }
+    requires fits { All (λ a. dist + a.w < 2 ^ 96) (map (λ a. A.arc a) arcs.now) }
     requires nodes { length frontier.old ≡ length ranking.now + 1 }
     ensures same { length frontier.new ≡ length frontier.old }
     ensures relaxed { OnOk result (IsRelaxed ranking.now p dist (length (map (λ a. A.arc a) arcs.now)) (map (λ a. A.arc a) arcs.now) frontier.old frontier.new) }
 {
     for arc in arcs {
         let arc = arc.widened();
-        let reached = dist + arc.w;
+        let reached = dist + arc.w as u128;
         let before = frontier.reach(arc.to);
         if !before.improves(reached) {
             continue;

@@ -1,12 +1,14 @@
-ghost use Rattle.std.specs.Prelude.{◌≡◌, length, IfOk};
+ghost use Rattle.std.specs.Prelude.{◌≡◌, length, IfOk, IfErr};
 ghost use Rattle.walk_laws.specs.Joined.{Joined};
 ghost use Rattle.walk_laws.specs.Labelling.{IsChl};
+ghost use Rattle.walk_laws.specs.Overflow.{Overflows};
+ghost use Rattle.hub_index.specs.Faults.{TellsFault};
 ghost use Rattle.renumbering.specs.Copies.{IsCopyOf};
 
 use crate::renumbered::{renumbered_graph, renumbered_ranking};
 use crate::rows::{rows_back, split_rows_back};
 use crate::search::bfs_order;
-use hub_index::{Index, RowList, SplitIndex, SplitRows};
+use hub_index::{BuildFault, Index, RowList, SplitIndex, SplitRows};
 use rank_table::Ranking;
 use std::alloc::{AllocError, Global};
 use walk_laws::Graph;
@@ -45,20 +47,22 @@ impl WorkingCopy {
         })
     }
 
-    /// The index of the graph and the ranking that the copy was made of, from the labelling of the copy. No entry is copied;
-    /// the only error is that memory ran out.
+    /// The index of the graph and the ranking that the copy was made of, from the labelling of the copy, or its first hub that is
+    /// too far for an index. No entry is copied, and the only other error is that memory ran out.
     pub fn index(
         self,
         alloc: Global,
         graph: &Graph,
         ranking: &Ranking,
         rows: RowList,
-    ) -> Result<Index, AllocError>
+    ) -> Result<Index, BuildFault>
         requires nodes { length ranking.now ≡ graph.now.n }
         requires copy { IsCopyOf graph.now ranking.now self }
         requires labelling { IsChl (Joined self.graph.edges) self.ranking rows }
         ensures order { IfOk result (λ index. index.order ≡ ranking.now) }
         ensures labelling { IfOk result (λ index. IsChl (Joined graph.now.edges) ranking.now index.rows) }
+        ensures fits { IfOk result (λ _. ¬ Overflows (Joined graph.now.edges) ranking.now) }
+        ensures fault { IfErr result (λ fault. TellsFault (Joined graph.now.edges) ranking.now fault) }
     {
         let n = graph.n();
         let ranked = ranking.n();
@@ -66,7 +70,7 @@ impl WorkingCopy {
         prove!(n == ranked && n == bfs_ordered);
         let order = ranking.copy(alloc)?;
         let back = rows_back(alloc, &self.bfs_order, rows)?;
-        Ok(Index::new(order, back))
+        Index::of_labelling(graph, order, back)
     }
 
     /// The same from a labelling in split rows.
@@ -76,18 +80,20 @@ impl WorkingCopy {
         graph: &Graph,
         ranking: &Ranking,
         rows: SplitRows,
-    ) -> Result<SplitIndex, AllocError>
+    ) -> Result<SplitIndex, BuildFault>
         requires nodes { length ranking.now ≡ graph.now.n }
         requires copy { IsCopyOf graph.now ranking.now self }
         requires labelling { IsChl (Joined self.graph.edges) self.ranking rows }
         ensures order { IfOk result (λ index. index.order ≡ ranking.now) }
         ensures labelling { IfOk result (λ index. IsChl (Joined graph.now.edges) ranking.now index.rows) }
+        ensures fits { IfOk result (λ _. ¬ Overflows (Joined graph.now.edges) ranking.now) }
+        ensures fault { IfErr result (λ fault. TellsFault (Joined graph.now.edges) ranking.now fault) }
     {
         let n = graph.n();
         let ranked = ranking.n();
         let bfs_ordered = self.bfs_order.n();
         prove!(n == ranked && n == bfs_ordered);
         let back = split_rows_back(alloc, &self.bfs_order, rows)?;
-        Ok(SplitIndex::new(ranking.copy(alloc)?, back))
+        SplitIndex::of_labelling(graph, ranking.copy(alloc)?, back)
     }
 }

@@ -1,5 +1,5 @@
 -- The words of a line, and the numbers among them.
-use Rattle.std.specs.Prelude.{◌≡◌, ℕ, ◌-◌, ◌^◌, min, Bool, true, false, ◌||◌, ◌==◌, List, [], ◌∷◌, ◌++◌, Option, Some, None, option_and_then, if◌then◌else◌}
+use Rattle.std.specs.Prelude.{◌≡◌, ℕ, ◌^◌, min, Bool, true, false, ◌||◌, ◌==◌, List, [], ◌∷◌, ◌++◌, Option, Some, None, option_and_then, if◌then◌else◌}
 use Rattle.std.specs.Option.{option_map}
 use Rattle.std.specs.Str.{all_ascii_digits}
 use Rattle.std.specs.Str.Parse.{digits_value}
@@ -33,9 +33,9 @@ abbrev pub number_of : List ℕ → Option ℕ
 number_of [] = None
 number_of (b ∷ word) = if all_ascii_digits (b ∷ word) then Some (digits_value 10 (b ∷ word)) else None
 
--- the number that a word is, as a reader of 64 bits keeps it: one above 2^64 - 1 as that
+-- the number that a word is, as a reader keeps it: one above 2^64 as that
 abbrev pub number_of_word : List ℕ → Option ℕ
-number_of_word word = option_map (λ n. min n (2 ^ 64 - 1)) (number_of word)
+number_of_word word = option_map (λ n. min n (2 ^ 64)) (number_of word)
 
 -- the first of some words is this number, and these words are after it
 pub record IsFirstNumber (words : List (List ℕ)) (number : Option ℕ) (after : List (List ℕ)) : Type 0 where

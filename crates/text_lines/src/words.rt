@@ -1,4 +1,4 @@
-ghost use Rattle.std.specs.Prelude.{◌≡◌, ◌+◌, ◌-◌, ◌*◌, ◌^◌, ◌<◌, ◌≤◌, ℕ, min, true, false, Some, List, [], ◌∷◌, ◌++◌, length, take, drop, slice_index, IsTrue, IfSome, IfNone};
+ghost use Rattle.std.specs.Prelude.{◌≡◌, ◌+◌, ◌*◌, ◌^◌, ◌<◌, ◌≤◌, ℕ, min, true, false, Some, List, [], ◌∷◌, ◌++◌, length, take, drop, slice_index, IsTrue, IfSome, IfNone};
 ghost use Rattle.std.specs.Char.{is_ascii_digit};
 ghost use Rattle.text_lines.specs.Words.{is_blank, word_if_any, words_after, words_of, is_skipped, number_of_word, IsFirstNumber};
 
@@ -17,14 +17,14 @@ pub fn first_word(line: &[u8]) -> Option<(&[u8], &[u8])>
 
 /// The number that the first word of a line is, as `number` tells it, and what is after that word; None where the line has
 /// no word.
-pub fn first_number(line: &[u8]) -> Option<(Option<u64>, &[u8])>
+pub fn first_number(line: &[u8]) -> Option<(Option<u128>, &[u8])>
     ensures found { IfSome result (λ r. IsFirstNumber (words_of line.now) r.0 (words_of r.1.now)) }
     ensures none { IfNone result (words_of line.now ≡ []) }
 {
     let rest = skip_blanks(line);
     let (value, len) = leading_digits(rest);
     if len > 0 && ends_word(rest, len) {
-        return Some((Some(value), &rest[len..]));
+        return Some((Some(u128::from(value)), &rest[len..]));
     }
     let (word, after) = first_word(rest)?;
     Some((number(word), after))
@@ -46,16 +46,17 @@ fn ends_word(line: &[u8], place: usize) -> bool
     place == line.len() || is_blank_byte(line[place])
 }
 
-/// The digits with which a line begins: the number that they are, or u64::MAX where it is greater, and how many they are.
+/// The digits with which a line begins, 19 of them at most: the number that they are, and how many they are.
 fn leading_digits(line: &[u8]) -> (u64, usize)
     ensures within { result.1 ≤ length line.now }
     ensures words { words_after (take result.1 line.now) (drop result.1 line.now) ≡ words_of line.now }
     ensures number { 0 < result.1 → number_of_word (take result.1 line.now) ≡ Some result.0 }
 {
-    let mut value = 0;
+    let end = line.len().min(19);
+    let mut value = 0u64;
     let mut len = 0;
-    while len < line.len() && is_digit_byte(line[len]) {
-        value = with_digit(value, line[len] - b'0');
+    while len < end && is_digit_byte(line[len]) {
+        value = value * 10 + u64::from(line[len] - b'0');
         len += 1;
     }
     (value, len)
@@ -67,15 +68,13 @@ fn is_digit_byte(byte: u8) -> bool
     b'0' <= byte && byte <= b'9'
 }
 
-/// A number with one digit more, or u64::MAX where that is greater.
-fn with_digit(value: u64, digit: u8) -> u64
+/// A number with one digit more, or 2^64 where that is greater.
+fn with_digit(value: u128, digit: u8) -> u128
     requires { digit < 10 }
-    ensures { result ≡ min (value * 10 + digit) (2 ^ 64 - 1) }
+    ensures { result ≡ min (value * 10 + digit) (2 ^ 64) }
 {
-    if value <= (u64::MAX - 9) / 10 {
-        return value * 10 + u64::from(digit);
-    }
-    value.saturating_mul(10).saturating_add(u64::from(digit))
+    let longer = value.saturating_mul(10).saturating_add(u128::from(digit));
+    longer.min(1 << 64)
 }
 
 /// A line from its first byte on that is no blank.
@@ -109,14 +108,14 @@ fn is_blank_byte(byte: u8) -> bool
     byte == b' ' || byte == b'\t'
 }
 
-/// The number that a word is, or u64::MAX where it is greater; None where the word is no number.
-fn number(word: &[u8]) -> Option<u64>
+/// The number that a word is, or 2^64 where it is greater; None where the word is no number.
+fn number(word: &[u8]) -> Option<u128>
     ensures { result ≡ number_of_word word.now }
 {
     if word.is_empty() {
         return None;
     }
-    let mut value = 0u64;
+    let mut value = 0u128;
     for byte in word {
         if !is_digit_byte(*byte) {
             return None;

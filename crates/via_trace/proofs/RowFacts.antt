@@ -67,7 +67,7 @@ module _ (index : TracedHubIndex) (well : IsWellFormed index.order index.rows) (
   own_at_zero p there =
       let own = own_entry index.order x in
       let level : p ≡ position_of index.order x = elim (Contains-append_cases row_is.others (own ∷ []) (entry_at p 0) (subst (λ row. Contains row (entry_at p 0)) row_is.ends there)) [
-        | inl other ↦ absurd (omega (arith, (All-contains (λ (e : Entry). (1 ≤ e.dist) × (e.dist < 2 ^ 62)) row_is.others (entry_at p 0) row_is.far other).0))
+        | inl other ↦ absurd (omega (arith, (All-contains (λ (e : Entry). (1 ≤ e.dist) × (e.dist < 2 ^ 64)) row_is.others (entry_at p 0) row_is.far other).0))
         | inr last ↦ elim (Contains-cons_cases own (entry_at p 0) [] last) [
           | inl same ↦ sym (ap pos_of same)
           | inr none ↦ absurd (Contains-empty (entry_at p 0) none)

@@ -8,5 +8,5 @@ pub enum Trace {
     /// The vias lead nowhere: from `at` no step leads nearer to the hub of the two rows.
     Broken { at: u32, hub: u32 },
     /// A walk of this length, as the rows have it, with the nodes that it passes, both ends counted.
-    Walk { length: u64, nodes: Nodes },
+    Walk { length: u128, nodes: Nodes },
 }

@@ -87,7 +87,7 @@ fn trace_by(
     u: u32,
     v: u32,
     hub: u32,
-    dist: u64,
+    dist: u128,
 ) -> Result<Trace, AllocError>
     requires well_formed { IsWellFormed traced.now.order traced.now.rows }
     requires have_vias { HaveVias traced.now.rows traced.now.vias }

@@ -70,8 +70,8 @@ arcs_of_row n edges v row graph joined k d h =
     let edge = IsEdge-joined n edges v a.to a.w graph.edge join in
     record { from_one = edge.to_one; up_to_n = edge.to_n; light = Joined-weight edges v a.to a.w join }
 
--- no walk of a tree and an edge after it is as long as 2 ^ 64
-pub fits_64 : (n : ℕ) (edges : List Edge) (dist more : ℕ) → IsGraph n edges → 1 ≤ n → dist + greatest_weight edges + more ≤ (n + 1) * greatest_weight edges → dist + greatest_weight edges < 2 ^ 64
-fits_64 n edges dist more graph some room =
+-- no walk of a tree and an edge after it is as long as 2 ^ 96
+pub fits_96 : (n : ℕ) (edges : List Edge) (dist more : ℕ) → IsGraph n edges → 1 ≤ n → dist + greatest_weight edges + more ≤ (n + 1) * greatest_weight edges → dist + greatest_weight edges < 2 ^ 96
+fits_96 n edges dist more graph some room =
     let one : 1 * greatest_weight edges ≤ n * greatest_weight edges = mul-le-mul_right (greatest_weight edges) some in
     omega (arith, graph.fits)

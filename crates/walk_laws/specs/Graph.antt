@@ -22,11 +22,11 @@ pub record IsEdge (n : ℕ) (e : Edge) : Type 0 where
   pub to_n : e.v ≤ n
   pub weight : 1 ≤ e.w
 
--- at most 2^30 nodes, edges between nodes, and no shortest walk as long as 2^62
+-- at most 2^30 nodes, edges between nodes, and no shortest walk as long as 2^94, which holds where all weights are below 2^64
 pub record IsGraph (n : ℕ) (edges : List Edge) : Type 0 where
   pub small : n ≤ 2 ^ 30
   pub edge : All (IsEdge n) edges
-  pub fits : n * greatest_weight edges < 2 ^ 62
+  pub fits : n * greatest_weight edges < 2 ^ 94
 
 -- the arcs at a node, in the order of the list: each edge once for each of its ends that is the node
 abbrev pub arcs_at : List Edge → ℕ → List Arc

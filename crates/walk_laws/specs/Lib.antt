@@ -12,6 +12,7 @@ pub mod Labelling
 pub mod Answer
 pub mod Cover
 pub mod Meet
+pub mod Overflow
 pub mod Lightest
 pub mod LightestArcs
 pub mod Laws

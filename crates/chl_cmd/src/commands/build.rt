@@ -1,19 +1,23 @@
-ghost use Rattle.std.specs.Prelude.{◌≡◌, length, IfOk};
+ghost use Rattle.std.specs.Prelude.{◌≡◌, length, IfOk, IfErr};
+ghost use Rattle.hub_index.specs.Faults.{TellsFault};
+ghost use Rattle.walk_laws.specs.Joined.{Joined};
+ghost use Rattle.walk_laws.specs.Overflow.{Overflows};
 ghost use Rattle.chl_inputs.specs.Stages.{Conforms};
 ghost use Rattle.chl_answers.specs.Commands.{IsFileOf, build_stage};
 ghost use Rattle.chl_words.specs.Asking.{AreWithinLimits};
 ghost use Rattle.chl_words.specs.declared.asked.Version.TheVariants.{One, Two};
 
-use crate::labelling::labelling;
+use crate::labelling::{labelling, stop_at};
 use chl_inputs::{Stop, read_graph, read_order};
 use chl_words::{By, Construction, Name, Version};
 use desk_io::{Desk, Gate};
 use entry_vias::{TracedIndex, vias_of};
 use gll_build::build_gll_split;
+use hub_index::BuildFault;
 use hybrid_build::build_hybrid_split;
 use index_file::{Pieces, encode_by, encode_via_by};
 use rank_table::Ranking;
-use std::alloc::{AllocError, Global};
+use std::alloc::Global;
 use std::sync::Wait;
 use std::thread::Threads;
 use walk_laws::Graph;
@@ -34,11 +38,12 @@ pub fn build_output<R: Threads + Wait + Sync, D: Desk, G: Gate + Sync>(
 {
     let graph = read_graph(alloc, graph.text(), desk)?;
     let ranking = read_order(alloc, order.text(), graph.n(), desk)?;
-    let bytes = file_bytes(rt, alloc, &graph, &ranking, version, construction, gate)?;
+    let made = file_bytes(rt, alloc, &graph, &ranking, version, construction, gate);
+    let bytes = made.map_err(stop_at)?;
     Ok(bytes)
 }
 
-/// The bytes of the file.
+/// The bytes of the file, or why no index was built.
 fn file_bytes<R: Threads + Wait + Sync, G: Gate + Sync>(
     rt: &R,
     alloc: Global,
@@ -47,10 +52,12 @@ fn file_bytes<R: Threads + Wait + Sync, G: Gate + Sync>(
     version: Version,
     construction: Construction,
     gate: &G,
-) -> Result<Pieces, AllocError>
+) -> Result<Pieces, BuildFault>
     requires size { length ranking.now ≡ graph.now.n }
     requires limits { AreWithinLimits construction.workers construction.cut }
-    ensures { IfOk result (IsFileOf version graph.now ranking.now) }
+    ensures bytes { IfOk result (IsFileOf version graph.now ranking.now) }
+    ensures fits { IfOk result (λ _. ¬ Overflows (Joined graph.now.edges) ranking.now) }
+    ensures fault { IfErr result (TellsFault (Joined graph.now.edges) ranking.now) }
 {
     match version {
         Version::One => plain_bytes(rt, alloc, graph, ranking, construction, gate),
@@ -66,15 +73,17 @@ fn traced_bytes<R: Threads + Wait + Sync, G: Gate + Sync>(
     ranking: &Ranking,
     construction: Construction,
     gate: &G,
-) -> Result<Pieces, AllocError>
+) -> Result<Pieces, BuildFault>
     requires size { length ranking.now ≡ graph.now.n }
     requires limits { AreWithinLimits construction.workers construction.cut }
-    ensures { IfOk result (IsFileOf Two graph.now ranking.now) }
+    ensures bytes { IfOk result (IsFileOf Two graph.now ranking.now) }
+    ensures fits { IfOk result (λ _. ¬ Overflows (Joined graph.now.edges) ranking.now) }
+    ensures fault { IfErr result (TellsFault (Joined graph.now.edges) ranking.now) }
 {
     let index = labelling(rt, alloc, graph, ranking, construction, gate)?;
     let vias = vias_of(rt, alloc, graph, &index, construction.workers)?;
     let traced = TracedIndex::new(index, vias);
-    encode_via_by(rt, alloc, &traced, construction.workers)
+    Ok(encode_via_by(rt, alloc, &traced, construction.workers)?)
 }
 
 /// The bytes of the file of version 1. An index by supersteps, whatever they begin with, is written out of the rows that the build
@@ -86,10 +95,12 @@ fn plain_bytes<R: Threads + Wait + Sync, G: Gate + Sync>(
     ranking: &Ranking,
     construction: Construction,
     gate: &G,
-) -> Result<Pieces, AllocError>
+) -> Result<Pieces, BuildFault>
     requires size { length ranking.now ≡ graph.now.n }
     requires limits { AreWithinLimits construction.workers construction.cut }
-    ensures { IfOk result (IsFileOf One graph.now ranking.now) }
+    ensures bytes { IfOk result (IsFileOf One graph.now ranking.now) }
+    ensures fits { IfOk result (λ _. ¬ Overflows (Joined graph.now.edges) ranking.now) }
+    ensures fault { IfErr result (TellsFault (Joined graph.now.edges) ranking.now) }
 {
     if let By::Gll = construction.by {
         let split = build_gll_split(
@@ -101,7 +112,7 @@ fn plain_bytes<R: Threads + Wait + Sync, G: Gate + Sync>(
             construction.cut,
             gate,
         )?;
-        return encode_by(rt, alloc, &split, construction.workers);
+        return Ok(encode_by(rt, alloc, &split, construction.workers)?);
     }
     if let By::Hybrid = construction.by {
         let split = build_hybrid_split(
@@ -114,8 +125,8 @@ fn plain_bytes<R: Threads + Wait + Sync, G: Gate + Sync>(
             construction.eta,
             gate,
         )?;
-        return encode_by(rt, alloc, &split, construction.workers);
+        return Ok(encode_by(rt, alloc, &split, construction.workers)?);
     }
     let index = labelling(rt, alloc, graph, ranking, construction, gate)?;
-    encode_by(rt, alloc, &index, construction.workers)
+    Ok(encode_by(rt, alloc, &index, construction.workers)?)
 }

@@ -77,6 +77,7 @@ fn totals_by<R: Threads + Wait + Sync, G: Gate + Sync>(
         cut: GRID_CUT,
         eta: 0,
     };
-    let index = labelling(rt, alloc, graph, ranking, construction, gate)?;
+    // No hub of a grid is too far: it has at most 2^30 nodes, and edges of weights up to 8.
+    let index = labelling(rt, alloc, graph, ranking, construction, gate).map_err(|_| AllocError)?;
     Ok(totals_of(&index))
 }

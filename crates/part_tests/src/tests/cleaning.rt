@@ -2,19 +2,12 @@
 ghost use Rattle.std.specs.Prelude.{◌≡◌, [], ◌∷◌, IfOk};
 ghost use Rattle.walk_laws.specs.Worked.{entry as entry_of};
 
-use super::one_to_four;
+use super::{entry, expect_row, one_to_four};
 use hub_index::RowList;
 use label_clean::clean;
 use std::alloc::Global;
 use std::process::Abort;
 use std::test::Fail;
-use walk_laws::Entry;
-
-fn entry(pos: u32, dist: u64) -> Entry
-    ensures { result ≡ entry_of pos dist }
-{
-    Entry { pos, dist }
-}
 
 /// The hub 1 of the square's nodes.
 fn first_hub(alloc: Global) -> Result<RowList, Fail>
@@ -41,28 +34,19 @@ fn later_entries(alloc: Global) -> Result<RowList, Fail>
     Ok(RowList::from_rows(rows))
 }
 
-/// The rows of the square.
-const SQUARE_ROWS: [&[Entry]; 4] = [
-    &[Entry { pos: 0, dist: 0 }],
-    &[Entry { pos: 0, dist: 1 }, Entry { pos: 1, dist: 0 }],
-    &[
-        Entry { pos: 0, dist: 2 },
-        Entry { pos: 1, dist: 1 },
-        Entry { pos: 2, dist: 0 },
-    ],
-    &[
-        Entry { pos: 0, dist: 1 },
-        Entry { pos: 2, dist: 1 },
-        Entry { pos: 3, dist: 0 },
-    ],
+/// The rows of the square: positions and distances.
+const SQUARE_ROWS: [&[(u32, u64)]; 4] = [
+    &[(0, 0)],
+    &[(0, 1), (1, 0)],
+    &[(0, 2), (1, 1), (2, 0)],
+    &[(0, 1), (2, 1), (3, 0)],
 ];
 
 /// Compares rows with those of the square.
 fn expect_square<R: Abort>(rt: &R, rows: &RowList) {
     assert_eq!(rt; rows.n(), 4);
     for (place, row) in SQUARE_ROWS.iter().enumerate() {
-        let v = place as u32 + 1;
-        assert_eq!(rt; rows.row(v), *row, "{v}");
+        expect_row(rt, rows, place as u32 + 1, row);
     }
 }
 

@@ -1,7 +1,7 @@
 //! The first roots of the square, planted.
 ghost use Rattle.std.specs.Prelude.{◌≡◌, length};
 
-use super::{one_to_four, square_graph};
+use super::{expect_row, one_to_four, square_graph};
 use desk_io::FreeGate;
 use hub_index::RowList;
 use plant_build::plant_first;
@@ -10,15 +10,10 @@ use std::process::Abort;
 use std::sync::Wait;
 use std::test::Fail;
 use std::thread::Threads;
-use walk_laws::{Entry, Graph};
+use walk_laws::Graph;
 
-/// The entries of the nodes 1 and 2 in the rows of the square.
-const FIRST_TWO: [&[Entry]; 4] = [
-    &[Entry { pos: 0, dist: 0 }],
-    &[Entry { pos: 0, dist: 1 }, Entry { pos: 1, dist: 0 }],
-    &[Entry { pos: 0, dist: 2 }, Entry { pos: 1, dist: 1 }],
-    &[Entry { pos: 0, dist: 1 }],
-];
+/// The entries of the nodes 1 and 2 in the rows of the square: positions and distances.
+const FIRST_TWO: [&[(u32, u64)]; 4] = [&[(0, 0)], &[(0, 1), (1, 0)], &[(0, 2), (1, 1)], &[(0, 1)]];
 
 /// The rows that the first two roots leave, planted by so many workers, 64 at most.
 fn two_planted<R: Abort + AllocGlobal + Threads + Wait + Sync>(
@@ -45,9 +40,7 @@ fn two_roots_of_the_square(rt: HostRuntime) -> Result<(), Fail> {
     for (workers, cut) in &[(1, 1), (1, 1024), (2, 1), (64, 1)] {
         let rows = two_planted(&rt, &graph, &ranking, *workers, *cut)?;
         for (place, row) in FIRST_TWO.iter().enumerate() {
-            let node = place as u32 + 1;
-            assert!(rt; node <= rows.n());
-            assert_eq!(rt; rows.row(node), *row, "{node} {workers}");
+            expect_row(&rt, &rows, place as u32 + 1, row);
         }
     }
     Ok(())

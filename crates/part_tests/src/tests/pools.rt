@@ -1,8 +1,9 @@
 //! Pools, by one seat and by two.
+ghost use Rattle.std.specs.Prelude.{◌^◌, ◌<◌};
 
 use label_pool::{LinkFact, Pool, PoolPut};
 use std::test::Fail;
-use walk_laws::Entry;
+use walk_laws::{Dist, Entry};
 
 /// The fact that always holds.
 #[derive(Clone, Copy)]
@@ -13,10 +14,12 @@ impl LinkFact for Anything {
 }
 
 // An entry at a position from 0.
-fn entry(pos: u32) -> Entry {
+fn entry(pos: u32) -> Entry
+    ensures { result.dist < 2 ^ 64 }
+{
     Entry {
         pos,
-        dist: u64::from(pos) + 7,
+        dist: Dist::of_u64(u64::from(pos) + 7),
     }
 }
 

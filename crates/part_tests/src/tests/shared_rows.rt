@@ -1,10 +1,9 @@
 //! Rows that two seats write.
 
-use super::{one_to_four, square_graph};
+use super::{entry, one_to_four, square_graph};
 use hub_index::{Offer, RootTable, RowView};
 use label_rows::{RowHand, Rows};
 use std::test::Fail;
-use walk_laws::Entry;
 
 /// The second seat finds what the first one put before it has put anything itself.
 #[test]
@@ -16,10 +15,7 @@ fn what_one_seat_put_another_finds(rt: HostRuntime) -> Result<(), Fail> {
     let mut table = RootTable::new(rt.alloc(), 4)?;
     let mut first = RowHand::new(&rt, &rows, one);
     let mut second = RowHand::new(&rt, &rows, two);
-    assert_eq!(rt;
-        first.offer(4, Entry { pos: 0, dist: 1 }, &table),
-        Offer::Put
-    );
+    assert_eq!(rt; first.offer(4, entry(0, 1), &table), Offer::Put);
     second.load_root(4, &mut table);
     assert_eq!(rt; table.get(0), Some(1));
     Ok(())

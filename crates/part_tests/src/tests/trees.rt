@@ -6,7 +6,7 @@ use plant_tree::{plant, plant_counted};
 use rank_table::Ranking;
 use std::process::Abort;
 use std::test::Fail;
-use walk_laws::Graph;
+use walk_laws::{Dist, Graph};
 
 /// By falling rank of the root: the nodes for which it is canonical, with their distances.
 const TREES: [&[(u32, u64)]; 4] = [
@@ -28,7 +28,11 @@ fn expect_tree<R: Abort + AllocGlobal>(
     requires position { p < length ranking.now }
 {
     let planted = plant(rt.alloc(), graph, ranking, p)?;
-    assert_eq!(rt; planted.as_slice(), tree, "position {p}");
+    assert_eq!(rt; planted.len(), tree.len(), "position {p}");
+    for (place, (node, dist)) in tree.iter().enumerate() {
+        let wanted = (*node, Dist::of_u64(*dist));
+        assert_eq!(rt; planted.get(place).copied(), Some(wanted), "position {p}");
+    }
     Ok(())
 }
 

@@ -6,7 +6,7 @@ use Rattle.walk_laws.specs.Joined.{Joined}
 use Rattle.walk_laws.proofs.JoinedEdges.{Joined-positive, weights_of_edges}
 use Rattle.entry_vias.specs.RowVias.{AreRowVias}
 use Rattle.entry_vias.specs.Slots.{slot_at, via_in}
-use Rattle.entry_vias.proofs.RowFacts.{row_within}
+use Rattle.entry_vias.proofs.RowFacts.{row_within, row_fits}
 use Rattle.entry_vias.proofs.Found.{row_found, no_other}
 use Rattle.entry_vias.proofs.looking.find_vias.Goals as goal
 
@@ -18,6 +18,11 @@ pub lay_out-sought-requires-clause-within : goal.lay_out-sought-requires-clause-
 lay_out-sought-requires-clause-within c =
     let index = c.args.index.now in
     rw c.row-row.ensures.value (λ k d lt. omega (arith, row_within index.order index.rows c.args.v c.row-row.ensures.well_formed c.requires.node (omega (arith, c.requires.within, c.requires.size)) k d lt, c.requires.table))
+
+pub lay_out-sought-requires-clause-fits : goal.lay_out-sought-requires-clause-fits
+lay_out-sought-requires-clause-fits c =
+    let index = c.args.index.now in
+    rw c.row-row.ensures.value (row_fits index.order index.rows c.args.v c.row-row.ensures.well_formed c.requires.node (omega (arith, c.requires.within, c.requires.size)))
 
 pub push_vias-requires : goal.push_vias-requires
 push_vias-requires c =

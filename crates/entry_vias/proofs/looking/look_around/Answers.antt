@@ -1,35 +1,33 @@
 use Rattle.std.proofs.Common.{◌≡◌, ◌∙◌, arith}
 use Rattle.walk_laws.specs.Joined.{Joined}
+use Rattle.walk_laws.specs.LightestArcs.{no_arc}
+use Rattle.walk_laws.proofs.JoinedEdges.{arcs_of_row}
 use Rattle.entry_vias.specs.Slots.{slot_at, sought_in}
 use Rattle.entry_vias.proofs.RowFacts.{row_within, row_fits}
-use Rattle.entry_vias.proofs.Arcs.{arc_facts, IsAfterArcs-next, IsAfterArcs-repeated, IsAfterAll-arcs, IsAfterAll-stopped}
+use Rattle.entry_vias.proofs.Arcs.{IsAfterArcs-next, IsAfterArcs-repeated, IsAfterAll-arcs, IsAfterAll-stopped}
 use Rattle.entry_vias.proofs.Counts.{none_sought}
 use Rattle.entry_vias.proofs.looking.look_around.Goals as goal
 
 pub row-requires-clause-node : goal.row-requires-clause-node
 row-requires-clause-node c =
-    (arc_facts c.args.graph.now.n c.args.graph.now.edges c.args.v c.arcs-arcs.result.now c.loop-k.k c.requires.graph (omega (arith, c.requires.node, c.requires.within)) c.arcs-arcs.ensures.joined c.loop-k-test.true).from_one
+    (arcs_of_row c.args.graph.now.n c.args.graph.now.edges c.args.v c.arcs-arcs.result.now c.requires.graph c.arcs-arcs.ensures.joined c.loop-k.k no_arc c.loop-k-test.true).from_one
 
 pub row-requires-clause-within : goal.row-requires-clause-within
 row-requires-clause-within c =
-    let arc = arc_facts c.args.graph.now.n c.args.graph.now.edges c.args.v c.arcs-arcs.result.now c.loop-k.k c.requires.graph (omega (arith, c.requires.node, c.requires.within)) c.arcs-arcs.ensures.joined c.loop-k-test.true in
+    let arc = arcs_of_row c.args.graph.now.n c.args.graph.now.edges c.args.v c.arcs-arcs.result.now c.requires.graph c.arcs-arcs.ensures.joined c.loop-k.k no_arc c.loop-k-test.true in
     omega (arith, arc.up_to_n, c.requires.size)
 
 pub look_at-left-requires-clause-within : goal.look_at-left-requires-clause-within
 look_at-left-requires-clause-within c =
-    let arc = arc_facts c.args.graph.now.n c.args.graph.now.edges c.args.v c.arcs-arcs.result.now c.loop-k.k c.requires.graph (omega (arith, c.requires.node, c.requires.within)) c.arcs-arcs.ensures.joined c.loop-k-test.true in
+    let arc = arcs_of_row c.args.graph.now.n c.args.graph.now.edges c.args.v c.arcs-arcs.result.now c.requires.graph c.arcs-arcs.ensures.joined c.loop-k.k no_arc c.loop-k-test.true in
     let index = c.args.index.now in
     rw c.row.ensures.value (λ k d lt. omega (arith, row_within index.order index.rows _ c.row.ensures.well_formed arc.from_one (omega (arith, arc.up_to_n, c.requires.size)) k d lt, c.loop-k.invariant.size, c.requires.table))
 
 pub look_at-left-requires-clause-fits : goal.look_at-left-requires-clause-fits
 look_at-left-requires-clause-fits c =
-    let arc = arc_facts c.args.graph.now.n c.args.graph.now.edges c.args.v c.arcs-arcs.result.now c.loop-k.k c.requires.graph (omega (arith, c.requires.node, c.requires.within)) c.arcs-arcs.ensures.joined c.loop-k-test.true in
+    let arc = arcs_of_row c.args.graph.now.n c.args.graph.now.edges c.args.v c.arcs-arcs.result.now c.requires.graph c.arcs-arcs.ensures.joined c.loop-k.k no_arc c.loop-k-test.true in
     let index = c.args.index.now in
     rw c.row.ensures.value (row_fits index.order index.rows _ c.row.ensures.well_formed arc.from_one (omega (arith, arc.up_to_n, c.requires.size)))
-
-pub look_at-left-requires-clause-light : goal.look_at-left-requires-clause-light
-look_at-left-requires-clause-light c =
-    (arc_facts c.args.graph.now.n c.args.graph.now.edges c.args.v c.arcs-arcs.result.now c.loop-k.k c.requires.graph (omega (arith, c.requires.node, c.requires.within)) c.arcs-arcs.ensures.joined c.loop-k-test.true).light
 
 pub loop-k-preserved : goal.loop-k-preserved
 loop-k-preserved c =

@@ -14,5 +14,5 @@ returns-clause-labelled g c =
     let index = c.args.index.now in
     let well = c.n-2.ensures.well_formed in
     IfOk-weaker c.vias_by.result (AreViasFrom (Joined graph.edges) index.rows 0 c.n-2.result) (λ vias. IsChl (Joined graph.edges) index.order index.rows → HaveVias index.rows vias)
-    (λ vias are chl. HaveVias-canonical graph.n graph.edges index.order index.rows vias c.n.ensures.graph well.ranking c.requires chl (AreVias-all (Joined graph.edges) index.rows c.n-2.result vias (omega (arith, c.n-2.ensures.value, well.size)) are))
+    (λ vias are chl. HaveVias-canonical graph.n graph.edges index.order index.rows vias c.n.ensures.graph well c.requires chl (AreVias-all (Joined graph.edges) index.rows c.n-2.result vias (omega (arith, c.n-2.ensures.value, well.size)) are))
     c.vias_by.ensures

@@ -1,4 +1,5 @@
-use Rattle.std.proofs.Common.{◌≡◌, ◌+◌, ◌-◌, ◌≤◌, vec_len}
+use Rattle.std.proofs.Common.{◌≡◌, ◌-◌, ◌≤◌, replicate}
+use Rattle.std.specs.Prelude.{Some}
 use Rattle.root_claims.specs.Seats.{IsSeatAt}
 use Rattle.gll_superstep.specs.Workers.{AreNew, AreSeatsOf}
 use Rattle.gll_superstep.proofs.superstep.tasks_on.Given as goal
@@ -9,6 +10,7 @@ invariant-loop g l = record {
   at : IsSeatAt l.context.claims.now l.first.claims;
   seats : AreSeatsOf l.superstep.value.claims l.superstep.value.pool (l.context.workers - l.counter) l.first;
   new : AreNew l.first;
-  count : vec_len l.tasks + 1 ≡ l.counter;
+  made : l.tasks.items ≡ replicate (l.counter - 1) (Some l.superstep.value);
+  from_one : 1 ≤ l.counter;
   within : l.counter ≤ l.context.workers;
 }

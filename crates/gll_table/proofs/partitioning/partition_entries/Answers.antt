@@ -1,4 +1,4 @@
-use Rattle.std.proofs.Common.{◌≡◌, ◌∷◌, [], ◌++◌, ◌<◌, get_or, length, refl, sym, ap, ◌∙◌, arith}
+use Rattle.std.proofs.Common.{◌≡◌, ◌∷◌, [], ◌++◌, ◌<◌, get_or, length, refl, sym, ap, subst, ◌∙◌, arith}
 use Rattle.std.proofs.Math.ListN.{length-set}
 use Rattle.std.proofs.lemmas.List.Elements.{All-get_or}
 use Rattle.hub_index.specs.declared.node_entry.NodeEntry.{NodeEntry}
@@ -6,9 +6,6 @@ use Rattle.hub_index.specs.Shards.{shard_number}
 use Rattle.label_clean.specs.declared.runs.RunList.{RunList}
 use Rattle.gll_table.proofs.PartLists.{none_there, one_more}
 use Rattle.gll_table.proofs.partitioning.partition_entries.Goals as goal
-
-abbrev nothing : NodeEntry
-nothing = record { node = 0; pos = 0; dist = 0 }
 
 pub loop-entry-init : goal.loop-entry-init
 loop-entry-init c = record {
@@ -26,12 +23,12 @@ loop-entry-preserved c =
     let place = c.number-number.result in
     let was = (get_or c.loop-entry.parts c.number-number.result c.index-parts-number.result).entries.items in
     let list : RunList = record { entries = c.push.new.self; runs = (get_or c.loop-entry.parts c.number-number.result c.index-parts-number.result).runs } in
-    let e : NodeEntry = get_or c.args.entries.now c.loop-entry.entry-index nothing in
-    let of : shard_number c.args.plan.shift (get_or c.args.entries.now c.loop-entry.entry-index nothing).node ≡ c.number-number.result = sym c.number-number.ensures in
+    let e : NodeEntry = c.entry-item.result in
+    let of : shard_number c.args.plan.shift c.entry-item.result.node ≡ c.number-number.result = sym c.number-number.ensures in
     let inside : c.number-number.result < length c.loop-entry.parts =
-    omega (arith, of, c.loop-entry.invariant.size, All-get_or (λ (e : NodeEntry). shard_number c.args.plan.shift e.node < length c.args.parts.now) entries i nothing c.loop-entry-test.true c.requires.within) in
+    omega (arith, of, c.loop-entry.invariant.size, subst (λ (e : NodeEntry). shard_number c.args.plan.shift e.node < length c.args.parts.now) (sym c.entry-item.is) (All-get_or (λ (e : NodeEntry). shard_number c.args.plan.shift e.node < length c.args.parts.now) entries i e c.loop-entry-test.true c.requires.within)) in
     record {
       size = length-set lists place list ∙ c.loop-entry.invariant.size;
-      each = one_more shift count entries i nothing c.loop-entry-test.true lists c.loop-entry.invariant.each place c.index-parts-number.result list of inside
+      each = one_more shift count entries i e c.entry-item.is c.loop-entry-test.true lists c.loop-entry.invariant.each place c.index-parts-number.result list of inside
           (c.in_ok-push.ensures.items ∙ ap (λ p. was ++ record { node = p; pos = e.pos; dist = e.dist } ∷ []) c.place.ensures);
     }

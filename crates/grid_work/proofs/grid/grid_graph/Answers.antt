@@ -3,7 +3,6 @@ use Rattle.std.specs.Prelude.{flat_map}
 use Rattle.std.specs.List.{range_with_len}
 use Rattle.walk_laws.specs.Graph.{IsGraph}
 use Rattle.grid_work.specs.Grid.{ends_in_row, grid_edges, weighted}
-use Rattle.grid_work.specs.declared.grid.Laid.{Laid}
 use Rattle.grid_work.proofs.Laying.{lays_more}
 use Rattle.grid_work.proofs.GridGraphs.{grid_is_graph}
 use Rattle.grid_work.proofs.grid.grid_graph.Goals as goal

@@ -1,9 +1,8 @@
-use Rattle.std.proofs.Common.{◌≡◌, ◌+◌, ◌^◌, ◌≤◌, length, subst, sym, ap, arith}
+use Rattle.std.proofs.Common.{◌+◌, ◌^◌, ◌≤◌, length, subst, sym, ap, arith}
 use Rattle.std.specs.Prelude.{All}
 use Rattle.walk_laws.specs.declared.entry.Entry.{Entry}
-use Rattle.walk_laws.specs.Labelling.{label_row}
 use Rattle.grid_work.specs.Totals.{row_distances}
-use Rattle.grid_work.proofs.RowTotals.{row_near, row_short, entries_more, entries_room, distances_more, distances_room}
+use Rattle.grid_work.proofs.RowTotals.{row_near, row_short, entries_room, distances_room}
 use Rattle.grid_work.proofs.totals.totals_of.Goals as goal
 
 pub overflow_add-entries : goal.overflow_add-entries
@@ -24,4 +23,4 @@ row_distances-distances-requires-clause-short c =
 pub row_distances-distances-requires-clause-near : goal.row_distances-distances-requires-clause-near
 row_distances-distances-requires-clause-near c =
     let i = c.args.index.now in
-    subst (All (λ (e : Entry). e.dist ≤ 2 ^ 62)) (sym c.row-row.ensures.value) (row_near i.order i.rows c.row-row.ensures.well_formed (c.loop-p.p + 1) (omega arith) (omega (arith, c.n-p-end.ensures.value)))
+    subst (All (λ (e : Entry). e.dist ≤ 2 ^ 64)) (sym c.row-row.ensures.value) (row_near i.order i.rows c.row-row.ensures.well_formed (c.loop-p.p + 1) (omega arith) (omega (arith, c.n-p-end.ensures.value)))

@@ -1,5 +1,5 @@
 use Rattle.std.proofs.Common.{map, get_or}
-use Rattle.std.proofs.lemmas.List.{get_or_default}
+use Rattle.std.proofs.lemmas.List.{get_or_default, get_or_read}
 use Rattle.std.proofs.lemmas.List.Kept.{AllPairs-from_increasing}
 use Rattle.hub_query.specs.HubTables.{far}
 use Rattle.hub_query.proofs.Through.{Through-take, Through-keep, Through-none, Through-some}
@@ -12,13 +12,14 @@ loop-entry-preserved c =
     let table = c.args.table.now in
     let row = c.args.row.now in
     let k = c.loop-entry.entry-index in
+    let item = get_or_read row k _ c.loop-entry-test.true c.entry-item.is nothing in
     let place = (get_or row k nothing).pos in
     let read = get_or_default table place 0 far (c.requires.within k nothing c.loop-entry-test.true) in
     elim c.if-sum-least.branch [
-      | then-sum-least w ↦ rw (w.pos-is, w.least-is)
-          (Through-take table row k c.loop-entry.pos c.loop-entry.least (get_or table place 0) c.loop-entry-test.true c.loop-entry.invariant read (AllPairs-from_increasing (map (λ e. e.pos) row) c.requires.rises) w.if-sum-least.true)
+      | then-sum-least w ↦ rw (w.pos-is, w.least-is, c.get_u64.ensures, item)
+          (Through-take table row k c.loop-entry.pos c.loop-entry.least (get_or table place 0) c.loop-entry-test.true c.loop-entry.invariant read (AllPairs-from_increasing (map (λ e. e.pos) row) c.requires.rises) (rw (c.get_u64.ensures, item) at w.if-sum-least.true))
       | else-sum-least w ↦ rw (w.pos-is, w.least-is)
-          (Through-keep table row k c.loop-entry.pos c.loop-entry.least (get_or table place 0) c.loop-entry-test.true c.loop-entry.invariant read w.if-sum-least.false)
+          (Through-keep table row k c.loop-entry.pos c.loop-entry.least (get_or table place 0) c.loop-entry-test.true c.loop-entry.invariant read (rw (c.get_u64.ensures, item) at w.if-sum-least.false))
     ]
 
 pub returns-then-least : goal.returns-then-least

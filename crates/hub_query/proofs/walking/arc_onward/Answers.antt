@@ -6,7 +6,7 @@ use Rattle.hub_index.proofs.CoveredEntries.{All-one_more, All-whole}
 use Rattle.hub_query.proofs.ArcsInOrder.{no_arc, arc_at, no_lesser}
 use Rattle.hub_query.proofs.Onward.{LeadsNowhere, as_arc}
 use Rattle.hub_query.proofs.walking.arc_onward.Goals as goal
-use Rattle.hub_query.proofs.walking.arc_onward.Goals.{else-arc-left-via-then-arc-left+else-are_apart_by, else-arc-left-via-else-arc-left}
+use Rattle.hub_query.proofs.walking.arc_onward.Goals.{else-w-left-via-then-w-left+else-are_apart_by, else-w-left-via-else-w-left}
 
 pub are_apart_by-requires-clause-first : goal.are_apart_by-requires-clause-first
 are_apart_by-requires-clause-first c =
@@ -22,9 +22,9 @@ returns-then-are_apart_by c =
     let arcs = c.arcs-arc-items.result.now in
     let a : Arc = get_or c.arcs-arc-items.result.now c.loop-arc.arc-index no_arc in
     record {
-      light = c.if-arc-left.true;
+      light = omega (arith, c.from-w.ensures, c.if-w-left.true);
       arc = (c.arcs-arc-items.ensures.joined a.to a.w).0 (Contains-get_or arcs c.loop-arc.arc-index no_arc c.loop-arc-test.true);
-      meet = c.if-are_apart_by.ensures.0 refl;
+      meet = rw c.from-w.ensures at c.if-are_apart_by.ensures.0 refl;
       least = λ z on.
           let leads = as_arc c.args.index.now c.args.v c.args.left z on.weight on.rest on.adds on.meet in
           no_lesser arcs c.arcs-arc-items.ensures.rising c.loop-arc.arc-index c.loop-arc-test.true (λ b. LeadsNowhere c.args.index.now c.args.v c.args.left b → ⊥)
@@ -35,9 +35,9 @@ returns-then-are_apart_by c =
 pub loop-arc-preserved : goal.loop-arc-preserved
 loop-arc-preserved c =
     All-one_more (LeadsNowhere c.args.index.now c.args.v c.args.left) c.arcs-arc-items.result.now c.loop-arc.arc-index no_arc c.loop-arc-test.true c.loop-arc.invariant
-    (λ light apart. elim c.else-arc-left.branch [
-      | else-arc-left-via-then-arc-left+else-are_apart_by w ↦ let found : IsTrue false = w.if-are_apart_by.ensures.1 apart in absurd cc
-      | else-arc-left-via-else-arc-left w ↦ omega (arith, w.if-arc-left.false, light)
+    (λ light apart. elim c.else-w-left.branch [
+      | else-w-left-via-then-w-left+else-are_apart_by w ↦ let found : IsTrue false = w.if-are_apart_by.ensures.1 (rw c.from-w.ensures apart) in absurd cc
+      | else-w-left-via-else-w-left w ↦ omega (arith, w.if-w-left.false, c.from-w.ensures, light)
     ])
 
 pub returns : goal.returns

@@ -9,7 +9,7 @@ loop-at-preserved c =
     let a = c.in-Some.arc in
     let on = c.in-Some.ensures in
     let is = IsEdge-joined c.args.graph.now.n c.args.graph.now.edges c.loop-at.at a.to a.w c.requires.graph.edge on.arc in
-    rw c.in_ok-push.ensures.items
+    rw (c.in_ok-push.ensures.items, c.from-left.ensures)
     (HasCome-step (Joined c.args.graph.now.edges) c.args.index.now c.args.v c.args.u c.args.far c.loop-at.nodes.items c.loop-at.at c.loop-at.left a c.loop-at.invariant c.loop-at-test.true on is.to_one (omega (arith, is.to_n, c.requires.size)))
 
 pub returns : goal.returns

@@ -14,11 +14,6 @@ look_at-requires-clause-within c =
     let arc = arc_at c.args.graph.now.n c.args.graph.now.edges c.args.v c.arcs-arc-items.result.now c.loop-arc.arc-index no_arc c.requires.graph c.requires.node c.requires.within c.arcs-arc-items.ensures.joined c.loop-arc-test.true in
     omega (arith, arc.up_to_n, c.requires.size)
 
-pub look_at-requires-clause-fits : goal.look_at-requires-clause-fits
-look_at-requires-clause-fits c =
-    let arc = arc_at c.args.graph.now.n c.args.graph.now.edges c.args.v c.arcs-arc-items.result.now c.loop-arc.arc-index no_arc c.requires.graph c.requires.node c.requires.within c.arcs-arc-items.ensures.joined c.loop-arc-test.true in
-    omega (arith, arc.light, c.requires.fits)
-
 pub loop-arc-preserved : goal.loop-arc-preserved
 loop-arc-preserved c =
     let J = Joined c.args.graph.now.edges in

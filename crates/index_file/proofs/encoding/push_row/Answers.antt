@@ -1,6 +1,6 @@
 use Rattle.std.proofs.Common.{◌≡◌, ◌+◌, ◌++◌, length, take, get_or, sym, ap, subst, ◌∙◌, append_assoc, arith}
 use Rattle.std.specs.Prelude.{flat_map}
-use Rattle.std.proofs.lemmas.List.{take_all}
+use Rattle.std.proofs.lemmas.List.{take_all, get_or_read}
 use Rattle.walk_laws.specs.declared.entry.Entry.{Entry}
 use Rattle.hub_index.specs.CompactRows.{row_of_parts}
 use Rattle.hub_index.specs.declared.compact_row.CompactEntry.{CompactEntry}
@@ -20,19 +20,24 @@ loop-entry-preserved c =
     let compact = c.args.compact.now in
     let full = c.args.full.now in
     let i = c.loop-entry.entry-index in
-    put_after entry_bytes (row_of_parts compact full) i c.widened.result none (c.args.out.now.items ++ word (length (row_of_parts compact full))) c.loop-entry.out.items c.push_entry.new.out.items
-    (omega (arith, length-row_of_parts compact full, c.loop-entry-test.true)) (compact_at compact full i none compact_none c.loop-entry-test.true ∙ sym c.widened.ensures) c.loop-entry.invariant c.in_ok-push_entry.ensures
+    let entry : Entry = record { pos = (get_or compact i compact_none).pos; dist = c.from.result } in
+    let is = compact_at compact full i none compact_none c.loop-entry-test.true ∙ ap (λ d. record { pos = (get_or compact i compact_none).pos; dist = d }) (sym c.from.ensures) in
+    put_after entry_bytes (row_of_parts compact full) i entry none (c.args.out.now.items ++ word (length (row_of_parts compact full))) c.loop-entry.out.items c.push_entry.new.out.items
+    (omega (arith, length-row_of_parts compact full, c.loop-entry-test.true)) is c.loop-entry.invariant c.in_ok-push_entry.ensures
 
 pub loop-entry-2-preserved : goal.loop-entry-2-preserved
 loop-entry-2-preserved c =
     let compact = c.args.compact.now in
     let full = c.args.full.now in
     let i = c.loop-entry-2.entry-index in
+    let entry : Entry = record { pos = c.entry-item.result.pos; dist = c.get_u64.result } in
+    let read : c.entry-item.result ≡ get_or c.args.full.now i none = get_or_read c.args.full.now i _ c.loop-entry-2-test.true c.entry-item.is none in
+    let is = full_at compact full i none ∙ sym read ∙ ap (λ d. record { pos = c.entry-item.result.pos; dist = d }) (sym c.get_u64.ensures) in
     let old = c.args.out.now.items ++ word (length (row_of_parts compact full)) in
     let next : length compact + i + 1 ≡ length compact + (i + 1) = omega arith in
     subst (λ k. c.push_entry-in-loop-entry-2.new.out.items ≡ old ++ flat_map entry_bytes (take k (row_of_parts compact full))) next
-    (put_after entry_bytes (row_of_parts compact full) (length compact + i) (get_or full i none) none old c.loop-entry-2.out.items c.push_entry-in-loop-entry-2.new.out.items
-    (omega (arith, length-row_of_parts compact full, c.loop-entry-2-test.true)) (full_at compact full i none) c.loop-entry-2.invariant c.in_ok-push_entry-2.ensures)
+    (put_after entry_bytes (row_of_parts compact full) (length compact + i) entry none old c.loop-entry-2.out.items c.push_entry-in-loop-entry-2.new.out.items
+    (omega (arith, length-row_of_parts compact full, c.loop-entry-2-test.true)) is c.loop-entry-2.invariant c.in_ok-push_entry-2.ensures)
 
 pub returns : goal.returns
 returns c =

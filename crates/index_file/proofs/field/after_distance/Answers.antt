@@ -14,4 +14,4 @@ pub distance_accepted-requires-clause-above : goal.distance_accepted-requires-cl
 distance_accepted-requires-clause-above c = above_all (next_own c.args.done) c.args.pos c.args.part c.requires.position
 
 pub returns : goal.returns
-returns c = rw (c.in_ok-accept_distance.ensures.accepted, c.in_ok-distance_accepted.ensures) refl
+returns c = rw (c.in_ok-accept_distance.ensures.accepted, c.in_ok-distance_accepted.ensures, c.of_u64.ensures) refl

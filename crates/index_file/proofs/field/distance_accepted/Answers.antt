@@ -1,4 +1,3 @@
-use Rattle.std.proofs.Common.{refl}
 use Rattle.index_file.proofs.RowsWithVias.{few_vias}
 use Rattle.index_file.proofs.field.distance_accepted.Goals as goal
 

@@ -14,16 +14,16 @@ pub returns-in_err-accept_position-clause-refused : goal.returns-in_err-accept_p
 returns-in_err-accept_position-clause-refused c =
     let p = err_from_is_err_and c.from_residual.result c.from_residual.ensures.1 in
     let no = c.in_err-accept_position.ensures.refused in
-    rw (p.1, p.2, no.1) (λ at. inr (fed-no_position c.args.done.now c.args.part.now at c.args.head.now c.requires.whole c.read_u32.result c.read_u32.ensures no.0))
+    rw (p.1, p.2, no.1) (λ at. inr (fed-no_position c.args.done.now c.args.part.now at c.args.head.now c.requires.whole c.read_u32-pos.result c.read_u32-pos.ensures no.0))
 
 pub returns-in_err-accept_distance-clause-refused : goal.returns-in_err-accept_distance-clause-refused
 returns-in_err-accept_distance-clause-refused c =
     let p = err_from_is_err_and c.from_residual-in_err-accept_distance.result c.from_residual-in_err-accept_distance.ensures.1 in
     let no = c.in_err-accept_distance.ensures.refused in
-    let position : is_next_position (next_own c.args.done.now) c.args.part.now c.read_u32.result ≡ true = c.in_ok-accept_position.ensures.accepted in
-    rw (p.1, p.2, no.1) (λ at. inr (fed-no_distance c.args.done.now c.args.part.now at c.args.head.now c.requires.whole c.read_u32.result c.read_u32.ensures position c.read_u64.result (dist_is c.args.head.now c.read_u64.result c.read_u64.ensures) no.0))
+    let position : is_next_position (next_own c.args.done.now) c.args.part.now c.read_u32-pos.result ≡ true = c.in_ok-accept_position.ensures.accepted in
+    rw (p.1, p.2, no.1) (λ at. inr (fed-no_distance c.args.done.now c.args.part.now at c.args.head.now c.requires.whole c.read_u32-pos.result c.read_u32-pos.ensures position c.read_u64-dist.result (dist_is c.args.head.now c.read_u64-dist.result c.read_u64-dist.ensures) no.0))
 
 pub returns-clause-taken : goal.returns-clause-taken
 returns-clause-taken c = λ at.
-    let position : is_next_position (next_own c.args.done.now) c.args.part.now c.read_u32.result ≡ true = c.in_ok-accept_position.ensures.accepted in
-    fed-entry c.args.done.now c.args.part.now at c.args.head.now c.requires.whole c.read_u32.result c.read_u32.ensures position c.read_u64.result (dist_is c.args.head.now c.read_u64.result c.read_u64.ensures) c.in_ok-accept_distance.ensures.accepted
+    let position : is_next_position (next_own c.args.done.now) c.args.part.now c.read_u32-pos.result ≡ true = c.in_ok-accept_position.ensures.accepted in
+    rw c.of_u64.ensures (fed-entry c.args.done.now c.args.part.now at c.args.head.now c.requires.whole c.read_u32-pos.result c.read_u32-pos.ensures position c.read_u64-dist.result (dist_is c.args.head.now c.read_u64-dist.result c.read_u64-dist.ensures) c.in_ok-accept_distance.ensures.accepted)

@@ -1,7 +1,8 @@
-use Rattle.std.proofs.Common.{◌≡◌, Ok, true, is_some, ap, sym, ◌+◌, ◌∙◌}
+use Rattle.std.proofs.Common.{◌≡◌, [], Ok, true, is_some, ap, sym, ◌+◌, ◌∙◌}
 use Rattle.std.proofs.lemmas.Result.{err_from_is_err_and}
 use Rattle.index_file.proofs.Steps.{Refuses-part, fed-traced, fed-refused_via}
 use Rattle.index_file.specs.Parts.{Part, with_entry, with_via}
+use Rattle.index_file.specs.Judging.{after_entry}
 use Rattle.index_file.specs.Gives.{at_position, entry_width}
 use Rattle.index_file.proofs.progress.take_entry.Goals as goal
 
@@ -20,5 +21,5 @@ pub returns-clause-taken : goal.returns-clause-taken
 returns-clause-taken c = λ at.
     let traced : is_some c.args.done.now.vias ≡ true = sym c.is_traced.ensures ∙ c.if-not-is_traced.false in
     let new : with_via (with_entry c.args.part.now c.in_ok-entry.entry) c.in_ok-via.via ≡ c.push-2.new.self = ap (λ (p : Part). with_entry p c.in_ok-entry.entry) (sym c.in_ok-push_via.ensures.ok) ∙ sym c.in_ok-push-2.ensures.ok in
-    fed-traced c.args.done.now c.args.part.now c.in_ok-entry.entry c.in_ok-via.via at c.args.field.now c.split_at.result.0.now c.split_at.result.1.now c.requires.more traced c.split_at.ensures.by_index.0 (c.in_ok-entry.ensures.taken at) (c.in_ok-via.ensures.taken (at + 12))
-    ∙ ap (λ (p : Part). Ok (at_position c.args.done.now p (at + entry_width c.args.done.now))) new
+    fed-traced c.args.done.now c.args.part.now c.in_ok-entry.entry c.in_ok-via.via at c.args.field.now c.split_at.result.0.now c.split_at.result.1.now traced c.split_at.ensures.by_index.0 (c.in_ok-entry.ensures.taken at) (c.in_ok-via.ensures.taken (at + 12))
+    ∙ ap (λ (p : Part). Ok (record { next = after_entry c.args.done.now p; held = []; at = at + entry_width c.args.done.now })) new

@@ -1,25 +1,21 @@
-use Rattle.std.proofs.Common.{false}
+use Rattle.std.proofs.Common.{false, ap, subst, arith}
 use Rattle.std.specs.Prelude.{IsTrue}
 use Rattle.std.proofs.lemmas.List.Elements.{All-contains}
-use Rattle.walk_laws.specs.declared.entry.Entry.{Entry}
 use Rattle.hub_index.specs.RootDistances.{IsCover}
 use Rattle.hub_index.proofs.CoveredEntries.{All-one_more, All-whole}
-use Rattle.label_clean.proofs.NearRows.{no_cover_after}
+use Rattle.label_clean.proofs.NearRows.{dist_of, no_cover_after}
 use Rattle.label_clean.proofs.cover.is_covered.Goals as goal
 
-abbrev nothing : Entry
-nothing = record { pos = 0; dist = 0 }
-
-pub returns-then-entry-dist : goal.returns-then-entry-dist
-returns-then-entry-dist c = (
+pub returns-then-get-dist : goal.returns-then-get-dist
+returns-then-get-dist c = (
   λ t. let none : IsTrue false = t in absurd cc,
-  λ cover. absurd (no_cover_after c.args.table.now c.args.pos c.args.dist c.args.row.now c.loop-entry.entry-index nothing (c.requires.nearing c.if-is_near.true) c.loop-entry-test.true c.if-entry-dist.true c.loop-entry.invariant cover),
+  λ cover. absurd (no_cover_after c.args.table.now c.args.pos c.args.dist c.args.row.now c.loop-entry.entry-index c.entry-item.result (c.requires.nearing c.if-is_near.true) c.loop-entry-test.true (omega (arith, c.if-get-dist.true, c.get.ensures.value, ap dist_of c.entry-item.is)) c.loop-entry.invariant cover),
 )
 
 pub loop-entry-preserved : goal.loop-entry-preserved
 loop-entry-preserved c =
-    All-one_more (λ e. IsCover c.args.table.now c.args.pos c.args.dist e → ⊥) c.args.row.now c.loop-entry.entry-index nothing c.loop-entry-test.true c.loop-entry.invariant
-    (λ cover. let found : IsTrue false = c.if-covers.ensures.1 cover in absurd cc)
+    All-one_more (λ e. IsCover c.args.table.now c.args.pos c.args.dist e → ⊥) c.args.row.now c.loop-entry.entry-index c.entry-item.result c.loop-entry-test.true c.loop-entry.invariant
+    (subst (λ e. IsCover c.args.table.now c.args.pos c.args.dist e → ⊥) c.entry-item.is (λ cover. let found : IsTrue false = c.if-covers.ensures.1 cover in absurd cc))
 
 pub returns : goal.returns
 returns c = (

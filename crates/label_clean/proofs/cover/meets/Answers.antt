@@ -1,8 +1,7 @@
-use Rattle.std.proofs.Common.{◌≡◌, ◌-◌, true, false, ltb, Contains, get_or, map, ap, subst, arith, rules}
+use Rattle.std.proofs.Common.{◌≡◌, ◌-◌, true, false, ltb, Contains, map, ap, subst, sym, ◌∙◌, arith, rules}
 use Rattle.std.specs.Prelude.{IsTrue}
 use Rattle.std.specs.List.Sorted.{IsPartitionPoint, IsStrictlyIncreasing}
 use Rattle.std.proofs.lemmas.Bool.{leb-true, le-leb}
-use Rattle.std.proofs.lemmas.List.Elements.{Contains-get_or}
 use Rattle.std.proofs.lemmas.List.Sorted.{IsPartitionPoint-from_clause, IsPartitionedBy-ltb}
 use Rattle.walk_laws.specs.declared.entry.Entry.{Entry}
 use Rattle.label_clean.proofs.Covering.{entry, pos_of}
@@ -23,24 +22,20 @@ returns-then-place-row c rising = (
 pub returns-then-met-other : goal.returns-then-met-other
 returns-then-met-other c rising = (
   λ t. let none : IsTrue false = t in absurd cc,
-  λ m. let found = stands_there c.args.row.now c.args.other.pos c.partition_point-place.result m.0 rising (point (goal.at.returns-then-met-other c).After-partition_point-place rising) m.1 in absurd (c.if-met-other.true (ap pos_of found.1)),
-)
-
-pub returns-then-other-dist : goal.returns-then-other-dist
-returns-then-other-dist c rising = (
-  λ t. let none : IsTrue false = t in absurd cc,
-  λ m. absurd (omega (arith, m.2, c.if-other-dist.true)),
+  λ m. let found = stands_there c.args.row.now c.args.other.pos c.partition_point-place.result m.0 rising (point (goal.at.returns-then-met-other c).After-partition_point-place rising) m.1 in absurd (c.if-met-other.true (ap pos_of (c.index-row-place.is ∙ found.1 c.index-row-place.result))),
 )
 
 pub returns : goal.returns
 returns c rising =
-    let place = c.partition_point-place.result in
-    let met : Entry = get_or c.args.row.now c.partition_point-place.result (entry 0 0) in (
-      λ t.
-          let here : Contains c.args.row.now (entry met.pos met.dist) = Contains-get_or c.args.row.now place (entry 0 0) (omega (arith, c.if-place-row.false)) in
-          (met.dist, subst (λ q. Contains c.args.row.now (entry q met.dist)) c.if-met-other.false here, omega (arith, leb-true met.dist (c.args.dist - c.args.other.dist) t, c.if-other-dist.false)),
+    let met : Entry = c.index-row-place.result in
+    let place = c.partition_point-place.result in (
+      λ t. (
+        met.dist,
+        subst (λ q. Contains c.args.row.now (entry q met.dist)) c.if-met-other.false (place, c.if-place-row.false, sym c.index-row-place.is),
+        omega (arith, leb-true c.get.result (c.args.dist - c.get-far.result) t, c.get.ensures.value, c.get-far.ensures.value, c.if-far-dist.false),
+      ),
       λ m.
           let found = stands_there c.args.row.now c.args.other.pos place m.0 rising (point (goal.at.returns c).After-partition_point-place rising) m.1 in
-          let far : met.dist ≡ m.0 = ap (λ (e : Entry). e.dist) found.1 in
-          le-leb met.dist (c.args.dist - c.args.other.dist) (omega (arith, far, m.2)),
+          let far : met.dist ≡ m.0 = ap (λ (e : Entry). e.dist) (c.index-row-place.is ∙ found.1 met) in
+          le-leb c.get.result (c.args.dist - c.get-far.result) (omega (arith, far, m.2, c.get.ensures.value, c.get-far.ensures.value)),
     )

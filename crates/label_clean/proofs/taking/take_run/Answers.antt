@@ -1,4 +1,4 @@
-use Rattle.std.proofs.Common.{◌≡◌, ◌↔◌, ℕ, ◌+◌, ◌-◌, ◌≤◌, inl, inr, List, ◌∷◌, [], ◌++◌, Contains, get_or, length, map, take, sym, ap, subst, ◌∙◌, arith}
+use Rattle.std.proofs.Common.{◌≡◌, ◌↔◌, ℕ, ◌+◌, ◌-◌, ◌≤◌, inl, inr, List, ◌∷◌, [], ◌++◌, Contains, length, map, take, sym, ap, subst, ◌∙◌, arith}
 use Rattle.std.specs.Prelude.{IsTrue}
 use Rattle.std.specs.List.Sorted.{IsStrictlyIncreasing}
 use Rattle.std.proofs.Math.ListN.{length-set}
@@ -18,9 +18,6 @@ use Rattle.label_clean.proofs.TakenRuns.{GoesOnFrom-more, GoesOnFrom-put, here_m
 use Rattle.label_clean.proofs.taking.take_run.Goals as goal
 use Rattle.label_clean.proofs.taking.take_run.Goals.{After-is_covered_late}
 
-abbrev nothing : NodeEntry
-nothing = record { node = 0; pos = 0; dist = 0 }
-
 pub loop-entry-preserved-then-not-ends_below : goal.loop-entry-preserved-then-not-ends_below
 loop-entry-preserved-then-not-ends_below c = record {
   size = c.loop-entry.invariant.size;
@@ -29,10 +26,10 @@ loop-entry-preserved-then-not-ends_below c = record {
       let run = c.args.run.now in
       let i = c.loop-entry.entry-index in
       let has = c.loop-entry.invariant.hubs edges at c' k v before done more k_in next have in
-      elim (cases_eq (get_or run i nothing).node k) [
-        | inr other ↦ others_stay edges at c.args.first c' c.args.pos v c.args.hub_row.now before done more k run i nothing c.loop-entry-test.true next (label_row c.loop-entry.rows k) has other
+      elim (cases_eq c.entry-item.result.node k) [
+        | inr other ↦ others_stay edges at c.args.first c' c.args.pos v c.args.hub_row.now before done more k run i c.entry-item.result c.entry-item.is c.loop-entry-test.true next (label_row c.loop-entry.rows k) has other
         | inl same ↦
-            let ends = its_row_ends_below edges at c.args.first c' c.args.pos v c.args.hub_row.now before done more k run i nothing c.loop-entry-test.true next (label_row c.loop-entry.rows k) has same in
+            let ends = its_row_ends_below edges at c.args.first c' c.args.pos v c.args.hub_row.now before done more k run i c.entry-item.result c.entry-item.is c.loop-entry-test.true next (label_row c.loop-entry.rows k) has same in
             let found : IsTrue c.ends_below.result = c.ends_below.ensures.1 (subst (λ u. EndsBelow c.args.pos (label_row c.loop-entry.rows u)) (sym same) ends) in
             absurd cc
       ];
@@ -43,12 +40,11 @@ module _ (c : After-is_covered_late) (edges : List Edge) (at : List ℕ) (c' k v
   has : HasHubs edges at v before (done ++ entries_of_node (take c.loop-entry.entry-index c.args.run.now) k) (label_row c.loop-entry.rows k)
   has = c.loop-entry.invariant.hubs edges at c' k v before done more k_in next have
 
-  test : (get_or c.args.run.now c.loop-entry.entry-index nothing).node ≡ k → IsTrue c.is_covered_late.result ↔ ((e : Entry) × Contains (label_row c.loop-entry.rows k) e × (c.args.first ≤ e.pos) × IsCovering c.args.hub_row.now c.args.pos (get_or c.args.run.now c.loop-entry.entry-index nothing).dist e)
+  test : c.entry-item.result.node ≡ k → IsTrue c.is_covered_late.result ↔ ((e : Entry) × Contains (label_row c.loop-entry.rows k) e × (c.args.first ≤ e.pos) × IsCovering c.args.hub_row.now c.args.pos c.entry-item.result.dist e)
   test same =
-      let dist = (get_or c.args.run.now c.loop-entry.entry-index nothing).dist in
-      let hub_rises = its_hub_row_rises edges at c.args.first c' c.args.pos v c.args.hub_row.now before done more k c.args.run.now c.loop-entry.entry-index nothing c.loop-entry-test.true next (label_row c.loop-entry.rows k) has same in
-      subst (λ u. IsStrictlyIncreasing (map pos_of (label_row c.loop-entry.rows u)) → IsStrictlyIncreasing (map pos_of c.args.hub_row.now) → IsTrue c.is_covered_late.result ↔ ((e : Entry) × Contains (label_row c.loop-entry.rows u) e × (c.args.first ≤ e.pos) × IsCovering c.args.hub_row.now c.args.pos dist e)) same
-      c.is_covered_late.ensures has.rising hub_rises
+      let hub_rises = its_hub_row_rises edges at c.args.first c' c.args.pos v c.args.hub_row.now before done more k c.args.run.now c.loop-entry.entry-index c.entry-item.result c.entry-item.is c.loop-entry-test.true next (label_row c.loop-entry.rows k) has same in
+      subst (λ u. IsStrictlyIncreasing (map pos_of (label_row c.loop-entry.rows u)) → IsStrictlyIncreasing (map pos_of c.args.hub_row.now) → IsTrue c.is_covered_late.result ↔ ((e : Entry) × Contains (label_row c.loop-entry.rows u) e × (c.args.first ≤ e.pos) × IsCovering c.args.hub_row.now c.args.pos c.entry-item.result.dist e)) same
+      (subst (λ d. IsStrictlyIncreasing (map pos_of (label_row c.loop-entry.rows c.entry-item.result.node)) → IsStrictlyIncreasing (map pos_of c.args.hub_row.now) → IsTrue c.is_covered_late.result ↔ ((e : Entry) × Contains (label_row c.loop-entry.rows c.entry-item.result.node) e × (c.args.first ≤ e.pos) × IsCovering c.args.hub_row.now c.args.pos d e)) c.get.ensures.value c.is_covered_late.ensures) has.rising hub_rises
 
 pub loop-entry-preserved-then-is_covered_late : goal.loop-entry-preserved-then-is_covered_late
 loop-entry-preserved-then-is_covered_late c = record {
@@ -60,10 +56,10 @@ loop-entry-preserved-then-is_covered_late c = record {
       let i = c.loop-entry.entry-index in
       let row = label_row c.loop-entry.rows k in
       let so_far = has a edges at c' k v before done more k_in next have in
-      elim (cases_eq (get_or run i nothing).node k) [
-        | inr other ↦ others_stay edges at c.args.first c' c.args.pos v c.args.hub_row.now before done more k run i nothing c.loop-entry-test.true next row so_far other
+      elim (cases_eq c.entry-item.result.node k) [
+        | inr other ↦ others_stay edges at c.args.first c' c.args.pos v c.args.hub_row.now before done more k run i c.entry-item.result c.entry-item.is c.loop-entry-test.true next row so_far other
         | inl same ↦
-            its_row_stays edges at c.args.first c' c.args.pos v c.args.hub_row.now before done more k run i nothing c.loop-entry-test.true next row so_far same
+            its_row_stays edges at c.args.first c' c.args.pos v c.args.hub_row.now before done more k run i c.entry-item.result c.entry-item.is c.loop-entry-test.true next row so_far same
             ((test a edges at c' k v before done more k_in next have same).0 c.if-is_covered_late.true)
       ];
 }
@@ -75,8 +71,8 @@ loop-entry-preserved c =
     let i = c.loop-entry.entry-index in
     let was = c.loop-entry.rows in
     let now = c.push.new.self in
-    let x : NodeEntry = get_or c.args.run.now c.loop-entry.entry-index nothing in
-    let x_in : IsNode (length c.loop-entry.rows) x.node = subst (λ n. IsNode n x.node) (sym c.loop-entry.invariant.size) (c.requires i nothing c.loop-entry-test.true) in
+    let x : NodeEntry = c.entry-item.result in
+    let x_in : IsNode (length c.loop-entry.rows) x.node = subst (λ n. IsNode n x.node) (sym c.loop-entry.invariant.size) (subst (λ (y : NodeEntry). IsNode (length c.args.rows.now) y.node) (sym c.entry-item.is) (c.requires i x c.loop-entry-test.true)) in
     let put = c.in_ok-push.ensures.ok ∙ ap (with_entry was x.node) c.entry.ensures in
     record {
       size = ap length put ∙ length-set was (x.node - 1) (label_row was x.node ++ entry_of x ∷ []) ∙ c.loop-entry.invariant.size;
@@ -87,11 +83,11 @@ loop-entry-preserved c =
           elim (cases_eq x.node k) [
             | inr other ↦
                 subst (HasHubs edges at v before (done ++ entries_of_node (take (i + 1) run) k)) (sym (other_same was now x.node k (entry_of x) x_in.from_one k_in.from_one (λ same. other (sym same)) put))
-                (others_stay edges at c.args.first c' c.args.pos v c.args.hub_row.now before done more k run i nothing c.loop-entry-test.true next row so_far other)
+                (others_stay edges at c.args.first c' c.args.pos v c.args.hub_row.now before done more k run i c.entry-item.result c.entry-item.is c.loop-entry-test.true next row so_far other)
             | inl same ↦
                 let grown : label_row c.push.new.self k ≡ label_row c.loop-entry.rows k ++ entry_of x ∷ [] = subst (λ u. label_row c.push.new.self u ≡ label_row c.loop-entry.rows u ++ entry_of x ∷ []) same (here_more was now x.node (entry_of x) x_in put) in
                 subst (HasHubs edges at v before (done ++ entries_of_node (take (i + 1) run) k)) (sym grown)
-                (its_row_grows edges at c.args.first c' c.args.pos v c.args.hub_row.now before done more k run i nothing c.loop-entry-test.true next row so_far same
+                (its_row_grows edges at c.args.first c' c.args.pos v c.args.hub_row.now before done more k run i c.entry-item.result c.entry-item.is c.loop-entry-test.true next row so_far same
                 (λ covered. let found : IsTrue c.is_covered_late.result = (test a edges at c' k v before done more k_in next have same).1 covered in absurd cc))
           ];
     }

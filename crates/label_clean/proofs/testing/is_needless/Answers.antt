@@ -1,14 +1,14 @@
-use Rattle.std.proofs.Common.{sym, subst, Contains, arith}
+use Rattle.std.proofs.Common.{◌↔◌, arith}
+use Rattle.std.specs.Prelude.{IsTrue}
+use Rattle.walk_laws.specs.Labelling.{label_row}
+use Rattle.label_clean.specs.Tested.{HasCover}
 use Rattle.label_clean.proofs.Covering.{IsNeedless-from_cover, HasCover-from_needless}
 use Rattle.label_clean.proofs.testing.is_needless.Goals as goal
 
 pub returns : goal.returns
-returns c v held = (
-  λ t.
-      let found = c.is_covered.ensures.0 t in
-      IsNeedless-from_cover c.args.ranking.now c.args.near.now v c.args.entry c.args.table.now held c.at-hub.result c.at-hub.ensures.value
-      (found.0, subst (λ row. Contains row found.0) c.row.ensures found.1, found.2),
-  λ needless.
-      let there = HasCover-from_needless c.args.ranking.now c.args.near.now v c.args.entry c.args.table.now held c.at-hub.result c.at-hub.ensures.value (omega (arith, c.requires.position, c.requires.size)) needless in
-      c.is_covered.ensures.1 (there.0, subst (λ row. Contains row there.0) (sym c.row.ensures) there.1, there.2),
-)
+returns c v held =
+    let e = c.args.entry in
+    let covers : IsTrue c.is_covered.result ↔ HasCover c.args.table.now e.pos e.dist (label_row c.args.near.now c.at-hub.result) = rw (c.get.ensures.value, c.row.ensures) at c.is_covered.ensures in (
+      λ t. IsNeedless-from_cover c.args.ranking.now c.args.near.now v e c.args.table.now held c.at-hub.result c.at-hub.ensures.value (covers.0 t),
+      λ needless. covers.1 (HasCover-from_needless c.args.ranking.now c.args.near.now v e c.args.table.now held c.at-hub.result c.at-hub.ensures.value (omega (arith, c.requires.position, c.requires.size)) needless),
+    )

@@ -59,7 +59,7 @@ loop-preserved c chain w =
     let dist = sym (at_word words c.dist_word.result c.word-dist.result c.word-dist.ensures) ∙ ap (slice_index words) (c.dist_word.ensures ∙ ap (dist_at c.args.n) (sym s.is)) ∙ s.holds.dist in
     let next = c.cell_in-at.ensures ∙ ap name_in read ∙ s.holds.next in
     subst (IsWalked chain c.cell_in-at.result (c.loop.counter + 1)) (sym c.in_ok-push.ensures.items)
-    (goes_on c.args.n c.args.cells words c.args.v chain w c.in-Some.cell c.loop.counter c.loop.entries.items (record { pos = c.pos_in.result; dist = c.word-dist.result }) c.cell_in-at.result s (λ k. record { pos = pos k; dist = dist k }) next)
+    (goes_on c.args.n c.args.cells words c.args.v chain w c.in-Some.cell c.loop.counter c.loop.entries.items (record { pos = c.pos_in.result; dist = c.of_u64.result }) c.cell_in-at.result s (λ k. record { pos = pos k; dist = (c.of_u64.ensures ∙ dist) k }) next)
 
 pub returns : goal.returns
 returns c chain w =

@@ -1,8 +1,9 @@
 use Rattle.std.proofs.Common.{sym, ap, ◌∙◌, subst, arith}
 use mathlib.Core.Option.{none}
 use Rattle.atomic_table.specs.Table.{step, Allows}
+use Rattle.table_seats.specs.Seats.{knowing}
 use Rattle.label_pool.specs.Lawful.{IsLawful}
-use Rattle.label_pool.specs.Steps.{Opened}
+use Rattle.label_pool.specs.Steps.{Opened, with_opened}
 use Rattle.label_pool.specs.Layout.{dist_at}
 use Rattle.label_pool.proofs.Allowed.{opens_one}
 use Rattle.label_pool.proofs.linking.open_first.Goals as goal
@@ -12,7 +13,7 @@ store-requires g c =
     let fact = g.F.LinkFact.fact in
     let slots = c.args.words.now.table_id.slots in
     let me = c.args.seat.now.me in
-    let x = c.args.dist in
+    let x = c.get_u64.result in
     let word = c.dist_word.ensures ∙ ap (λ n. dist_at n c.args.cell) (sym c.requires.n) in (
       c.requires.table,
       omega (arith, c.dist_word.ensures, c.requires.inside),
@@ -21,4 +22,7 @@ store-requires g c =
     )
 
 pub returns-clause-opened : goal.returns-clause-opened
-returns-clause-opened g c = λ rest is. let e = c.store.ensures.2 c.args.cell rest is in λ k. (e.0 k, e.1 k)
+returns-clause-opened g c = λ rest is.
+    let me = c.args.seat.now.me in
+    let e = c.store.ensures.2 c.args.cell rest is in
+    (λ k. (e.0 k, e.1 k)) ∙ ap (λ d. (knowing me.0 (with_opened me.0.knows c.args.cell rest d), me.1)) c.get_u64.ensures

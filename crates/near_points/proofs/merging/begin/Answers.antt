@@ -1,12 +1,6 @@
-use Rattle.std.proofs.Common.{◌-◌, ◌<◌, length, get_or, heap_items, arith}
-use Rattle.std.proofs.lemmas.List.{get_or_default}
-use Rattle.walk_laws.specs.declared.entry.Entry.{Entry}
+use Rattle.std.proofs.Common.{heap_items, sym, arith}
 use Rattle.near_points.proofs.Begun.{Begun-start, Begun-none, Begun-push, Begun-all}
 use Rattle.near_points.proofs.merging.begin.Goals as goal
-
--- a read past the end, where none is made
-abbrev no_entry : Entry
-no_entry = record { pos = 0; dist = 0 }
 
 pub loop-left-init : goal.loop-left-init
 loop-left-init c = record {
@@ -19,11 +13,9 @@ loop-left-preserved c =
     let row = c.args.row.now in
     let left = c.loop-left.left in
     let begun = c.loop-left.invariant.begun in
-    let e = get_or row (left - 1) no_entry in
-    let inside : left - 1 < length row = let all = begun.within in omega (arith, all, c.loop-left-test.true) in
     record {
       heap = c.loop-left.invariant.heap;
-      begun = Begun-none c.args.words.now c.args.starts.now row (heap_items c.loop-left.cursors) left e c.requires.starts c.requires.within c.loop-left-test.true begun (get_or_default row (left - 1) e no_entry inside) c.if-starts-pos.false;
+      begun = Begun-none c.args.words.now c.args.starts.now row (heap_items c.loop-left.cursors) left c.index-row-left.result c.requires.starts c.requires.within c.loop-left-test.true begun (sym c.index-row-left.is) c.if-starts-pos.false;
     }
 
 pub loop-left-preserved-in-Continue-1 : goal.loop-left-preserved-in-Continue-1
@@ -31,11 +23,9 @@ loop-left-preserved-in-Continue-1 c =
     let row = c.args.row.now in
     let left = c.loop-left.left in
     let begun = c.loop-left.invariant.begun in
-    let e = get_or row (left - 1) no_entry in
-    let inside : left - 1 < length row = let all = begun.within in omega (arith, all, c.loop-left-test.true) in
     record {
       heap = c.in_ok-push.ensures.heap_order c.loop-left.invariant.heap;
-      begun = Begun-push c.args.words.now c.args.starts.now row (heap_items c.loop-left.cursors) left e c.requires.starts c.requires.within c.loop-left-test.true begun (get_or_default row (left - 1) e no_entry inside) c.cursor_at.result (heap_items c.push.new.self) c.if-starts-pos.true c.cursor_at.ensures.at c.cursor_at.ensures.key c.in_ok-push.ensures.permutation;
+      begun = Begun-push c.args.words.now c.args.starts.now row (heap_items c.loop-left.cursors) left c.index-row-left.result c.requires.starts c.requires.within c.loop-left-test.true begun (sym c.index-row-left.is) c.cursor_at.result (heap_items c.push.new.self) c.if-starts-pos.true c.cursor_at.ensures.at c.cursor_at.ensures.key c.in_ok-push.ensures.permutation;
     }
 
 pub returns-clause-begun : goal.returns-clause-begun

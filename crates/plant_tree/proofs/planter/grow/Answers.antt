@@ -1,4 +1,4 @@
-use Rattle.std.proofs.Common.{◌≡◌, ◌≢◌, ℕ, ◌+◌, ◌<◌, ◌≤◌, List, replicate, length, get_or, sym, ap, subst, ◌∙◌, arith}
+use Rattle.std.proofs.Common.{◌≡◌, ◌≢◌, ℕ, ◌+◌, ◌^◌, ◌<◌, ◌≤◌, List, replicate, length, get_or, sym, ap, subst, ◌∙◌, arith}
 use Rattle.std.proofs.Math.ListN.{set, length-set}
 use Rattle.std.specs.Prelude.{◌↔◌, Some, Contains, slice_get}
 use Rattle.walk_laws.specs.declared.graph.Arc.{Arc}
@@ -14,14 +14,14 @@ use Rattle.plant_tree.proofs.PlantedExactly.{AreLabels, planted_exactly, labels_
 use Rattle.plant_tree.proofs.TreeEnds.{Starts, starts, first_tree}
 use Rattle.plant_tree.proofs.TreeFacts.{IsTree, reach_of}
 use Rattle.plant_tree.proofs.TreeLabels.{labels-start, labels_kept, labels_more, once_more}
-use Rattle.walk_laws.proofs.JoinedEdges.{IsArc, arcs_of_row, fits_64}
+use Rattle.walk_laws.proofs.JoinedEdges.{IsArc, arcs_of_row, fits_96}
 use Rattle.plant_tree.proofs.TreeSize.{unsettled, unsettled-le, IsSized-start, IsSized-round, unsettled-settled, room_of_next, node_of_queued, none_found, nothing_found}
 use Rattle.plant_tree.specs.Relaxed.{relaxed_all}
 use Rattle.plant_tree.proofs.TreeSteps.{offered}
 use Rattle.plant_tree.proofs.TreeTypes.{Found, Reach}
 use Rattle.plant_tree.proofs.TreeWanted.{wanted-settled, wanted-start, none_wanted}
 use Rattle.plant_tree.proofs.planter.grow.Goals as goal
-use Rattle.plant_tree.proofs.planter.grow.Goals.{After-new-planted, At-loop-wanted, After-arc_row, In_ok-wanted}
+use Rattle.plant_tree.proofs.planter.grow.Goals.{After-new-planted, At-loop-wanted, In-Some, After-arc_row, In_ok-wanted}
 
 -- the frontier as it is at first: the root alone is queued
 record AtFirst (n root p : ℕ) (nodes : List Reach) : Type 0 where
@@ -87,6 +87,17 @@ returns-clause-each c = λ h v d root.
 pub overflow_add-settled : goal.overflow_add-settled
 overflow_add-settled c = omega (arith, c.loop-wanted.invariant.settled, c.requires.graph.small, unsettled-settled c.loop-wanted.frontier c.in-Some.v c.in-Some.found c.in-Some.ensures.queued)
 
+-- the walk to the node that the round settles, and an edge after it
+room_for_arc : (c : In-Some) → c.in-Some.found.dist + greatest_weight c.args.graph.now.edges < 2 ^ 96
+room_for_arc c =
+    let queued = c.in-Some.ensures.queued in
+    let node = node_of_queued _ _ _ _ c.in-Some.v c.in-Some.found c.loop-wanted.invariant.sized queued in
+    let room = room_of_next _ _ _ _ c.in-Some.v c.in-Some.found c.loop-wanted.invariant.sized queued in
+    fits_96 c.args.graph.now.n c.args.graph.now.edges c.in-Some.found.dist _ c.requires.graph (omega (arith, node)) room
+
+pub label-requires : goal.label-requires
+label-requires c = omega (arith, room_for_arc (goal.at.label-requires c).In-Some)
+
 -- the arcs of the node that the round settles
 arc_of : (c : After-arc_row) → (k : ℕ) (d : Arc) → k < length (arcs_in c.arc_row.result) → IsArc c.args.graph.now.n (greatest_weight c.args.graph.now.edges) (get_or (arcs_in c.arc_row.result) k d)
 arc_of c = arcs_of_row c.args.graph.now.n c.args.graph.now.edges c.in-Some.v (arcs_in c.arc_row.result) c.requires.graph c.arc_row.ensures
@@ -104,11 +115,7 @@ relax_row-requires-clause-ends c = λ k d lt.
 
 pub relax_row-requires-clause-fits : goal.relax_row-requires-clause-fits
 relax_row-requires-clause-fits c = λ k d lt.
-    let queued = c.in-Some.ensures.queued in
-    let node = node_of_queued _ _ _ _ c.in-Some.v c.in-Some.found c.loop-wanted.invariant.sized queued in
-    let room = room_of_next _ _ _ _ c.in-Some.v c.in-Some.found c.loop-wanted.invariant.sized queued in
-    let fits = fits_64 c.args.graph.now.n c.args.graph.now.edges c.in-Some.found.dist _ c.requires.graph (omega (arith, node)) room in
-    omega (arith, fits, (arc_of (goal.at.relax_row-requires-clause-fits c).After-arc_row k d lt).light)
+    omega (arith, room_for_arc (goal.at.relax_row-requires-clause-fits c).In-Some, (arc_of (goal.at.relax_row-requires-clause-fits c).After-arc_row k d lt).light)
 
 pub relax_row-requires-clause-count : goal.relax_row-requires-clause-count
 relax_row-requires-clause-count c = omega (arith, c.wants-wanted.ensures, wanted-settled c.args.p c.loop-wanted.frontier c.in-Some.v c.in-Some.found c.in-Some.ensures.queued, c.loop-wanted.invariant.count, ap (wanted c.args.p) c.in-Some.ensures.settles)

@@ -32,7 +32,7 @@ inside g c = omega (arith, (node g c).1, c.requires.nodes, c.loop-arc.invariant.
 pub overflow_add-dist : goal.overflow_add-dist
 overflow_add-dist g c =
     let up = (goal.at.overflow_add-dist g c).After-widened-arc in
-    let fits : c.args.found.dist + c.widened-arc.result.w < 2 ^ 64 = rw (here g up).1 at (c.requires.fits c.loop-arc.arc-index c.widened-arc.result (here g up).0) in
+    let fits : c.args.found.dist + c.widened-arc.result.w < 2 ^ 96 = rw (here g up).1 at (c.requires.fits c.loop-arc.arc-index c.widened-arc.result (here g up).0) in
     omega (arith, fits)
 
 pub reach-before-requires : goal.reach-before-requires

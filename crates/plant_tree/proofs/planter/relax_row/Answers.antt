@@ -17,7 +17,7 @@ relax-requires-in-Wide-clause-ends c =
 
 pub relax-requires-in-Wide-clause-fits : goal.relax-requires-in-Wide-clause-fits
 relax-requires-in-Wide-clause-fits c =
-    subst (λ (row : List Arc). All (λ a. c.args.found.dist + a.w < 2 ^ 64) row) (wide (goal.at.relax-requires-in-Wide-clause-fits c).In-Wide) c.requires.fits
+    subst (λ (row : List Arc). All (λ a. c.args.found.dist + a.w < 2 ^ 96) row) (wide (goal.at.relax-requires-in-Wide-clause-fits c).In-Wide) c.requires.fits
 
 pub returns-in-Wide-clause-relaxed : goal.returns-in-Wide-clause-relaxed
 returns-in-Wide-clause-relaxed c =

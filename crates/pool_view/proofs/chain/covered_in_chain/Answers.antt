@@ -1,4 +1,5 @@
 use Rattle.std.proofs.Common.{subst}
+use Rattle.walk_laws.specs.declared.entry.Entry.{Entry}
 use Rattle.hub_index.specs.RootDistances.{IsCover}
 use Rattle.pool_view.proofs.Covers.{IsTold, told-now, told-still, some-before}
 use Rattle.pool_view.proofs.Walks.{walking-next, walking-end}
@@ -8,7 +9,7 @@ use Rattle.pool_view.proofs.chain.covered_in_chain.Goals.{then-is_none+then-cove
 pub loop-preserved : goal.loop-preserved
 loop-preserved c =
     let table = c.args.table.now in
-    let e = c.args.entry in
+    let e : Entry = record { pos = c.args.pos; dist = c.args.dist } in
     let prefix = c.loop.invariant.prefix in
     walking-next c.args.pool.now c.args.seat.now c.args.v c.loop.seat c.next.new.seat c.loop.walk c.next.new.self c.loop.counter (IsTold table e c.loop.cover) c.loop.invariant c.next.result c.next.ensures.next c.next.ensures.same
     (IsTold table e c.if-is_none.cover) c.in-Some.other c.in-Some.is
@@ -25,5 +26,5 @@ loop-preserved c =
 
 pub returns-in_default : goal.returns-in_default
 returns-in_default c =
-    let told = walking-end c.args.pool.now c.args.seat.now c.args.v c.loop.seat c.next.new.seat c.loop.walk c.next.new.self c.loop.counter (IsTold c.args.table.now c.args.entry c.loop.cover) c.loop.invariant c.next.result c.next.ensures.next c.next.ensures.same c.in_default.is in
+    let told = walking-end c.args.pool.now c.args.seat.now c.args.v c.loop.seat c.next.new.seat c.loop.walk c.next.new.self c.loop.counter (IsTold c.args.table.now (record { pos = c.args.pos; dist = c.args.dist }) c.loop.cover) c.loop.invariant c.next.result c.next.ensures.next c.next.ensures.same c.in_default.is in
     record { chain = (told.0, told.1, told.2.0, told.2.1) }

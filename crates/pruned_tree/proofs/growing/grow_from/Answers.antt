@@ -1,4 +1,4 @@
-use Rattle.std.proofs.Common.{refl, ◌≡◌, ◌≢◌, ℕ, ◌+◌, ◌*◌, ◌<◌, ◌≤◌, List, [], ◌∷◌, ◌++◌, Contains, length, replicate, sym, ap, subst, ◌∙◌, arith}
+use Rattle.std.proofs.Common.{refl, ◌≡◌, ◌≢◌, ℕ, ◌+◌, ◌*◌, ◌^◌, ◌<◌, ◌≤◌, List, [], ◌∷◌, ◌++◌, Contains, length, replicate, sym, ap, subst, ◌∙◌, arith}
 use Rattle.std.specs.Prelude.{Some, slice_get}
 use Rattle.std.proofs.Math.ListN.{length-set}
 use Rattle.std.proofs.lemmas.List.{length-replicate}
@@ -21,7 +21,7 @@ use Rattle.pruned_tree.proofs.ApartPuts.{AreApart, AreApart-start, AreApart-same
 use Rattle.pruned_tree.proofs.CompleteTrees.{IsComplete, all_gained}
 use Rattle.pruned_tree.proofs.GrownRows.{IsGrowth, IsPruned-from_growth}
 use Rattle.pruned_tree.proofs.OfferedNodes.{node_inside, queued_distance}
-use Rattle.walk_laws.proofs.JoinedEdges.{arcs_of_row, fits_64}
+use Rattle.walk_laws.proofs.JoinedEdges.{arcs_of_row, fits_96}
 use Rattle.pruned_tree.proofs.TreeCounts.{unsettled, unsettled-le, unsettled-settled, unsettled-same, IsBounded, IsBounded-start, IsBounded-settled, IsBounded-relaxed, room_of_next, entries-put, entries-kept}
 use Rattle.pruned_tree.proofs.TreeRounds.{first_come, started, same_at_all, weights_positive, only_root, IsGrowth-start, IsComplete-start, offer_fits, StillStand-found, fits_by, root_position, none_yet, IsGrowth-round_over, IsComplete-round_over, IsGrowth-round_put, IsGrowth-round, IsComplete-round}
 use Rattle.pruned_tree.proofs.growing.grow_from.Given as given
@@ -65,7 +65,7 @@ record Taken (g : given.Over) (c : In-Some g) : Type 0 where
   pub from_one : 1 ≤ c.in-Some.v
   pub up_to_n : c.in-Some.v ≤ c.args.graph.now.n
   pub fits : EntryFits (Joined c.args.graph.now.edges) c.args.ranking.now c.in-Some.v (record { pos = c.args.p; dist = c.in-Some.found.dist })
-  pub room : c.in-Some.found.dist + greatest_weight c.args.graph.now.edges < 18446744073709551616
+  pub room : c.in-Some.found.dist + greatest_weight c.args.graph.now.edges < 2 ^ 96
 
 taken : (g : given.Over) (c : In-Some g) → Taken g c
 taken g c =
@@ -82,7 +82,7 @@ taken g c =
       up_to_n = up_to_n;
       fits = offer_fits c.args.graph.now.n c.args.graph.now.edges c.args.ranking.now c.at.result c.args.p c.requires.graph c.requires.ranked c.requires.ranking root (g.R.RowView.puts c.args.view.now) (g.R.RowView.seen c.args.view.now)
           c.loop-v.frontier (g.R.RowView.puts c.loop-v.view) (g.R.RowView.seen c.loop-v.view) c.args.table.now (c.requires.root c.at.result root) growth (inv.complete c.at.result root) inv.seen c.in-Some.v c.in-Some.found c.in-Some.ensures.queued c.in-Some.ensures.nearest;
-      room = fits_64 c.args.graph.now.n c.args.graph.now.edges c.in-Some.found.dist _ c.requires.graph (omega (arith, from_one, up_to_n)) room;
+      room = fits_96 c.args.graph.now.n c.args.graph.now.edges c.in-Some.found.dist _ c.requires.graph (omega (arith, from_one, up_to_n)) room;
     }
 
 pub offer-requires-in-Some-clause-node : goal.offer-requires-in-Some-clause-node
@@ -90,11 +90,14 @@ offer-requires-in-Some-clause-node g c =
     let t = taken g (goal.at.offer-requires-in-Some-clause-node g c).In-Some in
     record { from_one = t.from_one; up_to_n = omega (arith, t.up_to_n, c.requires.ranked, ap length c.loop-v.invariant.order) }
 
+pub of-requires : goal.of-requires
+of-requires g c = omega (arith, (taken g (goal.at.of-requires g c).In-Some).room)
+
 pub offer-requires-in-Some-clause-fits : goal.offer-requires-in-Some-clause-fits
 offer-requires-in-Some-clause-fits g c =
     let t = taken g (goal.at.offer-requires-in-Some-clause-fits g c).In-Some in
-    (g.met.R.RowView.fact_fits c.loop-v.view c.in-Some.v (record { pos = c.args.p; dist = c.in-Some.found.dist })).1
-    (fits_by _ _ _ _ c.in-Some.v (record { pos = c.args.p; dist = c.in-Some.found.dist }) (sym c.loop-v.invariant.edges) (sym c.loop-v.invariant.order) t.fits)
+    rw c.of.ensures ((g.met.R.RowView.fact_fits c.loop-v.view c.in-Some.v (record { pos = c.args.p; dist = c.in-Some.found.dist })).1
+    (fits_by _ _ _ _ c.in-Some.v (record { pos = c.args.p; dist = c.in-Some.found.dist }) (sym c.loop-v.invariant.edges) (sym c.loop-v.invariant.order) t.fits))
 
 pub arc_row-requires-clause-node : goal.arc_row-requires-clause-node
 arc_row-requires-clause-node g c = (taken g (goal.at.arc_row-requires-clause-node g c).In-Some).from_one
@@ -162,7 +165,8 @@ loop-v-preserved-in-Covered g c =
     let up = (goal.at.loop-v-preserved-in-Covered g c).In-Some in
     let inv = c.loop-v.invariant in
     let offered = c.in-Covered.ensures in
-    let found = found_here g up offered.found.0 offered.found.1 in
+    let row = rw c.of.ensures at offered.found in
+    let found = found_here g up row.0 row.1 in
     let same = same_at_all (g.R.RowView.puts c.loop-v.view) (g.R.RowView.puts c.offer-in-Some.new.self) c.in-Some.v offered.puts offered.others_puts in
     let now = c.in-Some.ensures.settles in
     record {
@@ -171,12 +175,12 @@ loop-v-preserved-in-Covered g c =
       kept = offered.kept ∙ inv.kept;
       size = ap length now ∙ length-set c.loop-v.frontier c.in-Some.v _ ∙ inv.size;
       bounded = subst (IsBounded (greatest_weight c.args.graph.now.edges) ((c.args.graph.now.n + 1) * greatest_weight c.args.graph.now.edges)) (sym now) (IsBounded-settled _ _ c.loop-v.frontier c.in-Some.v c.in-Some.found c.in-Some.ensures.queued inv.bounded);
-      growth = λ h root. subst (λ ns. IsGrowth (Joined c.args.graph.now.edges) c.args.ranking.now h c.args.p (g.R.RowView.puts c.args.view.now) ns (g.R.RowView.puts c.offer-in-Some.new.self)) (sym now) (growth_over g up offered.found.0 (g.R.RowView.puts c.offer-in-Some.new.self) found same h root);
+      growth = λ h root. subst (λ ns. IsGrowth (Joined c.args.graph.now.edges) c.args.ranking.now h c.args.p (g.R.RowView.puts c.args.view.now) ns (g.R.RowView.puts c.offer-in-Some.new.self)) (sym now) (growth_over g up row.0 (g.R.RowView.puts c.offer-in-Some.new.self) found same h root);
       complete = λ h root. subst (λ ns. IsComplete (Joined c.args.graph.now.edges) c.args.ranking.now h c.args.p (g.R.RowView.puts c.args.view.now) (g.R.RowView.seen c.args.view.now) ns (g.R.RowView.puts c.offer-in-Some.new.self)) (sym now)
           (IsComplete-round_over c.args.graph.now.n c.args.graph.now.edges c.args.ranking.now h c.args.p c.requires.graph c.requires.ranked c.requires.ranking root (g.R.RowView.puts c.args.view.now) (g.R.RowView.seen c.args.view.now)
           c.loop-v.frontier (g.R.RowView.puts c.loop-v.view) (g.R.RowView.seen c.loop-v.view) c.args.table.now (c.requires.root h root) (inv.growth h root) (inv.complete h root) inv.seen c.in-Some.v c.in-Some.found c.in-Some.ensures.queued c.in-Some.ensures.nearest
-          offered.found.0 found (g.R.RowView.puts c.offer-in-Some.new.self) (record { pos = c.in-Covered.pos; dist = c.in-Covered.dist }) offered.found.2.0 offered.found.2.1 same);
-      seen = StillStand-found (g.R.RowView.seen c.args.view.now) (g.R.RowView.seen c.loop-v.view) (g.R.RowView.seen c.offer-in-Some.new.self) c.in-Some.v offered.found.0 inv.seen found.still (λ e there. subst (λ xs. Contains xs e) (sym offered.found.3) there) offered.others_seen;
+          row.0 found (g.R.RowView.puts c.offer-in-Some.new.self) (record { pos = c.in-Covered.pos; dist = c.in-Covered.dist }) row.2.0 row.2.1 same);
+      seen = StillStand-found (g.R.RowView.seen c.args.view.now) (g.R.RowView.seen c.loop-v.view) (g.R.RowView.seen c.offer-in-Some.new.self) c.in-Some.v row.0 inv.seen found.still (λ e there. subst (λ xs. Contains xs e) (sym row.3) there) offered.others_seen;
       apart = λ h root. apart_over g up (g.R.RowView.puts c.offer-in-Some.new.self) same h root;
       counted = entries-kept c.args.ranking.now (g.R.RowView.puts c.loop-v.view) (g.R.RowView.puts c.offer-in-Some.new.self) c.requires.ranking same ∙ inv.counted;
       few = omega (arith, ap unsettled now, unsettled-settled c.loop-v.frontier c.in-Some.v c.in-Some.found c.in-Some.ensures.queued, inv.few);
@@ -187,7 +191,9 @@ loop-v-preserved g c =
     let up = (goal.at.loop-v-preserved g c).In-Some in
     let inv = c.loop-v.invariant in
     let offered = c.in-Put.ensures in
-    let found = found_here g up offered.found.0 offered.found.1 in
+    let row = rw c.of.ensures at offered.found in
+    let puts = rw c.of.ensures at offered.puts in
+    let found = found_here g up row.0 row.1 in
     let now = c.in-Some.ensures.settles in
     let t = taken g up in
     let relaxed : IsRelaxed c.args.ranking.now c.args.p c.in-Some.found.dist (length (arcs_in c.arc_row.result)) (arcs_in c.arc_row.result) (settled c.loop-v.frontier c.in-Some.v c.in-Some.found) c.relax_row.new.frontier =
@@ -204,15 +210,15 @@ loop-v-preserved g c =
       growth = λ h root.
           IsGrowth-round c.args.graph.now.n c.args.graph.now.edges c.args.ranking.now h c.args.p c.requires.graph c.requires.ranked c.requires.ranking root (g.R.RowView.puts c.args.view.now) (g.R.RowView.seen c.args.view.now)
           c.loop-v.frontier (g.R.RowView.puts c.loop-v.view) (g.R.RowView.seen c.loop-v.view) c.args.table.now (c.requires.root h root) (inv.growth h root) (inv.complete h root) inv.seen c.in-Some.v c.in-Some.found c.in-Some.ensures.queued c.in-Some.ensures.nearest
-          offered.found.0 found (g.R.RowView.puts c.offer-in-Some.new.self) offered.puts offered.others_puts (arcs_in c.arc_row.result) c.arc_row.ensures c.relax_row.new.frontier relaxed;
+          row.0 found (g.R.RowView.puts c.offer-in-Some.new.self) puts offered.others_puts (arcs_in c.arc_row.result) c.arc_row.ensures c.relax_row.new.frontier relaxed;
       complete = λ h root.
           IsComplete-round c.args.graph.now.n c.args.graph.now.edges c.args.ranking.now h c.args.p c.requires.graph c.requires.ranked c.requires.ranking root (g.R.RowView.puts c.args.view.now) (g.R.RowView.seen c.args.view.now)
           c.loop-v.frontier (g.R.RowView.puts c.loop-v.view) (g.R.RowView.seen c.loop-v.view) c.args.table.now (c.requires.root h root) (inv.growth h root) (inv.complete h root) inv.seen c.in-Some.v c.in-Some.found c.in-Some.ensures.queued c.in-Some.ensures.nearest
-          offered.found.0 found (g.R.RowView.puts c.offer-in-Some.new.self) offered.puts offered.others_puts (arcs_in c.arc_row.result) c.arc_row.ensures c.relax_row.new.frontier relaxed offered.found.2;
-      seen = StillStand-found (g.R.RowView.seen c.args.view.now) (g.R.RowView.seen c.loop-v.view) (g.R.RowView.seen c.offer-in-Some.new.self) c.in-Some.v offered.found.0 inv.seen found.still
-          (with_put-still offered.found.0 (record { pos = c.args.p; dist = c.in-Some.found.dist }) Put (g.R.RowView.seen c.offer-in-Some.new.self c.in-Some.v) offered.found.3) offered.others_seen;
-      apart = λ h root. apart_put g up offered.found.0 (g.R.RowView.puts c.offer-in-Some.new.self) found offered.found.2 offered.puts offered.others_puts h root;
-      counted = omega (arith, inv.counted, entries-put c.args.ranking.now (g.R.RowView.puts c.loop-v.view) (g.R.RowView.puts c.offer-in-Some.new.self) c.in-Some.v (record { pos = c.args.p; dist = c.in-Some.found.dist }) c.requires.ranking t.from_one (omega (arith, t.up_to_n, c.requires.ranked)) offered.puts offered.others_puts);
+          row.0 found (g.R.RowView.puts c.offer-in-Some.new.self) puts offered.others_puts (arcs_in c.arc_row.result) c.arc_row.ensures c.relax_row.new.frontier relaxed row.2;
+      seen = StillStand-found (g.R.RowView.seen c.args.view.now) (g.R.RowView.seen c.loop-v.view) (g.R.RowView.seen c.offer-in-Some.new.self) c.in-Some.v row.0 inv.seen found.still
+          (with_put-still row.0 (record { pos = c.args.p; dist = c.in-Some.found.dist }) Put (g.R.RowView.seen c.offer-in-Some.new.self c.in-Some.v) row.3) offered.others_seen;
+      apart = λ h root. apart_put g up row.0 (g.R.RowView.puts c.offer-in-Some.new.self) found row.2 puts offered.others_puts h root;
+      counted = omega (arith, inv.counted, entries-put c.args.ranking.now (g.R.RowView.puts c.loop-v.view) (g.R.RowView.puts c.offer-in-Some.new.self) c.in-Some.v (record { pos = c.args.p; dist = c.in-Some.found.dist }) c.requires.ranking t.from_one (omega (arith, t.up_to_n, c.requires.ranked)) puts offered.others_puts);
       few = omega (arith, unsettled-same c.relax_row.new.frontier (settled c.loop-v.frontier c.in-Some.v c.in-Some.found) relaxed.size relaxed.settled, unsettled-settled c.loop-v.frontier c.in-Some.v c.in-Some.found c.in-Some.ensures.queued, inv.few);
     }
 
@@ -220,14 +226,16 @@ pub returns-in_err-relax_row-clause-grown : goal.returns-in_err-relax_row-clause
 returns-in_err-relax_row-clause-grown g c =
     let up = (goal.at.returns-in_err-relax_row-clause-grown g c).In-Some in
     let offered = c.in-Put.ensures in
+    let row = rw c.of.ensures at offered.found in
+    let puts = rw c.of.ensures at offered.puts in
     record {
       pruned = IsPruned-from_growth (Joined c.args.graph.now.edges) c.args.ranking.now c.at.result c.args.p (g.R.RowView.puts c.args.view.now) (settled c.loop-v.frontier c.in-Some.v c.in-Some.found) (g.R.RowView.puts c.offer-in-Some.new.self)
-          (growth_put g up offered.found.0 (g.R.RowView.puts c.offer-in-Some.new.self) (found_here g up offered.found.0 offered.found.1) offered.puts offered.others_puts c.at.result c.at.ensures.value) c.at.ensures.value;
+          (growth_put g up row.0 (g.R.RowView.puts c.offer-in-Some.new.self) (found_here g up row.0 row.1) puts offered.others_puts c.at.result c.at.ensures.value) c.at.ensures.value;
       count = IfOk-from_err c.from_residual-in_err-relax_row.result _ c.from_residual-in_err-relax_row.ensures.0;
       complete = IfOk-from_err c.from_residual-in_err-relax_row.result _ c.from_residual-in_err-relax_row.ensures.0;
       exact = IfOk-from_err c.from_residual-in_err-relax_row.result _ c.from_residual-in_err-relax_row.ensures.0;
       apart = λ h v d q s root from_one gained sum above.
-          apart_put g up offered.found.0 (g.R.RowView.puts c.offer-in-Some.new.self) (found_here g up offered.found.0 offered.found.1) offered.found.2 offered.puts offered.others_puts h root v d from_one gained q s sum above;
+          apart_put g up row.0 (g.R.RowView.puts c.offer-in-Some.new.self) (found_here g up row.0 row.1) row.2 puts offered.others_puts h root v d from_one gained q s sum above;
     }
 
 pub returns-in-NoMemory-clause-grown : goal.returns-in-NoMemory-clause-grown

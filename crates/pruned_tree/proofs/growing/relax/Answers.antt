@@ -34,7 +34,7 @@ loop-arc-init g c = IsRelaxed-none c.args.ranking.now c.args.p c.args.dist (map 
 pub overflow_add-reached : goal.overflow_add-reached
 overflow_add-reached g c =
     let up = (goal.at.overflow_add-reached g c).After-widened-arc in
-    let fits : c.args.dist + c.widened-arc.result.w < 2 ^ 64 = rw (here g up).1 at (c.requires.fits c.loop-arc.arc-index c.widened-arc.result (here g up).0) in
+    let fits : c.args.dist + c.widened-arc.result.w < 2 ^ 96 = rw (here g up).1 at (c.requires.fits c.loop-arc.arc-index c.widened-arc.result (here g up).0) in
     omega (arith, fits)
 
 pub reach-before-requires : goal.reach-before-requires

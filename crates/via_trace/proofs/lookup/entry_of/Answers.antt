@@ -1,6 +1,7 @@
 use Rattle.std.proofs.Common.{rules, ◌≡◌, ◌<◌, map, length, get_or, ap, sym, subst, ◌∙◌, arith}
 use Rattle.std.specs.Prelude.{slice_get, Some, Contains}
 use Rattle.std.specs.List.Sorted.{IsStrictlyIncreasing}
+use Rattle.std.proofs.lemmas.List.{get_or_default}
 use Rattle.std.proofs.lemmas.List.Kept.{AllPairs-from_increasing}
 use Rattle.std.proofs.lemmas.List.Sorted.{answers_always}
 use Rattle.std.proofs.lemmas.Option.{slice_get-get_or}
@@ -38,6 +39,6 @@ returns-in-Ok c =
     let within : c.in-Ok.place < length c.row.result.now = omega (arith, c.in-Ok.ensures.bound, beside.size, ap length vias_are, ap length row_is) in
     record {
       place = place;
-      entry = ap (λ r. slice_get r place) (sym row_is) ∙ slice_get-get_or row place nothing c.in-Ok.ensures.bound ∙ ap (λ q. Some (entry_at q (get_or row place nothing).dist)) found;
+      entry = ap (λ r. slice_get r place) (sym row_is) ∙ slice_get-get_or row place nothing c.in-Ok.ensures.bound ∙ ap (λ q. Some (entry_at q (get_or row place nothing).dist)) found ∙ ap (λ d. Some (entry_at c.args.pos d)) (ap (λ (e : Entry). e.dist) (get_or_default row place nothing c.index-row-place.result c.in-Ok.ensures.bound) ∙ sym c.get.ensures.value);
       via = ap (λ r. slice_get r place) (sym vias_are) ∙ slice_get-get_or c.row.result.now place 0 within;
     }

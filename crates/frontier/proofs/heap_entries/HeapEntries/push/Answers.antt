@@ -12,13 +12,13 @@ pub invariant_of-self : goal.invariant_of-self
 invariant_of-self c = record {
   short_heap = c.in_ok-push.ensures.heap_order c.self.invariant.short_heap;
   far_heap = c.self.invariant.far_heap;
-  short_by = short_by-more _ _ c.args.node c.args.dist c.self.invariant.short_by c.ranges.node.fits c.if-dist-lt-FAR.true c.in_ok-push.ensures.permutation;
+  short_by = short_by-more _ _ c.args.node c.args.dist c.self.invariant.short_by c.ranges.node.fits c.if-dist.true c.in_ok-push.ensures.permutation;
   far_off = c.self.invariant.far_off;
 }
 
 pub invariant_of-self-in-Continue-branch-2 : goal.invariant_of-self-in-Continue-branch-2
 invariant_of-self-in-Continue-branch-2 c =
-    let off : 2 ^ 32 ≤ c.args.dist = omega (arith, c.if-dist-lt-FAR.false) in
+    let off : 2 ^ 32 ≤ c.args.dist = omega (arith, c.if-dist.false) in
     record {
       short_heap = c.self.invariant.short_heap;
       far_heap = c.in_ok-push-2.ensures.heap_order c.self.invariant.far_heap;

@@ -31,6 +31,6 @@ pub invariant_of-self-in-Some : goal.invariant_of-self-in-Some
 invariant_of-self-in-Some c =
     let inside : c.args.entry.pos < length c.self.inside.dists.items = rw (← c.self.view_is) at c.requires in
     let was : root_distance c.self.inside.dists.items c.args.entry.pos ≡ Some c.in-Some.known = sym (get_or_read c.self.inside.dists.items _ _ inside c.index.ensures None) ∙ c.in-Some.is in (
-      HasTouched-known c.self.inside.dists.items c.self.inside.touched.items c.self.inside.count c.args.entry.pos c.in-Some.known c.min-least.result c.self.invariant.0 was,
-      rw c.clamped-in-Some.ensures (clamped-set c.self.inside.dists.items c.self.inside.clamped.items c.args.entry.pos (Some c.min-least.result) c.self.invariant.1),
+      HasTouched-known c.self.inside.dists.items c.self.inside.touched.items c.self.inside.count c.args.entry.pos c.in-Some.known c.lesser_of-least.result c.self.invariant.0 was,
+      rw c.clamped-in-Some.ensures (clamped-set c.self.inside.dists.items c.self.inside.clamped.items c.args.entry.pos (Some c.lesser_of-least.result) c.self.invariant.1),
     )

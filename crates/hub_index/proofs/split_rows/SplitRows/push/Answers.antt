@@ -23,11 +23,11 @@ returns-in_err-push-clause-err c =
     let p = err_from_is_err_and c.from_residual.result c.from_residual.ensures.1 in
     rw p.1 (compact_stays c.self.inside.compact.items c.self.inside.full c.args.self.now (c.args.v - 1) c.index_mut.result.now c.push.new.self c.self.view_is c.index_mut.ensures.value c.in_err-push.ensures.items)
 
-pub returns-in-Ok-clause-ok : goal.returns-in-Ok-clause-ok
-returns-in-Ok-clause-ok c =
-    let put : CompactEntry = record { pos = c.args.entry.pos; dist = c.in-Ok.dist } in
+pub returns-in-Some-clause-ok : goal.returns-in-Some-clause-ok
+returns-in-Some-clause-ok c =
+    let put : CompactEntry = record { pos = c.args.entry.pos; dist = c.in-Some.dist } in
     let none : label_row c.self.inside.full c.args.v ≡ [] = sym c.row.ensures ∙ nil_from_length c.row.result.now (search rules) in
-    let fits : c.in-Ok.dist ≡ c.args.entry.dist = search rules in
+    let fits : c.in-Some.dist ≡ c.args.entry.dist = search rules in
     compact_gains c.self.inside.compact.items c.self.inside.full c.args.self.now c.args.v c.index_mut.result.now c.push.new.self put c.self.view_is c.self.invariant.0 c.requires.node c.requires.within c.index_mut.ensures.value c.in_ok-push.ensures.items none
     ∙ ap (λ d. with_entry c.args.self.now c.args.v (record { pos = c.args.entry.pos; dist = d })) fits
 

@@ -1,4 +1,4 @@
-use Rattle.std.proofs.Common.{◌≡◌, ◌∙◌}
+use Rattle.std.proofs.Common.{◌∙◌}
 use Rattle.index_file.specs.Judging.{fed}
 use Rattle.index_file.specs.Gives.{Gives}
 use Rattle.index_file.proofs.CutBytes.{TakesPiece-gives}

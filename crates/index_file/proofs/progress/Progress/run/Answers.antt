@@ -24,10 +24,10 @@ pub returns-in-Position-clause-taken : goal.returns-in-Position-clause-taken
 returns-in-Position-clause-taken c =
     let none : c.self.inside.held.items ≡ [] = grind (arith, common_steps) in
     let same = stands_at c.self.inside.next (Position c.in-Position.done c.in-Position.part) c.self.inside.held.items c.self.inside.at c.args.self c.self.view_is c.in-Position.is none in
-    subst (λ (s : Reached). IfOk c.run_of_entries.result (λ r. Takes s c.args.rest.now r.0 r.1.now)) same c.run_of_entries.ensures.taken
+    subst (λ (s : Reached). IfOk c.run_of_rows.result (λ r. Takes s c.args.rest.now r.0 r.1.now)) same c.run_of_rows.ensures.taken
 
 pub returns-in-Position-clause-refused : goal.returns-in-Position-clause-refused
 returns-in-Position-clause-refused c =
     let none : c.self.inside.held.items ≡ [] = grind (arith, common_steps) in
     let same = stands_at c.self.inside.next (Position c.in-Position.done c.in-Position.part) c.self.inside.held.items c.self.inside.at c.args.self c.self.view_is c.in-Position.is none in
-    subst (λ (s : Reached). IfErr c.run_of_entries.result (Refuses s c.args.rest.now)) same c.run_of_entries.ensures.refused
+    subst (λ (s : Reached). IfErr c.run_of_rows.result (Refuses s c.args.rest.now)) same c.run_of_rows.ensures.refused

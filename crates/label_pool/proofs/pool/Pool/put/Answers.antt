@@ -6,7 +6,7 @@ use Rattle.table_seats.specs.Seats.{knowing}
 use Rattle.label_pool.specs.Chains.{IsTailOf, seen_of}
 use Rattle.label_pool.specs.Fillings.{filled, linked_of, with_next}
 use Rattle.label_pool.specs.Lawful.{Sitter}
-use Rattle.label_pool.specs.Seats.{AreWithin, HasReserve, HasTaken}
+use Rattle.label_pool.specs.Seats.{AreWithin, HasReserve, HasTaken, IsMet}
 use Rattle.label_pool.specs.Steps.{IsRefilled, with_filling, with_link, with_opened}
 use Rattle.label_pool.proofs.Calls.{has-put}
 use Rattle.label_pool.proofs.pool.Pool.put.Goals as goal
@@ -24,6 +24,22 @@ open_first-requires-clause-reserve g c =
     let next = c.refill-room.new.next in
     let end = c.refill-room.new.end in
     (numbers (next + 1) end, first-in-reserve c.seat.inside.seat.me next end c.refill-room.new.seat.me c.in_default.ensures.ok)
+
+pub link-requires-clause-filled : goal.link-requires-clause-filled
+link-requires-clause-filled g c =
+    let k0 = c.seat.inside.seat.me in
+    let next = c.refill-room.new.next in
+    let end = c.refill-room.new.end in
+    let dist = c.args.entry.dist in
+    let rest : List ℕ = numbers (next + 1) end in
+    let r : IsRefilled k0 next end c.refill-room.new.seat.me = c.in_default.ensures.ok in
+    let opened : c.open_first.new.seat.me ≡ (knowing k0.0 (record k0.0.knows { blocks = r.blocks; reserve = rest; filling = Some (filled next None dist) }), k0.1) =
+    c.open_first.ensures.opened rest (first-in-reserve k0 next end c.refill-room.new.seat.me r) ∙ ap (λ (m : Sitter g.row.F.Denot). (knowing m.0 (with_opened m.0.knows next rest dist), m.1)) r.after_is in
+    let fact_is = ap (λ (m : Sitter g.row.F.Denot). m.0.knows.fact) opened ∙ ap (λ d. d.pool.fact) c.seat.view_is ∙ ap (λ p. p.fact) c.requires.seat in (
+      dist,
+      ap (λ (m : Sitter g.row.F.Denot). m.0.knows.filling) opened,
+      subst (λ fact. IsMet g.F.LinkFact.fact fact c.args.v c.args.entry) (sym fact_is) c.requires.fact,
+    )
 
 -- the first of the cells in reserve is taken
 taken : {F : Type 0} (me : Sitter F) (next end : ℕ) (after : Sitter F) (r : IsRefilled me next end after) → HasTaken me.0.knows.block me.0.knows.blocks me.0.knows.reserve next r.blocks (numbers (next + 1) end)

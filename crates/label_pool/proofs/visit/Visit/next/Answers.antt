@@ -81,5 +81,5 @@ returns-clause-next g c rest r =
     next-given c.args.seat.now.looks c.in_ok-cell.cell _ _ rest
     (λ look l ls there tail is.
     let t = told g before look l ls there tail is in
-    ((λ k. Some (record { pos = (c.pos_in.ensures ∙ t.pos_is) k; dist = t.dist_is k })), named-same c.cell_in-self-inside.result (first_cell ls) (c.cell_in-self-inside.ensures ∙ t.next_is)))
+    ((λ k. Some (record { pos = (c.pos_in.ensures ∙ t.pos_is) k; dist = (c.of_u64.ensures ∙ t.dist_is) k })), named-same c.cell_in-self-inside.result (first_cell ls) (c.cell_in-self-inside.ensures ∙ t.next_is)))
     (subst (λ a. IsRest c.args.seat.now.looks a rest) (stands g first) r)

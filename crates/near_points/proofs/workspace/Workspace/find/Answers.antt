@@ -41,6 +41,10 @@ begin-requires-clause-within c =
     let within = row_positions index.order index.rows c.args.source c.row-row.ensures.well_formed c.requires.source.0 c.requires.source.1 k d lt in
     omega (arith, within, size))
 
+pub begin-requires-clause-short : goal.begin-requires-clause-short
+begin-requires-clause-short c =
+    rw c.row-row.ensures.value (row_fits c.args.index.now.order c.args.index.now.rows c.args.source c.row-row.ensures.well_formed c.requires.source.0 c.requires.source.1)
+
 pub merge-requires : goal.merge-requires
 merge-requires c =
     let index = c.args.index.now in
@@ -55,7 +59,7 @@ merge-requires c =
     rw (c.row-row.ensures.value, c.clear.ensures.items, given) (record {
       rising = inverted.rising;
       row = rises;
-      short = λ k d lt. let fits = row_fits index.order index.rows c.args.source well c.requires.source.0 c.requires.source.1 k d lt in omega (arith, fits);
+      short = row_fits index.order index.rows c.args.source well c.requires.source.0 c.requires.source.1;
       nodes = λ k d lt. let node = words_nodes index c.args.points.now.nodes words c.lists.result.1.now inverted well k d lt in omega (arith, node, size, ap length given);
       heap = c.in_ok-begin.ensures.heap;
       merged = IsMerged-start words row inverted.rising (AllPairs-from_increasing (map (λ (e : Entry). e.pos) row) rises) (heap_items c.begin.new.cursors) c.unmark.new.given (rw c.row-row.ensures.value at c.in_ok-begin.ensures.begun) c.unmark.ensures.marked;

@@ -39,12 +39,12 @@ inside g c row n is stands =
 
 -- the own row is what was kept at the root
 own : (g : given.Over) (c : After-note_chain g) → label_row (own_rows c.self.inside.puts) c.args.h ≡ entries_of_node c.self.inside.puts.kept c.args.h
-own g c = own_is c.self.inside.seat c.self.inside.global c.self.inside.puts c.self.invariant.1 c.args.h (visit_is g c).node
+own g c = own_is c.self.inside.seat c.self.inside.global c.self.inside.puts c.self.invariant.1 c.self.invariant.4 c.args.h (visit_is g c).node
 
 pub note-requires-clause-node : goal.note-requires-clause-node
 note-requires-clause-node g c =
     let up = (goal.at.note-requires-clause-node g c).After-note_chain in
-    is_node c.self.inside.seat c.self.inside.global c.self.inside.puts c.self.invariant.1 c.args.h (visit_is g up).node
+    is_node c.self.inside.seat c.self.inside.global c.self.inside.puts c.self.invariant.1 c.self.invariant.4 c.args.h (visit_is g up).node
 
 pub note-requires-clause-positions : goal.note-requires-clause-positions
 note-requires-clause-positions g c =
@@ -71,6 +71,7 @@ invariant_of-self g c =
       viewing_now (viewed g up) c.args.h c.note_chain.new.seat found is,
       open_kept (viewed g up) c.args.h c.note_chain.new.seat found is c.self.inside.past c.self.inside.puts c.self.invariant.2,
       puts_kept (viewed g up) c.args.h c.note_chain.new.seat found is c.self.inside.puts c.self.invariant.3,
+      c.self.invariant.4,
     )
 
 pub returns-clause-visit : goal.returns-clause-visit

@@ -8,6 +8,7 @@ use Rattle.hub_index.specs.NodeEntries.{entries_of_node}
 use Rattle.hub_index.specs.Views.{IsNode}
 use Rattle.hub_index.specs.declared.row_view.Offer.TheVariants.{Put as IsPut, NoMemory}
 use Rattle.label_pool.specs.declared.rule.Linked.{Linked}
+use Rattle.label_pool.specs.Chains.{entries_of}
 use Rattle.label_pool.specs.Seats.{Seated, HasFound}
 use Rattle.pool_view.specs.Fitting.{Fitting, MayStand, order_of}
 use Rattle.pool_view.specs.Putting.{own_rows}
@@ -32,7 +33,7 @@ returns-in-Some g c =
     let told : IsOfferedToGlobal c.args.table.now (viewed g up) c.args.v c.args.entry c.covered_by.result (viewed g up) = record {
       cover = c.in-Some.cover;
       there = c.in-Some.ensures.some.0;
-      covers = c.in-Some.ensures.some.1;
+      covers = subst (λ d. IsCover c.args.table.now c.args.entry.pos d c.in-Some.cover) c.get-dist.ensures.value c.in-Some.ensures.some.1;
       answer_is = c.covered_by.ensures;
       row = seen-found (viewed g up) c.args.v c.self.invariant.1 (node_is g up);
       same = refl;
@@ -40,10 +41,15 @@ returns-in-Some g c =
     record { offered = inl (subst (λ w. IsOfferedToGlobal c.args.table.now w c.args.v c.args.entry c.covered_by.result w) c.self.view_is told) }
 
 -- where none of the global row covers
-uncovered : (g : given.Over) (c : After-cover g) → ((e : Entry) → Contains (label_row c.self.inside.global c.args.v) e → ¬ IsCover c.args.table.now c.args.entry.pos c.args.entry.dist e) → All (λ e. ¬ IsCover c.args.table.now c.args.entry.pos c.args.entry.dist e) (label_row c.self.inside.global c.args.v)
+uncovered : (g : given.Over) (c : After-cover g) → ((e : Entry) → Contains (label_row c.self.inside.global c.args.v) e → ¬ IsCover c.args.table.now c.args.entry.pos c.get-dist.result e) → All (λ e. ¬ IsCover c.args.table.now c.args.entry.pos c.args.entry.dist e) (label_row c.self.inside.global c.args.v)
 uncovered g c none =
     let row = label_row c.self.inside.global c.args.v in
-    All-weaker (Contains row) (λ e. ¬ IsCover c.args.table.now c.args.entry.pos c.args.entry.dist e) none row (All-contains_itself row)
+    let none_of : (e : Entry) → Contains row e → ¬ IsCover c.args.table.now c.args.entry.pos c.args.entry.dist e = λ e there cover. none e there (subst (λ d. IsCover c.args.table.now c.args.entry.pos d e) (sym c.get-dist.ensures.value) cover) in
+    All-weaker (Contains row) (λ e. ¬ IsCover c.args.table.now c.args.entry.pos c.args.entry.dist e) none_of row (All-contains_itself row)
+
+-- where none of the chain covers
+in_chain : (g : given.Over) (c : After-cover g) (found : List Linked) → All (λ e. ¬ IsCover c.args.table.now c.args.entry.pos c.get-dist.result e) (entries_of found) → All (λ e. ¬ IsCover c.args.table.now c.args.entry.pos c.args.entry.dist e) (entries_of found)
+in_chain g c found none = subst (λ d. All (λ e. ¬ IsCover c.args.table.now c.args.entry.pos d e) (entries_of found)) c.get-dist.ensures.value none
 
 position : (g : given.Over) (c : After-cover g) → c.args.entry.pos ≤ length c.args.table.now
 position g c = let inside = slice_get_within (order_of c.args.self.now.seat.pool.fact) c.args.entry.pos c.requires.fits.walk.0 c.requires.fits.walk.1 in omega (arith, inside, c.requires.size)
@@ -53,17 +59,17 @@ covered_in_chain-requires-clause-pos g c = position g (goal.at.covered_in_chain-
 
 -- the own row is what was kept at the node
 own : (g : given.Over) (c : After-cover g) → label_row (own_rows c.self.inside.puts) c.args.v ≡ entries_of_node c.self.inside.puts.kept c.args.v
-own g c = own_is c.self.inside.seat c.self.inside.global c.self.inside.puts c.self.invariant.1 c.args.v (node_is g c)
+own g c = own_is c.self.inside.seat c.self.inside.global c.self.inside.puts c.self.invariant.1 c.self.invariant.4 c.args.v (node_is g c)
 
 -- where none of what was kept at the node covers
-uncovered_own : (g : given.Over) (c : After-cover g) → ((e : Entry) → Contains (entries_of_node c.self.inside.puts.kept c.args.v) e → ¬ IsCover c.args.table.now c.args.entry.pos c.args.entry.dist e) → All (λ e. ¬ IsCover c.args.table.now c.args.entry.pos c.args.entry.dist e) (label_row (own_rows c.self.inside.puts) c.args.v)
+uncovered_own : (g : given.Over) (c : After-cover g) → ((e : Entry) → Contains (entries_of_node c.self.inside.puts.kept c.args.v) e → ¬ IsCover c.args.table.now c.args.entry.pos c.get-dist.result e) → All (λ e. ¬ IsCover c.args.table.now c.args.entry.pos c.args.entry.dist e) (label_row (own_rows c.self.inside.puts) c.args.v)
 uncovered_own g c none =
     let row = label_row (own_rows c.self.inside.puts) c.args.v in
-    let none_of : (e : Entry) → Contains row e → ¬ IsCover c.args.table.now c.args.entry.pos c.args.entry.dist e = λ e there. none e (subst (λ es. Contains es e) (own g c) there) in
+    let none_of : (e : Entry) → Contains row e → ¬ IsCover c.args.table.now c.args.entry.pos c.args.entry.dist e = λ e there cover. none e (subst (λ es. Contains es e) (own g c) there) (subst (λ d. IsCover c.args.table.now c.args.entry.pos d e) (sym c.get-dist.ensures.value) cover) in
     All-weaker (Contains row) (λ e. ¬ IsCover c.args.table.now c.args.entry.pos c.args.entry.dist e) none_of row (All-contains_itself row)
 
 pub cover-requires-2-clause-node : goal.cover-requires-2-clause-node
-cover-requires-2-clause-node g c = let up = (goal.at.cover-requires-2-clause-node g c).After-cover in is_node c.self.inside.seat c.self.inside.global c.self.inside.puts c.self.invariant.1 c.args.v (node_is g up)
+cover-requires-2-clause-node g c = let up = (goal.at.cover-requires-2-clause-node g c).After-cover in is_node c.self.inside.seat c.self.inside.global c.self.inside.puts c.self.invariant.1 c.self.invariant.4 c.args.v (node_is g up)
 
 pub cover-requires-2-clause-size : goal.cover-requires-2-clause-size
 cover-requires-2-clause-size g c = position g (goal.at.cover-requires-2-clause-size g c).After-cover
@@ -77,7 +83,7 @@ invariant_of-self g c =
     let up = (goal.at.invariant_of-self g c).After-cover in
     let chain = c.in-Some-covered_in_chain.ensures.chain in
     let is = visit_by g up c.covered_in_chain.new.seat chain.0 chain.1 in
-    (pool_kept (viewed g up) c.args.v c.covered_in_chain.new.seat chain.0 is c.self.inside.pool.now c.self.invariant.0, viewing_now (viewed g up) c.args.v c.covered_in_chain.new.seat chain.0 is, open_kept (viewed g up) c.args.v c.covered_in_chain.new.seat chain.0 is c.self.inside.past c.self.inside.puts c.self.invariant.2, puts_kept (viewed g up) c.args.v c.covered_in_chain.new.seat chain.0 is c.self.inside.puts c.self.invariant.3)
+    (pool_kept (viewed g up) c.args.v c.covered_in_chain.new.seat chain.0 is c.self.inside.pool.now c.self.invariant.0, viewing_now (viewed g up) c.args.v c.covered_in_chain.new.seat chain.0 is, open_kept (viewed g up) c.args.v c.covered_in_chain.new.seat chain.0 is c.self.inside.past c.self.inside.puts c.self.invariant.2, puts_kept (viewed g up) c.args.v c.covered_in_chain.new.seat chain.0 is c.self.inside.puts c.self.invariant.3, c.self.invariant.4)
 
 pub returns-in-Some-covered_in_chain : goal.returns-in-Some-covered_in_chain
 returns-in-Some-covered_in_chain g c =
@@ -88,7 +94,7 @@ returns-in-Some-covered_in_chain g c =
     let now : Viewing = view_of seat c.self.inside.global c.self.inside.puts in
     let cover = c.in-Some-covered_in_chain.cover in
     let told = offered_covered (viewed g up) c.args.v seat chain.0 is c.args.table.now c.args.entry (uncovered g up c.in_default.ensures.none)
-    cover (of_chain (viewed g up) chain.0 c.args.v cover chain.2.0) chain.2.1 c.covered_by-in-Some-covered_in_chain.result c.covered_by-in-Some-covered_in_chain.ensures in
+    cover (of_chain (viewed g up) chain.0 c.args.v cover chain.2.0) (subst (λ d. IsCover c.args.table.now c.args.entry.pos d cover) c.get-dist.ensures.value chain.2.1) c.covered_by-in-Some-covered_in_chain.result c.covered_by-in-Some-covered_in_chain.ensures in
     record { offered = inr (subst (λ w. IsOfferedToAll c.args.table.now w c.args.v c.args.entry c.covered_by-in-Some-covered_in_chain.result now) c.self.view_is told) }
 
 pub invariant_of-self-in-Some-cover : goal.invariant_of-self-in-Some-cover
@@ -96,7 +102,7 @@ invariant_of-self-in-Some-cover g c =
     let up = (goal.at.invariant_of-self-in-Some-cover g c).After-cover in
     let chain = c.in_default-covered_in_chain.ensures.chain in
     let is = visit_by g up c.covered_in_chain.new.seat chain.0 chain.1 in
-    (pool_kept (viewed g up) c.args.v c.covered_in_chain.new.seat chain.0 is c.self.inside.pool.now c.self.invariant.0, viewing_now (viewed g up) c.args.v c.covered_in_chain.new.seat chain.0 is, open_kept (viewed g up) c.args.v c.covered_in_chain.new.seat chain.0 is c.self.inside.past c.self.inside.puts c.self.invariant.2, puts_kept (viewed g up) c.args.v c.covered_in_chain.new.seat chain.0 is c.self.inside.puts c.self.invariant.3)
+    (pool_kept (viewed g up) c.args.v c.covered_in_chain.new.seat chain.0 is c.self.inside.pool.now c.self.invariant.0, viewing_now (viewed g up) c.args.v c.covered_in_chain.new.seat chain.0 is, open_kept (viewed g up) c.args.v c.covered_in_chain.new.seat chain.0 is c.self.inside.past c.self.inside.puts c.self.invariant.2, puts_kept (viewed g up) c.args.v c.covered_in_chain.new.seat chain.0 is c.self.inside.puts c.self.invariant.3, c.self.invariant.4)
 
 pub returns-in-Some-cover : goal.returns-in-Some-cover
 returns-in-Some-cover g c =
@@ -109,7 +115,7 @@ returns-in-Some-cover g c =
     let cover = c.in-Some-cover.cover in
     let there = subst (λ row. Contains row cover) (sym (own g up)) some.0 in
     let told = offered_covered (viewed g up) c.args.v seat chain.0 is c.args.table.now c.args.entry (uncovered g up c.in_default.ensures.none)
-    cover (of_own (viewed g up) chain.0 c.args.v cover there) some.1 c.covered_by-in-Some-cover.result c.covered_by-in-Some-cover.ensures in
+    cover (of_own (viewed g up) chain.0 c.args.v cover there) (subst (λ d. IsCover c.args.table.now c.args.entry.pos d cover) c.get-dist.ensures.value some.1) c.covered_by-in-Some-cover.result c.covered_by-in-Some-cover.ensures in
     record { offered = inr (subst (λ w. IsOfferedToAll c.args.table.now w c.args.v c.args.entry c.covered_by-in-Some-cover.result now) c.self.view_is told) }
 
 pub invariant_of-self-2 : goal.invariant_of-self-2
@@ -117,7 +123,7 @@ invariant_of-self-2 g c =
     let up = (goal.at.invariant_of-self-2 g c).After-cover in
     let chain = c.in_default-covered_in_chain.ensures.chain in
     let is = visit_by g up c.covered_in_chain.new.seat chain.0 chain.1 in
-    (pool_kept (viewed g up) c.args.v c.covered_in_chain.new.seat chain.0 is c.self.inside.pool.now c.self.invariant.0, viewing_now (viewed g up) c.args.v c.covered_in_chain.new.seat chain.0 is, open_kept (viewed g up) c.args.v c.covered_in_chain.new.seat chain.0 is c.self.inside.past c.self.inside.puts c.self.invariant.2, puts_kept (viewed g up) c.args.v c.covered_in_chain.new.seat chain.0 is c.self.inside.puts c.self.invariant.3)
+    (pool_kept (viewed g up) c.args.v c.covered_in_chain.new.seat chain.0 is c.self.inside.pool.now c.self.invariant.0, viewing_now (viewed g up) c.args.v c.covered_in_chain.new.seat chain.0 is, open_kept (viewed g up) c.args.v c.covered_in_chain.new.seat chain.0 is c.self.inside.past c.self.inside.puts c.self.invariant.2, puts_kept (viewed g up) c.args.v c.covered_in_chain.new.seat chain.0 is c.self.inside.puts c.self.invariant.3, c.self.invariant.4)
 
 pub returns-in-Ok : goal.returns-in-Ok
 returns-in-Ok g c =
@@ -126,7 +132,7 @@ returns-in-Ok g c =
     let seat = c.covered_in_chain.new.seat in
     let is = visit_by g up seat chain.0 chain.1 in
     let told = offered_put (viewed g up) c.args.v seat chain.0 is c.args.table.now c.args.entry (uncovered g up c.in_default.ensures.none)
-    chain.3 (uncovered_own g up c.in_default-cover.ensures.none) c.put.new.self c.in-Ok.ensures.ok in
+    (in_chain g up chain.0 chain.3) (uncovered_own g up c.in_default-cover.ensures.none) c.put.new.self c.in-Ok.ensures.ok in
     record { offered = inr (subst (λ w. IsOfferedToAll c.args.table.now w c.args.v c.args.entry IsPut c.put.new.self) c.self.view_is told) }
 
 pub returns-in-Err : goal.returns-in-Err
@@ -136,5 +142,5 @@ returns-in-Err g c =
     let seat = c.covered_in_chain.new.seat in
     let is = visit_by g up seat chain.0 chain.1 in
     let told = offered_none (viewed g up) c.args.v seat chain.0 is c.args.table.now c.args.entry (uncovered g up c.in_default.ensures.none)
-    chain.3 (uncovered_own g up c.in_default-cover.ensures.none) c.put.new.self c.in-Err.ensures.err in
+    (in_chain g up chain.0 chain.3) (uncovered_own g up c.in_default-cover.ensures.none) c.put.new.self c.in-Err.ensures.err in
     record { offered = inr (subst (λ w. IsOfferedToAll c.args.table.now w c.args.v c.args.entry NoMemory c.put.new.self) c.self.view_is told) }
