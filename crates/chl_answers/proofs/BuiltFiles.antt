@@ -33,7 +33,7 @@ use Rattle.chl_words.specs.declared.asked.Asked.TheVariants.{Build}
 use Rattle.chl_words.specs.declared.asked.Version.{Version}
 use Rattle.chl_words.specs.declared.asked.Version.TheVariants.{One, Two}
 use Rattle.chl_answers.specs.Commands.{Decides, HubOf, IsStoredAuditOf, TellsOverflow, file_stage, unless_far}
-use Rattle.chl_answers.proofs.Decisions.{graph_of_stage, ranking_of_stage}
+use Rattle.chl_answers.proofs.InputValues.{graph_of_stage, ranking_of_stage}
 use Rattle.chl_answers.proofs.StoredIndexes.{labelling_same, traced_same}
 
 -- where there are bytes, no hub is too far
@@ -42,8 +42,8 @@ fitted J at stage files bytes None tells decided = (tells, decided)
 fitted J at stage files bytes (Some far) tells decided = absurd (no_stop_in bytes (Overflow far.v far.hub) decided)
 
 -- the rows of a labelling, and then their file
-abbrev rows_stage : Version → WeightedGraph → List ℕ → Stage (List ℕ)
-rows_stage version g at = Works (λ rows. IsChl (Joined g.edges) at rows) (λ rows. file_stage version g at rows)
+abbrev written_stage : Version → WeightedGraph → List ℕ → Stage (List ℕ)
+written_stage version g at = Works (λ rows. IsChl (Joined g.edges) at rows) (λ rows. file_stage version g at rows)
 
 -- the file was built of this graph and this ranking, whose labelling has these rows and fits an index
 pub record IsBuiltOf (version : Version) (graph order : List ℕ) (files : Files) (bytes : List ℕ) : Type 0 where
@@ -65,7 +65,7 @@ built_of graph order out version construction files bytes built =
     let g = after_graph.0 in
     let after_order = after_ok (value_at (order_input g.n order) files) bytes (λ at. Labelled g at) after_graph.2 in
     let at = after_order.0 in
-    let built = fitted (Joined g.edges) at (rows_stage version g at) files bytes after_order.2.0 after_order.2.1 after_order.2.2 in
+    let built = fitted (Joined g.edges) at (written_stage version g at) files bytes after_order.2.0 after_order.2.1 after_order.2.2 in
     let rank = ranking_of_stage g.n order files at after_order.1 in
     record {
       g = g;
@@ -82,7 +82,7 @@ built_of graph order out version construction files bytes built =
     }
   where
     Labelled : WeightedGraph → List ℕ → Type 0
-    Labelled g at = (far : Option HubOf) × TellsOverflow (Joined g.edges) at far × Decided (unless_far far (rows_stage version g at)) files (Ok bytes)
+    Labelled g at = (far : Option HubOf) × TellsOverflow (Joined g.edges) at far × Decided (unless_far far (written_stage version g at)) files (Ok bytes)
 
 -- a file within the limit whose bytes come to an index is read as that
 read_as : (index : List ℕ) (files : Files) (bytes : List ℕ) (stored : StoredIndex) → finite_map.get files index ≡ Some bytes → length bytes ≤ input_limit → index_of bytes ≡ Ok stored → value_at (index_input index) files ≡ Ok stored

@@ -17,7 +17,8 @@ use Rattle.chl_words.specs.declared.asked.Construction.{Construction}
 use Rattle.chl_words.specs.declared.asked.Asked.TheVariants.{Build, Solve, Query}
 use Rattle.chl_words.specs.declared.asked.Version.{Version}
 use Rattle.chl_answers.specs.Commands.{AreAnswers, Decides, meets_stage}
-use Rattle.chl_answers.proofs.Decisions.{answers_of_rows, pairs_of_stage}
+use Rattle.chl_answers.proofs.Decisions.{answers_of_rows}
+use Rattle.chl_answers.proofs.InputValues.{pairs_of_stage}
 use Rattle.chl_answers.proofs.BuiltFiles.{built_of, read_of}
 
 -- what it says is what is said of the graph

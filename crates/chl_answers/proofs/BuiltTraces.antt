@@ -25,7 +25,7 @@ use Rattle.chl_words.specs.declared.asked.Asked.TheVariants.{Build, Trace}
 use Rattle.chl_words.specs.declared.asked.Version.TheVariants.{Two}
 use Rattle.chl_answers.specs.Commands.{AreAnswers, Decides, first_stop, for_vias, trace_stop, traces_stage, unless_stopped}
 use Rattle.chl_answers.specs.Laws.{TellsWalks}
-use Rattle.chl_answers.proofs.Decisions.{pairs_of_stage}
+use Rattle.chl_answers.proofs.InputValues.{pairs_of_stage}
 use Rattle.chl_answers.proofs.PairAnswers.{answers_told}
 use Rattle.chl_answers.proofs.BuiltFiles.{built_of, read_vias_of}
 

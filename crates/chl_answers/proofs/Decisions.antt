@@ -1,20 +1,14 @@
 -- What the files decide: always something, and one thing.
-use Rattle.std.proofs.Common.{◌≡◌, ◌≤◌, ℕ, Bool, true, false, cond, List, length, take, nat_lt, ap, refl, sym, ◌∙◌, arith, eqb-true}
-use Rattle.std.specs.Prelude.{◌==◌, Option, Some, None, Result, Ok, Err}
-use Rattle.std.specs.FinMap as finite_map
+use Rattle.std.proofs.Common.{◌≡◌, ◌≤◌, ℕ, List, length, ap, refl, sym, ◌∙◌, arith, eqb-true}
+use Rattle.std.specs.Prelude.{◌==◌, Option, Result, Ok, Err}
 use Rattle.desk_io.specs.Contents.{Files}
-use Rattle.desk_io.specs.Reading.{input_limit}
 use Rattle.grid_work.specs.Grid.{grid, grid_edges}
 use Rattle.grid_work.proofs.GridGraphs.{grid_weights}
-use Rattle.dimacs_text.proofs.TextsAccepted.{graph_accepted, pairs_accepted}
-use Rattle.entry_vias.proofs.Existing.{AreVias-exist}
-use Rattle.entry_vias.proofs.OneList.{AreVias-one}
 use Rattle.hub_query.proofs.Meetings.{meet_exists, meet_unique}
 use Rattle.hub_query.proofs.PathsDecided.{path_exists, path_unique}
 use Rattle.hub_query.specs.Paths.{IsPathOf}
 use Rattle.index_audit.proofs.OneUpgrade.{upgrade_exists, upgrade_unique}
 use Rattle.index_file.specs.Stored.{IsStored, without_vias}
-use Rattle.index_file.proofs.SoundIndexes.{IsStored-index_of}
 use Rattle.index_file.specs.declared.stored_index.StoredIndex.{StoredIndex}
 use Rattle.index_file.specs.declared.stored_index.StoredIndex.TheVariants.{Plain, Traced}
 use Rattle.near_points.specs.Nearest.{IsNearest, IsPointAway}
@@ -23,8 +17,6 @@ use Rattle.near_points.proofs.NearestPoints.{nearest_exist}
 use Rattle.via_trace.specs.Traces.{IsTraceOf}
 use Rattle.via_trace.proofs.EachTrace.{trace_exists}
 use Rattle.via_trace.proofs.OneTrace.{trace_unique}
-use Rattle.order_text.proofs.OrderNodes.{orders_rank, texts_of_nodes}
-use Rattle.order_text.specs.OrderText.{AreWithin}
 use Rattle.walk_laws.specs.declared.entry.Entry.{Entry}
 use Rattle.walk_laws.specs.Graph.{WeightedGraph, IsGraph}
 use Rattle.walk_laws.specs.Joined.{Joined}
@@ -38,9 +30,8 @@ use Rattle.walk_laws.proofs.JoinedDecisions.{IsCanonical-joined_decided}
 use Rattle.walk_laws.proofs.JoinedEdges.{weights_of_edges}
 use Rattle.walk_laws.proofs.LabellingExists.{IsChl-exists}
 use Rattle.walk_laws.proofs.LabelRows.{IsChl-unique}
-use Rattle.chl_inputs.specs.Inputs.{Input, value_at, value_of, judged, past_limit, graph_input, order_input, pairs_input, points_input, sources_input, index_input, ArePairsWithin}
-use Rattle.chl_inputs.specs.Stages.{Stage, After, Comes, Works}
-use Rattle.chl_inputs.specs.Stops.{graph_stop, order_stop, pairs_stop, points_stop, sources_stop, index_stop}
+use Rattle.chl_inputs.specs.Inputs.{value_at, graph_input, ArePairsWithin}
+use Rattle.chl_inputs.specs.Stages.{After, Comes}
 use Rattle.chl_inputs.specs.declared.stop.Stop.{Stop}
 use Rattle.chl_inputs.specs.declared.stop.Stop.TheVariants.{NotOfGraph}
 use Rattle.chl_inputs.specs.declared.stop.NotOf.TheVariants.{Sizes}
@@ -48,113 +39,18 @@ use Rattle.chl_inputs.proofs.StageLaws.{Answerable, Determined, decided_always, 
 use Rattle.chl_inputs.proofs.StagesInTurn.{same_value}
 use Rattle.chl_lines.specs.PrintedOrders.{order_lines}
 use Rattle.chl_lines.specs.PrintedRows.{lines_from}
-use Rattle.chl_answers.specs.Commands.{Decides, HubOf, stage_of, for_fitting, unless_far, labelling_stage, file_stage, solve_stage, query_stage, path_stage, near_stage, trace_stage, traces_stage, for_vias, audit_stage, upgrade_stage, degree_stage, rank_stage, grid_stage, answers_stage, AreAnswers, IsRankingOf, stage_if}
+use Rattle.chl_answers.specs.Commands.{Decides, stage_of, file_stage, solve_stage, query_stage, path_stage, near_stage, trace_stage, traces_stage, for_vias, audit_stage, upgrade_stage, degree_stage, rank_stage, grid_stage, answers_stage, AreAnswers, IsRankingOf}
 use Rattle.chl_answers.specs.Laws.{AreAlike, IsRankingText}
 use Rattle.chl_answers.specs.Statuses.{status_after}
 use Rattle.chl_words.specs.declared.asked.Asked.{Asked}
-use Rattle.chl_words.specs.declared.asked.Asked.TheVariants.{List as ListRows, Build, Solve, Query, Path, Trace, Near, Audit, Upgrade, Degree, Rank, Grid}
-use Rattle.chl_words.specs.declared.asked.Version.{Version}
-use Rattle.chl_words.specs.declared.asked.Version.TheVariants.{One, Two}
+use Rattle.chl_words.specs.declared.asked.Asked.TheVariants.{List as ListRows, Build, Solve, Query, Path, Trace, Near, Audit, Upgrade, Open, Degree, Rank, Grid}
 use Rattle.rank_table.proofs.DegreeRankings.{ranked_by_degree, IsByDegree-unique}
 use Rattle.chl_answers.proofs.EachAnswer.{each_exists, each_unique}
-use Rattle.chl_answers.proofs.FarHubs.{overflow_exists, overflow_once}
+use Rattle.chl_answers.proofs.FittingStages.{either_always, either_once, file_always, file_once, fitting_always, fitting_once, labelling_always, labelling_once}
+use Rattle.chl_answers.proofs.InputValues.{graph_of_stage, index_of_stage, pairs_of_stage, points_of_stage, ranking_of_stage, sources_of_stage}
+use Rattle.chl_answers.proofs.OpenedEdges.{open_always, open_once}
 use Rattle.chl_answers.proofs.PairAnswers.{answers_exist, answers_unique, answers_told}
 use Rattle.chl_answers.proofs.StoredIndexes.{stored_audit_exists, stored_audit_unique, stored_well}
-
-module _ {V F : Type 0} (stop : F → Stop) where
-  judged_value : (r : Result V F) (v : V) → judged stop r ≡ Ok v → r ≡ Ok v
-  judged_value (Ok w) v is = let same : w ≡ v = cc in ap Ok same
-  judged_value (Err fault) v is = absurd cc
-
-module _ {V : Type 0} where
-  past_no_value : (o : Option Stop) (v : V) → past_limit o ≡ Ok v → ⊥
-  past_no_value None v is = cc
-  past_no_value (Some stop) v is = cc
-
-  chosen_value : (b : Bool) (o : Option Stop) (r : Result V Stop) (v : V) → cond b (past_limit o) r ≡ Ok v → r ≡ Ok v
-  chosen_value true o r v is = absurd (past_no_value o v is)
-  chosen_value false o r v is = is
-
-  -- an input that comes to a value is bytes that come to it
-  value_bytes : (input : Input V) (file : Option (List ℕ)) (v : V) → value_of input file ≡ Ok v → (bytes : List ℕ) × (input.comes_to bytes ≡ Ok v)
-  value_bytes input None v is = absurd cc
-  value_bytes input (Some bytes) v is = (bytes, chosen_value (nat_lt input_limit (length bytes)) (input.plain (take input_limit bytes)) (input.comes_to bytes) v is)
-
--- the graph of a text is one, the ranking of a text is one of so many nodes, and so are pairs; an index is sound
-pub graph_of_stage : (name : List ℕ) (files : Files) (g : WeightedGraph) → value_at (graph_input name) files ≡ Ok g → IsGraph g.n g.edges
-graph_of_stage name files g is =
-    let bytes = value_bytes (graph_input name) (finite_map.get files name) g is in
-    (graph_accepted bytes.0 g (judged_value graph_stop _ g bytes.1)).0
-
-pub ranking_of_stage : (n : ℕ) (name : List ℕ) (files : Files) (at : List ℕ) → value_at (order_input n name) files ≡ Ok at → IsRanking at × (length at ≡ n)
-ranking_of_stage n name files at is =
-    let bytes = value_bytes (order_input n name) (finite_map.get files name) at is in
-    orders_rank n bytes.0 at (judged_value order_stop _ at bytes.1)
-
-pub pairs_of_stage : (n : ℕ) (name : List ℕ) (files : Files) (pairs : List (ℕ × ℕ)) → value_at (pairs_input n name) files ≡ Ok pairs → ArePairsWithin n pairs
-pairs_of_stage n name files pairs is =
-    let bytes = value_bytes (pairs_input n name) (finite_map.get files name) pairs is in
-    pairs_accepted n bytes.0 pairs (judged_value pairs_stop _ pairs bytes.1)
-
-index_of_stage : (name : List ℕ) (files : Files) (stored : StoredIndex) → value_at (index_input name) files ≡ Ok stored → IsStored stored
-index_of_stage name files stored is =
-    let bytes = value_bytes (index_input name) (finite_map.get files name) stored is in
-    IsStored-index_of bytes.0 stored (judged_value index_stop _ stored bytes.1)
-
-pub points_of_stage : (n : ℕ) (name : List ℕ) (files : Files) (points : List ℕ) → value_at (points_input n name) files ≡ Ok points → AreWithin n points
-points_of_stage n name files points is =
-    let bytes = value_bytes (points_input n name) (finite_map.get files name) points is in
-    (texts_of_nodes n false bytes.0 points (judged_value points_stop _ points bytes.1)).0
-
-pub sources_of_stage : (n : ℕ) (name : List ℕ) (files : Files) (sources : List ℕ) → value_at (sources_input n name) files ≡ Ok sources → AreWithin n sources
-sources_of_stage n name files sources is =
-    let bytes = value_bytes (sources_input n name) (finite_map.get files name) sources is in
-    (texts_of_nodes n true bytes.0 sources (judged_value sources_stop _ sources bytes.1)).0
-
--- a stage where no hub is too far; else the stop at the first one
-module _ {V : Type 0} (stage : Stage V) (files : Files) where
-  unless_far_always : (far : Option HubOf) → Answerable stage files → Answerable (unless_far far stage) files
-  unless_far_always None has = has
-  unless_far_always (Some far) has = tt
-
-  unless_far_once : (far : Option HubOf) → Determined stage files → Determined (unless_far far stage) files
-  unless_far_once None one = one
-  unless_far_once (Some far) one = tt
-
-  module _ (g : WeightedGraph) (graph : IsGraph g.n g.edges) (at : List ℕ) (rank : IsRanking at × (length at ≡ g.n)) where
-    fitting_always : Answerable stage files → Answerable (for_fitting g at stage) files
-    fitting_always has =
-        let far = overflow_exists g.n g.edges at graph rank.0 rank.1 in
-        (far.0, far.1, unless_far_always far.0 has)
-
-    fitting_once : Determined stage files → Determined (for_fitting g at stage) files
-    fitting_once one = (overflow_once g.n g.edges at graph rank.0 rank.1, λ far tells. unless_far_once far one)
-
--- the rows of a labelling, and what comes of them
-module _ (next : WeightedGraph → List ℕ → List (List Entry) → Stage (List ℕ)) (graph order : List ℕ) (files : Files) where
-  abbrev rows_stage : WeightedGraph → List ℕ → Stage (List ℕ)
-  rows_stage g at = Works (λ rows. IsChl (Joined g.edges) at rows) (λ rows. next g at rows)
-
-  labelling_always : ((g : WeightedGraph) (at : List ℕ) (rows : List (List Entry)) → Answerable (next g at rows) files) → Answerable (labelling_stage next graph order) files
-  labelling_always some = λ g graph_is at order_is.
-      let is_graph = graph_of_stage graph files g graph_is in
-      let rank = ranking_of_stage g.n order files at order_is in
-      let rows = IsChl-exists (Joined g.edges) at rank.0 (IsCanonical-joined_decided g.edges (weights_of_edges g.n g.edges is_graph.edge) at rank.0) in
-      fitting_always (rows_stage g at) files g is_graph at rank (rows.0, rows.1, some g at rows.0)
-
-  labelling_once : ((g : WeightedGraph) (at : List ℕ) (rows : List (List Entry)) → Determined (next g at rows) files) → Determined (labelling_stage next graph order) files
-  labelling_once one = λ g graph_is at order_is.
-      fitting_once (rows_stage g at) files g (graph_of_stage graph files g graph_is) at (ranking_of_stage g.n order files at order_is) (IsChl-unique (Joined g.edges) at, λ rows chl. one g at rows)
-
--- the file of rows, with their vias or without
-module _ (files : Files) (g : WeightedGraph) (at : List ℕ) (rows : List (List Entry)) where
-  file_always : (version : Version) → Answerable (file_stage version g at rows) files
-  file_always One = tt
-  file_always Two = let vias = AreVias-exist g.edges rows in (vias.0, vias.1, tt)
-
-  file_once : (version : Version) → Determined (file_stage version g at rows) files
-  file_once One = tt
-  file_once Two = (AreVias-one (Joined g.edges) rows, λ vias are. tt)
 
 -- the answers of pairs in a graph
 module _ (g : WeightedGraph) (graph : IsGraph g.n g.edges) (at : List ℕ) (ranking : IsRanking at) (size : length at ≡ g.n) where
@@ -208,16 +104,6 @@ module _ (index pairs : List ℕ) (files : Files) where
       let i = without_vias stored in
       lines_once (length i.order) (IsMeet i.order i.rows) asked (pairs_of_stage (length i.order) pairs files asked pairs_is) files
       (λ u v a b first first_within second second_within one other. meet_unique i.order i.rows u v a b one other)
-
--- a stage, or another that comes to a stop
-module _ {V : Type 0} (stage : Stage V) (stop : Stop) (files : Files) where
-  either_always : (b : Bool) → (b ≡ true → Answerable stage files) → Answerable (stage_if b stop stage) files
-  either_always true has = has refl
-  either_always false has = tt
-
-  either_once : (b : Bool) → (b ≡ true → Determined stage files) → Determined (stage_if b stop stage) files
-  either_once true one = one refl
-  either_once false one = tt
 
 module _ (graph index pairs : List ℕ) (files : Files) where
   path_always : Answerable (path_stage graph index pairs) files
@@ -347,8 +233,8 @@ module _ (side seed : ℕ) (files : Files) where
 
 -- a case for each command
 has_answer : (asked : Asked) (files : Files) → Answerable (stage_of asked) files
-has_answer (ListRows graph order) files = labelling_always (λ g at rows. Comes (Ok (lines_from at 1 rows))) graph order files (λ g at rows. tt)
-has_answer (Build graph order out version construction) files = labelling_always (file_stage version) graph order files (λ g at rows. file_always files g at rows version)
+has_answer (ListRows graph order) files = labelling_always (λ g at rows. Comes (Ok (lines_from at 1 rows))) files graph order (λ g at rows. tt)
+has_answer (Build graph order out version construction) files = labelling_always (file_stage version) files graph order (λ g at rows. file_always files g at rows version)
 has_answer (Solve graph order pairs construction) files = solve_always graph order pairs files
 has_answer (Query index pairs) files = query_always index pairs files
 has_answer (Path graph index pairs) files = path_always graph index pairs files
@@ -356,6 +242,7 @@ has_answer (Trace index pairs) files = trace_always index pairs files
 has_answer (Near index points from k) files = near_always index points from k files
 has_answer (Audit graph order index) files = audit_always graph order index files
 has_answer (Upgrade graph index out) files = upgrade_always graph index files
+has_answer (Open graph index edits out version) files = open_always version graph index edits files
 has_answer (Degree graph) files = degree_always graph files
 has_answer (Rank graph) files = rank_always graph files
 has_answer (Grid grid) files = grid_always grid.side grid.seed files
@@ -364,8 +251,8 @@ pub decides_always : (asked : Asked) (files : Files) → (answer : Result (List 
 decides_always asked files = decided_always (stage_of asked) files (has_answer asked files)
 
 pub decides_once : (asked : Asked) (files : Files) (x y : Result (List ℕ) Stop) → Decides asked files x → Decides asked files y → AreAlike asked files x y
-decides_once (ListRows graph order) files = decided_once (stage_of (ListRows graph order)) files (labelling_once (λ g at rows. Comes (Ok (lines_from at 1 rows))) graph order files (λ g at rows. tt))
-decides_once (Build graph order out version construction) files = decided_once (stage_of (Build graph order out version construction)) files (labelling_once (file_stage version) graph order files (λ g at rows. file_once files g at rows version))
+decides_once (ListRows graph order) files = decided_once (stage_of (ListRows graph order)) files (labelling_once (λ g at rows. Comes (Ok (lines_from at 1 rows))) files graph order (λ g at rows. tt))
+decides_once (Build graph order out version construction) files = decided_once (stage_of (Build graph order out version construction)) files (labelling_once (file_stage version) files graph order (λ g at rows. file_once files g at rows version))
 decides_once (Solve graph order pairs construction) files = decided_once (stage_of (Solve graph order pairs construction)) files (solve_once graph order pairs files)
 decides_once (Query index pairs) files = decided_once (stage_of (Query index pairs)) files (query_once index pairs files)
 decides_once (Path graph index pairs) files = decided_once (stage_of (Path graph index pairs)) files (path_once graph index pairs files)
@@ -373,6 +260,7 @@ decides_once (Trace index pairs) files = decided_once (stage_of (Trace index pai
 decides_once (Near index points from k) files = decided_once (stage_of (Near index points from k)) files (near_once index points from k files)
 decides_once (Audit graph order index) files = decided_once (stage_of (Audit graph order index)) files (audit_once graph order index files)
 decides_once (Upgrade graph index out) files = decided_once (stage_of (Upgrade graph index out)) files (upgrade_once graph index files)
+decides_once (Open graph index edits out version) files = decided_once (stage_of (Open graph index edits out version)) files (open_once version graph index edits files)
 decides_once (Degree graph) files = decided_once (stage_of (Degree graph)) files (degree_once graph files)
 decides_once (Rank graph) files = λ x y. ranks_alike graph files x y (value_at (graph_input graph) files) refl
 decides_once (Grid grid) files = decided_once (stage_of (Grid grid)) files (grid_once grid.side grid.seed files)

@@ -17,7 +17,7 @@ use Rattle.chl_answers.specs.Commands.{Decides, stage_of, place_of}
 use Rattle.chl_answers.specs.Outcome.{Ends, Gives, GivesPrefix, GivesPart, Stops, given, HasInputsOf, OpensNoOther, ChangesNoOther}
 use Rattle.chl_answers.specs.Statuses.{status_of, status_after}
 use Rattle.chl_answers.specs.declared.status.Status.{Status}
-use Rattle.chl_answers.specs.declared.status.Status.TheVariants.{Done, Differs, Usage, GraphText, OrderText, PairsText, IndexBytes, Overflow, ReadFault, WriteFault, NoMemory, NotOfGraph, TooLong, NoVias, Broken, PointsText, FromText}
+use Rattle.chl_answers.specs.declared.status.Status.TheVariants.{Done, Differs, Usage, GraphText, OrderText, PairsText, IndexBytes, Overflow, ReadFault, WriteFault, NoMemory, NotOfGraph, TooLong, NoVias, Broken, EditsText, PointsText, FromText}
 use Rattle.chl_words.specs.declared.asked.Asked.{Asked}
 use Rattle.chl_answers.proofs.Decisions.{decides_one_status}
 
@@ -38,6 +38,7 @@ stop_in (NotOfGraph fault) = Some (stops.NotOfGraph fault)
 stop_in TooLong = Some stops.TooLong
 stop_in NoVias = Some stops.NoVias
 stop_in (Broken at hub) = Some (stops.Broken at hub)
+stop_in (EditsText fault) = Some (stops.Edits fault)
 stop_in (PointsText fault) = Some (stops.Points fault)
 stop_in (FromText fault) = Some (stops.From fault)
 
@@ -48,6 +49,7 @@ stop_told (stops.Order fault) = refl
 stop_told (stops.Pairs fault) = refl
 stop_told (stops.Points fault) = refl
 stop_told (stops.From fault) = refl
+stop_told (stops.Edits fault) = refl
 stop_told (stops.Index fault) = refl
 stop_told (stops.Differs audit) = refl
 stop_told (stops.NotOfGraph fault) = refl

@@ -28,6 +28,7 @@ use Rattle.via_trace.specs.Traces.{IsTraceOf}
 use Rattle.via_trace.specs.declared.trace_answer.Trace.{Trace as AnyTrace}
 use Rattle.via_trace.specs.declared.trace_answer.Trace.TheVariants as traces
 use Rattle.walk_laws.specs.declared.entry.Entry.{Entry}
+use Rattle.walk_laws.specs.declared.graph.Edge.{Edge}
 use Rattle.walk_laws.specs.Answer.{IsAnswer}
 use Rattle.walk_laws.specs.Graph.{WeightedGraph}
 use Rattle.walk_laws.specs.Joined.{Joined}
@@ -35,7 +36,7 @@ use Rattle.walk_laws.specs.Labelling.{IsChl}
 use Rattle.walk_laws.specs.Meet.{IsMeet}
 use Rattle.walk_laws.specs.Overflow.{IsFirstTooFar, Overflows}
 use Rattle.walk_laws.specs.Ranking.{IsRanking}
-use Rattle.chl_inputs.specs.Inputs.{graph_input, order_input, pairs_input, points_input, sources_input, index_input}
+use Rattle.chl_inputs.specs.Inputs.{graph_input, order_input, pairs_input, points_input, sources_input, index_input, edits_input}
 use Rattle.chl_inputs.specs.Stages.{Stage, Comes, Works, Reads, Decided}
 use Rattle.chl_inputs.specs.declared.stop.Stop.{Stop}
 use Rattle.chl_inputs.specs.declared.stop.Stop.TheVariants.{Differs, NotOfGraph, NoVias, Broken, Overflow}
@@ -49,7 +50,7 @@ use Rattle.chl_lines.specs.PrintedWalks.{walk_lines, trace_lines}
 use Rattle.chl_lines.specs.declared.grid.GridReport.{GridReport}
 use Rattle.rank_table.specs.ByDegree.{IsByDegree}
 use Rattle.chl_words.specs.declared.asked.Asked.{Asked}
-use Rattle.chl_words.specs.declared.asked.Asked.TheVariants.{List as ListRows, Build, Solve, Query, Path, Trace, Near, Audit, Upgrade, Degree, Rank, Grid}
+use Rattle.chl_words.specs.declared.asked.Asked.TheVariants.{List as ListRows, Build, Solve, Query, Path, Trace, Near, Audit, Upgrade, Open, Degree, Rank, Grid}
 use Rattle.chl_words.specs.declared.asked.Version.{Version}
 use Rattle.chl_words.specs.declared.asked.Version.TheVariants.{One, Two}
 
@@ -72,14 +73,16 @@ unless_far (Some far) stage = Comes (Err (Overflow far.v far.hub))
 abbrev pub for_fitting : {V : Type 0} → WeightedGraph → List ℕ → Stage V → Stage V
 for_fitting g at stage = Works (λ far. TellsOverflow (Joined g.edges) at far) (λ far. unless_far far stage)
 
--- a graph, a ranking of its nodes, the rows of its canonical hub labelling, which fit an index, and what comes of them
+-- the rows of the canonical hub labelling of a graph under a ranking, which fit an index, and what comes of them
+abbrev pub rows_stage : (WeightedGraph → List ℕ → List (List Entry) → Stage (List ℕ)) → WeightedGraph → List ℕ → Stage (List ℕ)
+rows_stage next g at = for_fitting g at (Works (λ rows. IsChl (Joined g.edges) at rows) (λ rows. next g at rows))
+
+-- a graph, a ranking of its nodes, and what comes of the rows
 abbrev pub labelling_stage : (WeightedGraph → List ℕ → List (List Entry) → Stage (List ℕ)) → List ℕ → List ℕ → Stage (List ℕ)
 labelling_stage next graph order =
     Reads (graph_input graph) (λ g.
     Reads (order_input g.n order) (λ at.
-    for_fitting g at (
-    Works (λ rows. IsChl (Joined g.edges) at rows) (λ rows.
-    next g at rows))))
+    rows_stage next g at))
 
 -- `list`: the lines of the rows
 abbrev pub list_stage : List ℕ → List ℕ → Stage (List ℕ)
@@ -247,6 +250,34 @@ upgrade_stage graph index =
     Reads (index_input index) (λ stored.
     upgrades_stage g (without_vias stored)))
 
+-- a stage for an index that is the labelling of a graph under its own ranking; else the stop at what is wrong with it first
+abbrev pub unless_wrong : {V : Type 0} → AnyAudit → Stage V → Stage V
+unless_wrong Same stage = stage
+unless_wrong fault stage = Comes (Err (Differs fault))
+
+abbrev pub for_audited : {V : Type 0} → WeightedGraph → HubIndex → Stage V → Stage V
+for_audited g i stage = Works (λ found. IsAuditOf g i.order i found) (λ found. unless_wrong found stage)
+
+-- the graph with these edges appended to its list
+abbrev pub longer : WeightedGraph → List Edge → WeightedGraph
+longer g edges = record { n = g.n; edges = g.edges ++ edges }
+
+-- an index of as many nodes as a graph, which is the graph's, and the bytes of the index file of the longer graph under the same
+-- ranking
+abbrev pub opened_stage : Version → WeightedGraph → HubIndex → List Edge → Stage (List ℕ)
+opened_stage version g i edges = for_sizes g.n (length i.order) (for_audited g i (rows_stage (file_stage version) (longer g edges) i.order))
+
+-- edges between the nodes of a graph, and what comes of them and of an index
+abbrev pub edits_stage : Version → WeightedGraph → HubIndex → List ℕ → Stage (List ℕ)
+edits_stage version g i edits = Reads (edits_input g.n edits) (λ edges. opened_stage version g i edges)
+
+-- `open`: a graph, an index of it, whose vias, if it has any, play no part, and edges between the graph's nodes
+abbrev pub open_stage : Version → List ℕ → List ℕ → List ℕ → Stage (List ℕ)
+open_stage version graph index edits =
+    Reads (graph_input graph) (λ g.
+    Reads (index_input index) (λ stored.
+    edits_stage version g (without_vias stored) edits))
+
 -- `degree`: a graph, and the order text of its nodes by falling degree
 abbrev pub degree_stage : List ℕ → Stage (List ℕ)
 degree_stage graph = Reads (graph_input graph) (λ g. Works (λ at. IsByDegree g at) (λ at. Comes (Ok (order_lines at))))
@@ -299,6 +330,7 @@ command_of (Trace index pairs) = record { stage = trace_stage index pairs; place
 command_of (Near index points from k) = record { stage = near_stage index points from k; place = None }
 command_of (Audit graph order index) = record { stage = audit_stage graph order index; place = None }
 command_of (Upgrade graph index out) = record { stage = upgrade_stage graph index; place = Some out }
+command_of (Open graph index edits out version) = record { stage = open_stage version graph index edits; place = Some out }
 command_of (Degree graph) = record { stage = degree_stage graph; place = None }
 command_of (Rank graph) = record { stage = rank_stage graph; place = None }
 command_of (Grid grid) = record { stage = grid_stage grid.side grid.seed; place = None }

@@ -4,7 +4,7 @@ use Rattle.desk_io.specs.Counts.{Rises}
 use Rattle.index_file.specs.declared.fault.IndexFault.TheVariants as index_faults
 use Rattle.order_text.specs.declared.order_fault.OrderFault.TheVariants as order_faults
 use Rattle.chl_answers.specs.declared.status.Status.{Status}
-use Rattle.chl_answers.specs.declared.status.Status.TheVariants.{Done, Differs, Usage, GraphText, OrderText, PairsText, IndexBytes, Overflow, ReadFault, WriteFault, NoMemory, NotOfGraph, TooLong, NoVias, Broken, PointsText, FromText}
+use Rattle.chl_answers.specs.declared.status.Status.TheVariants.{Done, Differs, Usage, GraphText, OrderText, PairsText, IndexBytes, Overflow, ReadFault, WriteFault, NoMemory, NotOfGraph, TooLong, NoVias, Broken, EditsText, PointsText, FromText}
 use Rattle.chl_inputs.specs.declared.stop.Stop.{Stop}
 use Rattle.chl_inputs.specs.declared.stop.Stop.TheVariants as stops
 
@@ -25,6 +25,7 @@ number_of (NotOfGraph fault) = 11
 number_of TooLong = 12
 number_of NoVias = 13
 number_of (Broken at hub) = 14
+number_of (EditsText fault) = 15
 number_of (PointsText fault) = 16
 number_of (FromText fault) = 17
 
@@ -36,6 +37,7 @@ status_of (stops.Order fault) = OrderText fault
 status_of (stops.Pairs fault) = PairsText fault
 status_of (stops.Points fault) = PointsText fault
 status_of (stops.From fault) = FromText fault
+status_of (stops.Edits fault) = EditsText fault
 status_of (stops.Index fault) = IndexBytes fault
 status_of (stops.Differs audit) = Differs audit
 status_of (stops.NotOfGraph fault) = NotOfGraph fault

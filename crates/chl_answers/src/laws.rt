@@ -1,6 +1,6 @@
 //! The laws of what the files decide. Each function does nothing: its contract is the law, over every command and every
 //! table of files.
-ghost use Rattle.chl_answers.specs.Laws.{TheFilesDecide, TheFilesDecideOnce, TheFilesDecideOneStatus, AQueryOfABuiltFileSolves, AnAuditOfABuiltFileIsTheSame, AnUpgradeOfABuiltFileIsVersionTwo, ATraceOfABuiltFileTellsWalks};
+ghost use Rattle.chl_answers.specs.Laws.{TheFilesDecide, TheFilesDecideOnce, TheFilesDecideOneStatus, AQueryOfABuiltFileSolves, AnAuditOfABuiltFileIsTheSame, AnUpgradeOfABuiltFileIsVersionTwo, ATraceOfABuiltFileTellsWalks, AnOpeningIsABuild, AnOpeningOfABuiltFileIsABuild};
 
 /// Every command over every table of files has an answer.
 pub fn the_files_decide()
@@ -36,4 +36,15 @@ pub fn an_upgrade_of_a_built_file_is_version_two()
 /// highest-ranked node on any, or that there is none.
 pub fn a_trace_of_a_built_file_tells_walks()
     ensures { ATraceOfABuiltFileTellsWalks }
+{}
+
+/// `open` writes what `build` writes of the longer graph, and of the ranking of the index, in the asked version.
+pub fn an_opening_is_a_build()
+    ensures { AnOpeningIsABuild }
+{}
+
+/// Of an index file that was built of the same texts, of either version, `open` comes to whatever `build` comes to of the longer
+/// graph: the same bytes, or the same first hub that is too far.
+pub fn an_opening_of_a_built_file_is_a_build()
+    ensures { AnOpeningOfABuiltFileIsABuild }
 {}

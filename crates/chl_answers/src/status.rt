@@ -16,8 +16,8 @@ pub enum Status {
     /// The output was written.
     #[error("chl: done")]
     Done,
-    /// The index is not that of the graph under the order, or its vias are wrong, or an index that is to be upgraded isn't the
-    /// graph's. This is the first thing that is wrong with it.
+    /// The index is not that of the graph under the order, or its vias are wrong, or an index that is to be upgraded, or to which
+    /// edges are to be opened, isn't the graph's. This is the first thing that is wrong with it.
     #[error("chl: index differs: {0}")]
     Differs(Audit),
     /// The words are no command.
@@ -60,6 +60,9 @@ pub enum Status {
     /// The vias of the index lead nowhere: from the node `at` no step leads nearer to the node `hub`.
     #[error("chl: trace broken: hub {hub} at {at}")]
     Broken { at: u32, hub: u32 },
+    /// The text of the edges that are opened has this first fault.
+    #[error("chl: edits {0}")]
+    EditsText(TextFault),
     /// The text of the points has this first fault.
     #[error("chl: points{0}")]
     PointsText(OrderFault),
@@ -89,6 +92,7 @@ impl Status {
             Status::TooLong => 12,
             Status::NoVias => 13,
             Status::Broken { .. } => 14,
+            Status::EditsText(_) => 15,
             Status::PointsText(_) => 16,
             Status::FromText(_) => 17,
         }
@@ -108,6 +112,7 @@ pub fn stopped(stop: Stop) -> Status
         Stop::Pairs(fault) => Status::PairsText(fault),
         Stop::Points(fault) => Status::PointsText(fault),
         Stop::From(fault) => Status::FromText(fault),
+        Stop::Edits(fault) => Status::EditsText(fault),
         Stop::Index(fault) => Status::IndexBytes(fault),
         Stop::Differs(audit) => Status::Differs(audit),
         Stop::NotOfGraph(not_of) => Status::NotOfGraph(not_of),

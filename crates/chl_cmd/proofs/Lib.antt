@@ -1,3 +1,1 @@
-pub mod Built
 pub mod Grids
-pub mod FileAnswers

@@ -11,8 +11,8 @@ mod solve;
 use build::build_output;
 use chl_inputs::Stop;
 use chl_outputs::{
-    audit_output, degree_output, near_output, path_output, query_output, rank_output, text_output,
-    trace_output, upgrade_output,
+    audit_output, degree_output, near_output, open_output, path_output, query_output, rank_output,
+    text_output, trace_output, upgrade_output,
 };
 use chl_words::Asked;
 use desk_io::{Desk, Gate};
@@ -69,6 +69,13 @@ pub fn output<R: Threads + Wait + Sync, D: Desk, G: Gate + Sync>(
             index,
         } => audit_output(rt, alloc, graph, order, index, desk),
         Asked::Upgrade { graph, index, .. } => upgrade_output(rt, alloc, graph, index, desk),
+        Asked::Open {
+            graph,
+            index,
+            edits,
+            version,
+            ..
+        } => open_output(rt, alloc, graph, index, edits, *version, desk),
         Asked::Degree { graph } => degree_output(alloc, graph, desk),
         Asked::Rank { graph } => rank_output(rt, alloc, graph, desk),
         Asked::Grid(grid) => text_output(alloc, grid_text(rt, alloc, *grid, gate)),

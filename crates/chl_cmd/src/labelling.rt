@@ -3,10 +3,11 @@ ghost use Rattle.hub_index.specs.Faults.{TellsFault};
 ghost use Rattle.walk_laws.specs.Joined.{Joined};
 ghost use Rattle.walk_laws.specs.Labelling.{IsChl};
 ghost use Rattle.walk_laws.specs.Overflow.{Overflows};
-ghost use Rattle.chl_cmd.specs.Stops.{build_stop};
+ghost use Rattle.chl_outputs.specs.Stops.{build_stop};
 ghost use Rattle.chl_words.specs.Asking.{AreWithinLimits};
 
 use chl_inputs::Stop;
+use chl_outputs::stop_at;
 use chl_words::{By, Construction};
 use desk_io::Gate;
 use gll_build::build_gll;
@@ -70,11 +71,8 @@ pub fn labelling<R: Threads + Wait + Sync, G: Gate + Sync>(
 }
 
 /// How a command stops at a fault of a build.
-pub fn stop_at(fault: BuildFault) -> Stop
+pub fn unbuilt(fault: BuildFault) -> Stop
     ensures { result ≡ build_stop fault }
 {
-    match fault {
-        BuildFault::Overflow { v, hub } => Stop::Overflow { v, hub },
-        BuildFault::NoMemory => Stop::NoMemory,
-    }
+    stop_at(fault)
 }

@@ -4,14 +4,16 @@ use Rattle.std.specs.Option.{option_map}
 use Rattle.std.specs.FinMap as finite_map
 use Rattle.desk_io.specs.Contents.{Files}
 use Rattle.desk_io.specs.Reading.{input_limit}
+use Rattle.dimacs_text.specs.EditsText.{edits_of_text, edits_fault_within}
 use Rattle.dimacs_text.specs.GraphText.{graph_of_text, graph_fault_within}
 use Rattle.dimacs_text.specs.PairsText.{pairs_of_text, pairs_fault_within}
 use Rattle.index_file.specs.Judging.{index_of, fault_within}
 use Rattle.index_file.specs.declared.stored_index.StoredIndex.{StoredIndex}
 use Rattle.order_text.specs.NodesText.{nodes_of_text, nodes_fault_within}
 use Rattle.order_text.specs.OrderText.{order_of_text, order_fault_within}
+use Rattle.walk_laws.specs.declared.graph.Edge.{Edge}
 use Rattle.walk_laws.specs.Graph.{WeightedGraph}
-use Rattle.chl_inputs.specs.Stops.{graph_stop, order_stop, pairs_stop, points_stop, sources_stop, index_stop}
+use Rattle.chl_inputs.specs.Stops.{graph_stop, order_stop, pairs_stop, edits_stop, points_stop, sources_stop, index_stop}
 use Rattle.chl_inputs.specs.declared.stop.Stop.{Stop}
 use Rattle.chl_inputs.specs.declared.stop.Stop.TheVariants.{TooLong, ReadFailed}
 
@@ -60,6 +62,10 @@ order_input n name = input_from (order_fault_within n) (order_of_text n) order_s
 -- a pairs text, of pairs of the nodes 1..n
 abbrev pub pairs_input : ℕ → List ℕ → Input (List (ℕ × ℕ))
 pairs_input n name = input_from (pairs_fault_within n) (pairs_of_text n) pairs_stop name
+
+-- an edits text, of edges between the nodes 1..n
+abbrev pub edits_input : ℕ → List ℕ → Input (List Edge)
+edits_input n name = input_from (edits_fault_within n) (edits_of_text n) edits_stop name
 
 -- the text of points, which are nodes of 1..n and may not repeat
 abbrev pub points_input : ℕ → List ℕ → Input (List ℕ)

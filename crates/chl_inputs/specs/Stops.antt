@@ -13,7 +13,7 @@ use Rattle.index_file.specs.declared.fault.IndexFault.TheVariants as index_fault
 use Rattle.order_text.specs.declared.order_fault.OrderFault.{OrderFault}
 use Rattle.order_text.specs.declared.order_fault.OrderFault.TheVariants as order_faults
 use Rattle.chl_inputs.specs.declared.stop.Stop.{Stop}
-use Rattle.chl_inputs.specs.declared.stop.Stop.TheVariants.{Graph, Order, Pairs, Points, From, Index, TooLong, ReadFailed, NoMemory}
+use Rattle.chl_inputs.specs.declared.stop.Stop.TheVariants.{Graph, Order, Pairs, Edits, Points, From, Index, TooLong, ReadFailed, NoMemory}
 
 -- at a fault of a graph
 abbrev pub graph_stop : GrFault → Stop
@@ -29,6 +29,11 @@ order_stop fault = Order fault
 abbrev pub pairs_stop : PairsFault → Stop
 pairs_stop (pairs_faults.Text fault) = Pairs fault
 pairs_stop pairs_faults.NoMemory = NoMemory
+
+-- of edits
+abbrev pub edits_stop : PairsFault → Stop
+edits_stop (pairs_faults.Text fault) = Edits fault
+edits_stop pairs_faults.NoMemory = NoMemory
 
 -- of points
 abbrev pub points_stop : OrderFault → Stop
@@ -82,6 +87,10 @@ pub pairs_memory_once : (fault : PairsFault) → HasMemoryOnce (pairs_stop fault
 pairs_memory_once (pairs_faults.Text fault) = tt
 pairs_memory_once pairs_faults.NoMemory = tt
 
+pub edits_memory_once : (fault : PairsFault) → HasMemoryOnce (edits_stop fault)
+edits_memory_once (pairs_faults.Text fault) = tt
+edits_memory_once pairs_faults.NoMemory = tt
+
 pub points_memory_once : (fault : OrderFault) → HasMemoryOnce (points_stop fault)
 points_memory_once order_faults.NoMemory = tt
 points_memory_once fault = λ same. cc
@@ -106,6 +115,10 @@ order_no_call fault = λ same. cc
 pub pairs_no_call : (fault : PairsFault) → pairs_stop fault ≢ ReadFailed
 pairs_no_call (pairs_faults.Text fault) = λ same. cc
 pairs_no_call pairs_faults.NoMemory = λ same. cc
+
+pub edits_no_call : (fault : PairsFault) → edits_stop fault ≢ ReadFailed
+edits_no_call (pairs_faults.Text fault) = λ same. cc
+edits_no_call pairs_faults.NoMemory = λ same. cc
 
 pub points_no_call : (fault : OrderFault) → points_stop fault ≢ ReadFailed
 points_no_call order_faults.NoMemory = λ same. cc

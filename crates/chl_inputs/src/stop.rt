@@ -28,6 +28,8 @@ pub enum Stop {
     Order(OrderFault),
     /// The pairs text has this first fault.
     Pairs(TextFault),
+    /// The edits text has this first fault.
+    Edits(TextFault),
     /// The text of the points has this first fault.
     Points(OrderFault),
     /// The text of the sources has this first fault.
@@ -37,8 +39,8 @@ pub enum Stop {
     /// A hub of the graph under the order is farther than an index can tell: the node `hub` is 2^64 or more from the node `v`,
     /// the first such pair by rising `v` and then by falling rank of the hub.
     Overflow { v: u32, hub: u32 },
-    /// The index is not that of the graph under the order, or its vias are wrong, or an index that is to be upgraded isn't the
-    /// graph's. This is the first thing that is wrong with it.
+    /// The index is not that of the graph under the order, or its vias are wrong, or an index that is to be upgraded, or to which
+    /// edges are to be opened, isn't the graph's. This is the first thing that is wrong with it.
     Differs(Audit),
     /// The index, which is to be of the graph, is of another one.
     NotOfGraph(NotOf),

@@ -1,37 +1,39 @@
 ghost use Rattle.std.specs.Prelude.{◌≡◌};
 ghost use Rattle.chl_inputs.specs.Stops.{end_stop, opening_stop};
 
-use crate::nodes_texts::{PointsReader, SourcesReader};
 use crate::stop::Stop;
 use desk_io::{DeskFault, ReadEnd, Reader};
-use dimacs_text::{GrFault, GrReader, PairsFault, PairsReader};
+use dimacs_text::{EditsReader, GrFault, GrReader, PairsFault, PairsReader};
 use index_file::{IndexFault, IndexReader};
-use order_text::{OrderFault, OrderReader};
+use order_text::{NodesReader, OrderFault, OrderReader};
 
-/// A reader of an input, at whose faults a command stops.
-pub trait StopsAt: Reader {
+/// A kind of input, which such a reader reads, and at whose faults a command stops.
+pub trait StopsAt<R: Reader> {
     ghost use Rattle.std.specs.Prelude.{◌≡◌, ◌≢◌};
     ghost use Rattle.chl_inputs.specs.Stops.{HasMemoryOnce};
     ghost use Rattle.chl_inputs.specs.declared.stop.Stop.{Stop as AnyStop};
     ghost use Rattle.chl_inputs.specs.declared.stop.Stop.TheVariants.{ReadFailed, NoMemory};
 
     /// How the command stops at a fault.
-    ghost stop_of: { Self.Fault → AnyStop };
+    ghost stop_of: { R.Fault → AnyStop };
 
     /// How the command stops at a fault.
-    fn stop(fault: Self::Fault) -> Stop
+    fn stop(fault: R::Fault) -> Stop
         ensures { result ≡ stop_of fault };
 
     /// Want of memory is no fault of the input.
-    ghost want: { stop_of Self.no_memory ≡ NoMemory };
+    ghost want: { stop_of R.no_memory ≡ NoMemory };
 
-    ghost memory_once: { (fault : Self.Fault) → HasMemoryOnce (stop_of fault) };
+    ghost memory_once: { (fault : R.Fault) → HasMemoryOnce (stop_of fault) };
 
     /// And a fault is no failed call.
-    ghost no_call: { (fault : Self.Fault) → stop_of fault ≢ ReadFailed };
+    ghost no_call: { (fault : R.Fault) → stop_of fault ≢ ReadFailed };
 }
 
-impl StopsAt for GrReader {
+/// A graph text.
+pub struct GraphText;
+
+impl StopsAt<GrReader> for GraphText {
     ghost use Rattle.std.specs.Prelude.{refl};
     ghost use Rattle.chl_inputs.specs.Stops.{graph_stop, graph_memory_once, graph_no_call};
 
@@ -51,7 +53,10 @@ impl StopsAt for GrReader {
     ghost no_call = { graph_no_call };
 }
 
-impl StopsAt for OrderReader {
+/// An order text.
+pub struct OrderText;
+
+impl StopsAt<OrderReader> for OrderText {
     ghost use Rattle.std.specs.Prelude.{refl};
     ghost use Rattle.chl_inputs.specs.Stops.{order_stop, order_memory_once, order_no_call};
 
@@ -71,7 +76,10 @@ impl StopsAt for OrderReader {
     ghost no_call = { order_no_call };
 }
 
-impl StopsAt for PairsReader {
+/// A pairs text.
+pub struct PairsText;
+
+impl StopsAt<PairsReader> for PairsText {
     ghost use Rattle.std.specs.Prelude.{refl};
     ghost use Rattle.chl_inputs.specs.Stops.{pairs_stop, pairs_memory_once, pairs_no_call};
 
@@ -91,7 +99,33 @@ impl StopsAt for PairsReader {
     ghost no_call = { pairs_no_call };
 }
 
-impl StopsAt for PointsReader {
+/// An edits text.
+pub struct EditsText;
+
+impl StopsAt<EditsReader> for EditsText {
+    ghost use Rattle.std.specs.Prelude.{refl};
+    ghost use Rattle.chl_inputs.specs.Stops.{edits_stop, edits_memory_once, edits_no_call};
+
+    ghost stop_of = { edits_stop };
+
+    fn stop(fault: PairsFault) -> Stop {
+        match fault {
+            PairsFault::Text(fault) => Stop::Edits(fault),
+            PairsFault::NoMemory => Stop::NoMemory,
+        }
+    }
+
+    ghost want = { refl };
+
+    ghost memory_once = { edits_memory_once };
+
+    ghost no_call = { edits_no_call };
+}
+
+/// The text of the points.
+pub struct PointsText;
+
+impl StopsAt<NodesReader> for PointsText {
     ghost use Rattle.std.specs.Prelude.{refl};
     ghost use Rattle.chl_inputs.specs.Stops.{points_stop, points_memory_once, points_no_call};
 
@@ -111,7 +145,10 @@ impl StopsAt for PointsReader {
     ghost no_call = { points_no_call };
 }
 
-impl StopsAt for SourcesReader {
+/// The text of the sources.
+pub struct SourcesText;
+
+impl StopsAt<NodesReader> for SourcesText {
     ghost use Rattle.std.specs.Prelude.{refl};
     ghost use Rattle.chl_inputs.specs.Stops.{sources_stop, sources_memory_once, sources_no_call};
 
@@ -131,7 +168,10 @@ impl StopsAt for SourcesReader {
     ghost no_call = { sources_no_call };
 }
 
-impl StopsAt for IndexReader {
+/// An index file.
+pub struct IndexBytes;
+
+impl StopsAt<IndexReader> for IndexBytes {
     ghost use Rattle.std.specs.Prelude.{refl};
     ghost use Rattle.chl_inputs.specs.Stops.{index_stop, index_memory_once, index_no_call};
 
@@ -152,14 +192,14 @@ impl StopsAt for IndexReader {
 }
 
 /// How a command stops at the end of a reading.
-pub fn stop_at_end<R: StopsAt>(end: ReadEnd<R::Fault>) -> Stop
-    ensures { result ≡ end_stop R.stop_of end }
+pub fn stop_at_end<R: Reader, K: StopsAt<R>>(end: ReadEnd<R::Fault>) -> Stop
+    ensures { result ≡ end_stop K.stop_of end }
 {
     match end {
         ReadEnd::Failed => Stop::ReadFailed,
         ReadEnd::TooLong => Stop::TooLong,
         ReadEnd::NoMemory => Stop::NoMemory,
-        ReadEnd::Refused(fault) => R::stop(fault),
+        ReadEnd::Refused(fault) => K::stop(fault),
     }
 }
 

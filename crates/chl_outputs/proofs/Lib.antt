@@ -5,3 +5,6 @@ pub mod UpgradeAnswers
 pub mod TextAnswers
 pub mod StoppingAnswers
 pub mod ForSizes
+pub mod Built
+pub mod FileAnswers
+pub mod OpenAnswers

@@ -3,6 +3,7 @@
 mod audit;
 mod degree;
 mod near;
+mod open;
 mod path;
 mod query;
 mod rank;
@@ -13,6 +14,7 @@ mod upgrade;
 pub use audit::audit_output;
 pub use degree::degree_output;
 pub use near::near_output;
+pub use open::open_output;
 pub use path::path_output;
 pub use query::{query_output, replies_text};
 pub use rank::rank_output;

@@ -26,7 +26,8 @@ pub fn out_file(asked: &Asked) -> Option<&Name>
         | Asked::Degree { .. }
         | Asked::Rank { .. }
         | Asked::Grid(_) => None,
-        Asked::Build { out, .. } | Asked::Upgrade { out, .. } => Some(out),
+        Asked::Build { out, .. } => Some(out),
+        Asked::Upgrade { out, .. } | Asked::Open { out, .. } => Some(out),
     }
 }
 

@@ -5,10 +5,10 @@ use Rattle.std.specs.Option.{option_zip}
 use Rattle.std.specs.Str.{bytes_eq}
 use Rattle.std.proofs.lemmas.Bool.{leb-true}
 use Rattle.clap.specs.Words.{Kinds, Row, Text, fault_of, subcommand_of}
-use Rattle.chl_words.specs.Asking.{◌&◌, AreWithinLimits, IsWithinLimits, Values, any_number_of, asked_by, asked_in, asked_of, audit_of, build_of, construction_of, degree_of, greatest_seed, grid_of, list_of, longest_side, most_planted, most_points, most_roots, most_workers, near_of, number_in, path_of, query_of, rank_of, solve_of, trace_of, unless_refused, upgrade_of, values_in, within}
+use Rattle.chl_words.specs.Asking.{◌&◌, AreWithinLimits, IsWithinLimits, Values, any_number_of, asked_by, asked_in, asked_of, audit_of, build_of, construction_of, degree_of, greatest_seed, grid_of, list_of, longest_side, most_planted, most_points, most_roots, most_workers, near_of, number_in, opening_of, path_of, query_of, rank_of, solve_of, trace_of, unless_refused, upgrade_of, values_in, within}
 use Rattle.chl_words.specs.Literal.{program}
 use Rattle.chl_words.specs.declared.asked.Asked.{Asked}
-use Rattle.chl_words.specs.declared.asked.Asked.TheVariants.{List as ListRows, Build, Solve, Query, Path, Trace, Near, Audit, Upgrade, Degree, Rank, Grid}
+use Rattle.chl_words.specs.declared.asked.Asked.TheVariants.{List as ListRows, Build, Solve, Query, Path, Trace, Near, Audit, Upgrade, Open, Degree, Rank, Grid}
 use Rattle.chl_words.specs.declared.asked.Construction.{Construction}
 use Rattle.chl_words.specs.declared.asked.Version.{Version}
 
@@ -94,9 +94,10 @@ all name value =
     (or_else name (codes "near") (near_of value, near_within value)
     (or_else name (codes "audit") (audit_of value, free (λ (p : Three). Audit p.0.0 p.0.1 p.1) _ (λ _. tt))
     (or_else name (codes "upgrade") (upgrade_of value, free (λ (p : Three). Upgrade p.0.0 p.0.1 p.1) _ (λ _. tt))
+    (or_else name (codes "open") (opening_of value, free (λ (p : (Three × Text) × Version). Open p.0.0.0.0 p.0.0.0.1 p.0.0.1 p.0.1 p.1) _ (λ _. tt))
     (or_else name (codes "degree") (degree_of value, free Degree _ (λ _. tt))
     (or_else name (codes "rank") (rank_of value, free Rank _ (λ _. tt))
-    (or_else name (codes "grid") (grid_of value, grid_within value) (None, tt))))))))))))
+    (or_else name (codes "grid") (grid_of value, grid_within value) (None, tt)))))))))))))
 
 asked_within : (name : Text) (value : Values) → IfSome (asked_of name value) IsWithinLimits
 asked_within name value = (all name value).1

@@ -131,6 +131,10 @@ upgrade_is : IsJudged literal.upgrade
 unfolding clap_on_literals
 upgrade_is = record { enters = record { walks = refl; turns = refl; found = refl }; distinct = (refl, (refl, (refl, tt))); pass = (refl, (refl, (refl, tt))) }
 
+opening_is : IsJudged literal.opening
+unfolding clap_on_literals
+opening_is = record { enters = record { walks = refl; turns = refl; found = refl }; distinct = (refl, (refl, (refl, (refl, (refl, tt))))); pass = (refl, (refl, (refl, (refl, (refl, tt))))) }
+
 degree_is : IsJudged literal.degree
 unfolding clap_on_literals
 degree_is = record { enters = record { walks = refl; turns = refl; found = refl }; distinct = (refl, tt); pass = (refl, tt) }
@@ -153,7 +157,8 @@ is_judged s (suc (suc (suc (suc (suc zero)))), lt, is) = subst IsJudged is trace
 is_judged s (suc (suc (suc (suc (suc (suc zero))))), lt, is) = subst IsJudged is near_is
 is_judged s (suc (suc (suc (suc (suc (suc (suc zero)))))), lt, is) = subst IsJudged is audit_is
 is_judged s (suc (suc (suc (suc (suc (suc (suc (suc zero))))))), lt, is) = subst IsJudged is upgrade_is
-is_judged s (suc (suc (suc (suc (suc (suc (suc (suc (suc zero)))))))), lt, is) = subst IsJudged is degree_is
-is_judged s (suc (suc (suc (suc (suc (suc (suc (suc (suc (suc zero))))))))), lt, is) = subst IsJudged is rank_is
-is_judged s (suc (suc (suc (suc (suc (suc (suc (suc (suc (suc (suc zero)))))))))), lt, is) = subst IsJudged is grid_is
-is_judged s (suc (suc (suc (suc (suc (suc (suc (suc (suc (suc (suc (suc k))))))))))), lt, is) = absurd (omega arith)
+is_judged s (suc (suc (suc (suc (suc (suc (suc (suc (suc zero)))))))), lt, is) = subst IsJudged is opening_is
+is_judged s (suc (suc (suc (suc (suc (suc (suc (suc (suc (suc zero))))))))), lt, is) = subst IsJudged is degree_is
+is_judged s (suc (suc (suc (suc (suc (suc (suc (suc (suc (suc (suc zero)))))))))), lt, is) = subst IsJudged is rank_is
+is_judged s (suc (suc (suc (suc (suc (suc (suc (suc (suc (suc (suc (suc zero))))))))))), lt, is) = subst IsJudged is grid_is
+is_judged s (suc (suc (suc (suc (suc (suc (suc (suc (suc (suc (suc (suc (suc k)))))))))))), lt, is) = absurd (omega arith)

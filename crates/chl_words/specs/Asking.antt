@@ -10,7 +10,7 @@ use Rattle.chl_words.specs.declared.asked.By.{By}
 use Rattle.chl_words.specs.declared.asked.Construction.{Construction}
 use Rattle.chl_words.specs.declared.asked.By.TheVariants.{Plant, Lcc, Gll, Hybrid}
 use Rattle.chl_words.specs.declared.asked.Asked.{Asked}
-use Rattle.chl_words.specs.declared.asked.Asked.TheVariants.{List as ListRows, Build, Solve, Query, Path, Trace, Near, Audit, Upgrade, Degree, Rank, Grid}
+use Rattle.chl_words.specs.declared.asked.Asked.TheVariants.{List as ListRows, Build, Solve, Query, Path, Trace, Near, Audit, Upgrade, Open, Degree, Rank, Grid}
 use Rattle.chl_words.specs.declared.asked.Version.{Version}
 use Rattle.chl_words.specs.declared.asked.Version.TheVariants.{One, Two}
 
@@ -119,6 +119,9 @@ audit_of value = option_map (λ p. Audit p.0.0 p.0.1 p.1) (value (codes "graph")
 abbrev pub upgrade_of : Values → Option Asked
 upgrade_of value = option_map (λ p. Upgrade p.0.0 p.0.1 p.1) (value (codes "graph") & value (codes "index") & value (codes "out"))
 
+abbrev pub opening_of : Values → Option Asked
+opening_of value = option_map (λ p. Open p.0.0.0.0 p.0.0.0.1 p.0.0.1 p.0.1 p.1) (value (codes "graph") & value (codes "index") & value (codes "edits") & value (codes "out") & version_of value)
+
 abbrev pub degree_of : Values → Option Asked
 degree_of value = option_map Degree (value (codes "graph"))
 
@@ -140,10 +143,11 @@ asked_of name value =
     else (if bytes_eq name (codes "near") then near_of value
     else (if bytes_eq name (codes "audit") then audit_of value
     else (if bytes_eq name (codes "upgrade") then upgrade_of value
+    else (if bytes_eq name (codes "open") then opening_of value
     else (if bytes_eq name (codes "degree") then degree_of value
     else (if bytes_eq name (codes "rank") then rank_of value
     else (if bytes_eq name (codes "grid") then grid_of value
-    else None)))))))))))
+    else None))))))))))))
 
 -- the values of the options in what was found
 abbrev pub values_in : List Row → Values

@@ -89,6 +89,9 @@ audit = files (codes "audit") (codes "graph" ∷ codes "order" ∷ codes "index"
 abbrev pub upgrade : Shape
 upgrade = files (codes "upgrade") (codes "graph" ∷ codes "index" ∷ codes "out" ∷ [])
 
+abbrev pub opening : Shape
+opening = with_option (files (codes "open") (codes "graph" ∷ codes "index" ∷ codes "edits" ∷ codes "out" ∷ [])) version
+
 abbrev pub degree : Shape
 degree = files (codes "degree") (codes "graph" ∷ [])
 
@@ -99,7 +102,7 @@ abbrev pub grid : Shape
 grid = command (codes "grid") (number_needed (codes "side") 1 256 ∷ number_needed (codes "seed") 0 2147483647 ∷ workers ∷ [])
 
 abbrev pub commands : List Shape
-commands = list ∷ build ∷ solve ∷ query ∷ path ∷ trace ∷ near ∷ audit ∷ upgrade ∷ degree ∷ rank ∷ grid ∷ []
+commands = list ∷ build ∷ solve ∷ query ∷ path ∷ trace ∷ near ∷ audit ∷ upgrade ∷ opening ∷ degree ∷ rank ∷ grid ∷ []
 
 -- the program: it takes one of its commands, and has no help
 abbrev pub program : App

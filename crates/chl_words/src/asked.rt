@@ -143,6 +143,16 @@ pub enum Asked {
         /// The file that is created.
         out: Name,
     },
+    /// Write the index of a graph with more edges, by an index of the graph.
+    Open {
+        graph: Name,
+        index: Name,
+        /// The text of the edges that are added.
+        edits: Name,
+        /// The file that is created.
+        out: Name,
+        version: Version,
+    },
     /// Print the order of a graph's nodes by falling degree.
     Degree {
         graph: Name,

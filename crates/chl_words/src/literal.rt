@@ -53,6 +53,7 @@ pub fn program<'a>(alloc: Global) -> Result<Command<'a>, AllocError>
     let program = with_command(program, near(alloc));
     let program = with_command(program, files(alloc, "audit", &["graph", "order", "index"]));
     let program = with_command(program, files(alloc, "upgrade", &["graph", "index", "out"]));
+    let program = with_command(program, opening(alloc));
     let program = with_command(program, files(alloc, "degree", &["graph"]));
     let program = with_command(program, files(alloc, "rank", &["graph"]));
     with_command(program, grid(alloc))
@@ -93,6 +94,14 @@ fn near<'a>(alloc: Global) -> Result<Command<'a>, AllocError>
 {
     let command = files(alloc, "near", &["index", "points", "from"]);
     with_option(command, number_needed(alloc, "k", 1, MOST_POINTS))
+}
+
+/// The command that writes the index of a graph with more edges, of a version that may be left out.
+fn opening<'a>(alloc: Global) -> Result<Command<'a>, AllocError>
+    ensures { IfOk result (IsProgram (command_alone literal.opening)) }
+{
+    let command = files(alloc, "open", &["graph", "index", "edits", "out"]);
+    with_option(command, version(alloc))
 }
 
 fn grid<'a>(alloc: Global) -> Result<Command<'a>, AllocError>

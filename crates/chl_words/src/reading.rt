@@ -3,7 +3,7 @@ ghost use Rattle.std.specs.Option.{option_copied};
 ghost use Rattle.clap.specs.Words.{found_of, kind_of, rows_of, subcommand_rows_of};
 ghost use Rattle.clap.specs.declared.error.kind.ErrorKind.TheVariants.{OutOfMemory};
 ghost use Rattle.chl_words.specs.Asking as asking;
-ghost use Rattle.chl_words.specs.Asking.{IsWithinLimits, asked_in, asked_of, asked_by, audit_of, build_of, construction_of, degree_of, grid_of, list_of, near_of, number_in, path_of, query_of, rank_of, solve_of, trace_of, upgrade_of, values_in, version_of, workers_of};
+ghost use Rattle.chl_words.specs.Asking.{IsWithinLimits, asked_in, asked_of, asked_by, audit_of, build_of, construction_of, degree_of, grid_of, list_of, near_of, number_in, opening_of, path_of, query_of, rank_of, solve_of, trace_of, upgrade_of, values_in, version_of, workers_of};
 ghost use Rattle.chl_words.specs.Reading.{IsRead};
 ghost use Rattle.chl_words.specs.declared.asked.AskFault.TheVariants.{Usage};
 
@@ -64,6 +64,7 @@ fn read_command(alloc: Global, name: &str, found: &ArgMatches<'_>) -> Result<Ask
         "near" => read_near(alloc, found),
         "audit" => read_audit(alloc, found),
         "upgrade" => read_upgrade(alloc, found),
+        "open" => read_opening(alloc, found),
         "degree" => read_degree(alloc, found),
         "rank" => read_rank(alloc, found),
         "grid" => read_grid(found),
@@ -159,6 +160,18 @@ fn read_upgrade(alloc: Global, found: &ArgMatches<'_>) -> Result<Asked, AskFault
         graph: file(alloc, found, "graph")?,
         index: file(alloc, found, "index")?,
         out: file(alloc, found, "out")?,
+    })
+}
+
+fn read_opening(alloc: Global, found: &ArgMatches<'_>) -> Result<Asked, AskFault>
+    ensures { IsRead (opening_of (values_in (rows_of (found_of found.now)))) result }
+{
+    Ok(Asked::Open {
+        graph: file(alloc, found, "graph")?,
+        index: file(alloc, found, "index")?,
+        edits: file(alloc, found, "edits")?,
+        out: file(alloc, found, "out")?,
+        version: version(found)?,
     })
 }
 

@@ -8,7 +8,8 @@ use Rattle.std.proofs.Math.Nat.{mul-le-mul}
 use Rattle.walk_laws.specs.declared.graph.Edge.{Edge}
 use Rattle.walk_laws.specs.Graph.{IsEdge, IsGraph, greatest_weight}
 use Rattle.dimacs_text.specs.Counted.{AreAccepted, are_within, is_outside, kept}
-use Rattle.dimacs_text.specs.GraphText.{arc_fault, arc_numbers, edge_of, graph_wording}
+use Rattle.dimacs_text.specs.Arcs.{arc_fault, arc_numbers, edge_of}
+use Rattle.dimacs_text.specs.GraphText.{graph_wording}
 use Rattle.dimacs_text.specs.declared.fault.TextKind.TheVariants.{NodeRange, ZeroWeight, WeightRange}
 use Rattle.dimacs_text.specs.declared.graph_words.GraphWords.{GraphWords}
 use Rattle.dimacs_text.proofs.CountsKept.{least}
@@ -55,26 +56,23 @@ pub apart : (a b : ℕ) → a ≢ b → eqb a b ≡ false
 apart a b differ = elim (eqb_tells a b) [ inl equal ↦ absurd (differ equal.1) | inr other ↦ other.0 ]
 
 -- three numbers that have no fault as they are kept have none, and are kept as they are
-pub arc_taken : (counts values numbers : List ℕ) → get_or counts 0 0 ≤ 2 ^ 30 → numbers ≡ kept values → length numbers ≡ 3 → is_outside (get_or counts 0 0) (get_or numbers 0 0) ≡ false → is_outside (get_or counts 0 0) (get_or numbers 1 0) ≡ false → get_or numbers 2 0 ≢ 0 → get_or numbers 2 0 ≤ 2 ^ 64 - 1 → (arc_fault counts values ≡ None) × (get_or numbers 0 0 ∷ get_or numbers 1 0 ∷ get_or numbers 2 0 ∷ [] ≡ values)
-arc_taken counts [] numbers small is size u v w_some w_low = absurd (omega (arith, ap length is))
-arc_taken counts (x ∷ []) numbers small is size u v w_some w_low = absurd (omega (arith, ap length is))
-arc_taken counts (x ∷ y ∷ []) numbers small is size u v w_some w_low = absurd (omega (arith, ap length is))
-arc_taken counts (x ∷ y ∷ z ∷ []) numbers small is size u v w_some w_low =
-    let n = get_or counts 0 0 in
-    let low : get_or counts 0 0 < 2 ^ 64 = omega arith in
-    let same_u : get_or numbers 0 0 ≡ x = ap (λ l. get_or l 0 0) is ∙ node_kept (get_or counts 0 0) x low (ap (λ l. is_outside (get_or counts 0 0) (get_or l 0 0)) (sym is) ∙ u) in
-    let same_v : get_or numbers 1 0 ≡ y = ap (λ l. get_or l 1 0) is ∙ node_kept (get_or counts 0 0) y low (ap (λ l. is_outside (get_or counts 0 0) (get_or l 1 0)) (sym is) ∙ v) in
+pub arc_taken : (n : ℕ) (values numbers : List ℕ) → n < 2 ^ 64 → numbers ≡ kept values → length numbers ≡ 3 → is_outside n (get_or numbers 0 0) ≡ false → is_outside n (get_or numbers 1 0) ≡ false → get_or numbers 2 0 ≢ 0 → get_or numbers 2 0 ≤ 2 ^ 64 - 1 → (arc_fault n values ≡ None) × (get_or numbers 0 0 ∷ get_or numbers 1 0 ∷ get_or numbers 2 0 ∷ [] ≡ values)
+arc_taken n [] numbers low is size u v w_some w_low = absurd (omega (arith, ap length is))
+arc_taken n (x ∷ []) numbers low is size u v w_some w_low = absurd (omega (arith, ap length is))
+arc_taken n (x ∷ y ∷ []) numbers low is size u v w_some w_low = absurd (omega (arith, ap length is))
+arc_taken n (x ∷ y ∷ z ∷ []) numbers low is size u v w_some w_low =
+    let same_u : get_or numbers 0 0 ≡ x = ap (λ l. get_or l 0 0) is ∙ node_kept n x low (ap (λ l. is_outside n (get_or l 0 0)) (sym is) ∙ u) in
+    let same_v : get_or numbers 1 0 ≡ y = ap (λ l. get_or l 1 0) is ∙ node_kept n y low (ap (λ l. is_outside n (get_or l 1 0)) (sym is) ∙ v) in
     let read_w : get_or numbers 2 0 ≡ min z (2 ^ 64) = ap (λ l. get_or l 2 0) is in
     let same_w : get_or numbers 2 0 ≡ z = read_w ∙ least z (2 ^ 64 - 1) (omega arith) (omega arith) in (
       no_fault (is_outside n x) (is_outside n y) (eqb z 0) (ltb (2 ^ 64 - 1) z) (ap (is_outside n) (sym same_u) ∙ u) (ap (is_outside n) (sym same_v) ∙ v) (apart z 0 (λ zero. w_some (same_w ∙ zero))) (le-ltb _ _ (omega arith)),
       λ i. same_u i ∷ same_v i ∷ same_w i ∷ [],
     )
-arc_taken counts (x ∷ y ∷ z ∷ t ∷ values) numbers small is size u v w_some w_low = absurd (omega (arith, ap length is))
+arc_taken n (x ∷ y ∷ z ∷ t ∷ values) numbers low is size u v w_some w_low = absurd (omega (arith, ap length is))
 
 -- an arc without fault is an edge
-pub edge_shown : (counts : List ℕ) (e : Edge) → arc_fault counts (arc_numbers e) ≡ None → IsEdge (get_or counts 0 0) e
-edge_shown counts e faultless =
-    let n = get_or counts 0 0 in
+pub edge_shown : (n : ℕ) (e : Edge) → arc_fault n (arc_numbers e) ≡ None → IsEdge n e
+edge_shown n e faultless =
     let tests = tests_shown (is_outside n e.u) (is_outside n e.v) (eqb e.w 0) (ltb (2 ^ 64 - 1) e.w) faultless in
     let u = node_shown n e.u tests.0 in
     let v = node_shown n e.v tests.1 in
@@ -86,9 +84,8 @@ edges_back [] = refl
 edges_back (e ∷ edges) = ap (λ es. e ∷ es) (edges_back edges)
 
 -- an arc without fault has a weight below 2^64
-pub weight_shown : (counts : List ℕ) (e : Edge) → arc_fault counts (arc_numbers e) ≡ None → e.w < 2 ^ 64
-weight_shown counts e faultless =
-    let n = get_or counts 0 0 in
+pub weight_shown : (n : ℕ) (e : Edge) → arc_fault n (arc_numbers e) ≡ None → e.w < 2 ^ 64
+weight_shown n e faultless =
     let tests = tests_shown (is_outside n e.u) (is_outside n e.v) (eqb e.w 0) (ltb (2 ^ 64 - 1) e.w) faultless in
     omega (arith, ltb-false (2 ^ 64 - 1) e.w tests.3)
 
@@ -106,11 +103,12 @@ light_fits n edges small light =
 -- accepted lines are a graph
 pub accepted_graph : (words : GraphWords) (counts : List ℕ) (edges : List Edge) → AreAccepted (graph_wording words) counts (map arc_numbers edges) → IsGraph (get_or counts 0 0) edges
 accepted_graph words counts edges accepted =
-    let faultless : (k : ℕ) (d : Edge) → k < length edges → arc_fault counts (arc_numbers (get_or edges k d)) ≡ None = λ k d h.
-    sym (ap (arc_fault counts) (get_or-map arc_numbers edges k d (arc_numbers d) h)) ∙ accepted.faultless k (arc_numbers d) (omega (arith, length-map edges arc_numbers)) in
+    let n = get_or counts 0 0 in
+    let faultless : (k : ℕ) (d : Edge) → k < length edges → arc_fault (get_or counts 0 0) (arc_numbers (get_or edges k d)) ≡ None = λ k d h.
+    sym (ap (arc_fault (get_or counts 0 0)) (get_or-map arc_numbers edges k d (arc_numbers d) h)) ∙ accepted.faultless k (arc_numbers d) (omega (arith, length-map edges arc_numbers)) in
     let small = nodes_within counts accepted.within in
     record {
       small = small;
-      edge = λ k d h. edge_shown counts (get_or edges k d) (faultless k d h);
-      fits = light_fits (get_or counts 0 0) edges small (λ k d h. weight_shown counts (get_or edges k d) (faultless k d h));
+      edge = λ k d h. edge_shown n (get_or edges k d) (faultless k d h);
+      fits = light_fits n edges small (λ k d h. weight_shown n (get_or edges k d) (faultless k d h));
     }

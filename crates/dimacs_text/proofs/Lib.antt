@@ -5,4 +5,5 @@ pub mod PairFacts
 pub mod Accepted
 pub mod TextsAccepted
 pub mod Taken
+pub mod PrintedArcs
 pub mod PrintedRead

@@ -166,6 +166,6 @@ abbrev pub kept : List ℕ → List ℕ
 kept numbers = map (λ n. min n (2 ^ 64)) numbers
 
 -- how the numbers of a line may be judged by one who sees them as they are kept
-abbrev pub JudgesNumbers : {I : Type 0} → Wording → (I → List ℕ) → List ℕ → List ℕ → Result I TextKind → Type 0
-JudgesNumbers w written counts numbers (Ok item) = (w.fault_of counts numbers ≡ None) × (written item ≡ numbers)
-JudgesNumbers w written counts numbers (Err kind) = w.fault_of counts numbers ≡ Some kind
+abbrev pub JudgesNumbers : {I : Type 0} → (List ℕ → Option TextKind) → (I → List ℕ) → List ℕ → Result I TextKind → Type 0
+JudgesNumbers fault_of written numbers (Ok item) = (fault_of numbers ≡ None) × (written item ≡ numbers)
+JudgesNumbers fault_of written numbers (Err kind) = fault_of numbers ≡ Some kind

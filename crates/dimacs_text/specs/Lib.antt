@@ -1,6 +1,8 @@
+pub mod Arcs
 pub mod Counted
+pub mod EditsText
 pub mod GraphText
 pub mod PairsText
-pub mod PrintedGraph
+pub mod PrintedTexts
 pub mod Taking
 pub mod TextLaws

@@ -57,7 +57,7 @@ pub trait CountedText {
         requires within { are_within (wording self.now).limits counts.now ≡ true }
         requires numbers { length numbers.now ≡ (wording self.now).numbers }
         ensures { (values : List ℕ) → numbers.now ≡ kept values
-            → JudgesNumbers (wording self.now) written counts.now values result };
+            → JudgesNumbers ((wording self.now).fault_of counts.now) written values result };
 
     /// What the counts and the items after them stand for.
     fn value(
@@ -80,7 +80,7 @@ pub trait CountedText {
 }
 
 /// Whether a number is no node of 1..n.
-pub fn is_outside_of(n: u64, v: u128) -> bool
+pub fn is_outside_of(n: u32, v: u128) -> bool
     ensures { result ≡ is_outside n v }
 {
     v == 0 || v > u128::from(n)

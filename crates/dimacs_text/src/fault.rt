@@ -5,7 +5,7 @@ ghost use Rattle.dimacs_text.specs.declared.fault.PairsFault.TheVariants as pair
 use std::alloc::AllocError;
 use thiserror::Error;
 
-/// What is wrong with a line of a graph or pairs text.
+/// What is wrong with a line of a graph, pairs or edits text.
 #[derive(Clone, Copy, Debug, PartialEq, Eq, Error)]
 pub enum TextKind {
     /// The line begins with no word of the format.
@@ -59,11 +59,11 @@ pub enum GrFault {
     NoMemory,
 }
 
-/// Why a text is no list of pairs.
+/// Why a text is no list of pairs, or none of edges, between given nodes.
 #[derive(Clone, Copy, Debug, PartialEq, Eq, Error)]
 pub enum PairsFault {
     /// The text has a fault.
-    #[error("pairs {0}")]
+    #[error("{0}")]
     Text(TextFault),
     /// There was no memory for it.
     #[error("out of memory")]

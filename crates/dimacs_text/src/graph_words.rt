@@ -1,4 +1,5 @@
-use crate::counted_text::{CountedText, is_outside_of};
+use crate::arcs::edge_of;
+use crate::counted_text::CountedText;
 use crate::fault::{GrFault, TextFault, TextKind};
 use std::alloc::Global;
 use walk_laws::{Edge, Graph};
@@ -6,17 +7,15 @@ use walk_laws::{Edge, Graph};
 /// The greatest number of nodes, 2^30, and the greatest number of arcs, 2^32 - 1.
 static LIMITS: [u64; 2] = [1 << 30, (1 << 32) - 1];
 
-/// The greatest weight, 2^64 - 1.
-const GREATEST: u128 = (1 << 64) - 1;
-
 /// The words of a graph text: `p sp N M`, and `a U V W` for an edge.
 #[derive(Clone, Copy, Debug)]
 pub struct GraphWords;
 
 impl CountedText for GraphWords {
     ghost use Rattle.std.specs.Prelude.{◌≡◌, ◌⊎◌, map, Ok, Err, IfOk, IfErr};
+    ghost use Rattle.dimacs_text.specs.Arcs.{arc_numbers};
     ghost use Rattle.dimacs_text.specs.Counted.{AreAccepted};
-    ghost use Rattle.dimacs_text.specs.GraphText.{graph_wording, arc_numbers, graph_of_lines};
+    ghost use Rattle.dimacs_text.specs.GraphText.{graph_wording, graph_of_lines};
     ghost use Rattle.dimacs_text.specs.declared.fault.GrFault.TheVariants.{Text, NoMemory};
 
     type Item = Edge;
@@ -52,24 +51,7 @@ impl CountedText for GraphWords {
     }
 
     fn item(&self, counts: &[u64], numbers: &[u128]) -> Result<Edge, TextKind> {
-        let n = counts[0];
-        let u = numbers[0];
-        let v = numbers[1];
-        let w = numbers[2];
-        if is_outside_of(n, u) || is_outside_of(n, v) {
-            return Err(TextKind::NodeRange);
-        }
-        if w == 0 {
-            return Err(TextKind::ZeroWeight);
-        }
-        if w > GREATEST {
-            return Err(TextKind::WeightRange);
-        }
-        Ok(Edge {
-            u: u as u32,
-            v: v as u32,
-            w: w as u64,
-        })
+        edge_of(counts[0] as u32, numbers)
     }
 
     fn value(self, alloc: Global, counts: Vec<u64>, items: Vec<Edge>) -> Result<Graph, GrFault>

@@ -51,10 +51,9 @@ impl CountedText for PairsWords {
     }
 
     fn item(&self, _counts: &[u64], numbers: &[u128]) -> Result<(u32, u32), TextKind> {
-        let n = u64::from(self.n);
         let s = numbers[0];
         let t = numbers[1];
-        if is_outside_of(n, s) || is_outside_of(n, t) {
+        if is_outside_of(self.n, s) || is_outside_of(self.n, t) {
             return Err(TextKind::NodeRange);
         }
         Ok((s as u32, t as u32))

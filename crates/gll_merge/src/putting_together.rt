@@ -2,8 +2,8 @@
 ghost use Rattle.std.specs.Prelude.{◌≡◌, None, true, replicate, IfOk};
 ghost use Rattle.gll_merge.specs.Merging.{ArePlaced, are_filled, with_shard};
 
-use crate::merge_tasks::Merging;
-use crate::merging::Shard;
+use crate::merge_task::Shard;
+use crate::merging::Merging;
 use gll_table::{Build, BuildContext, Table, Workspaces};
 use hub_index::SplitRows;
 use std::alloc::{AllocError, Global};

@@ -1,5 +1,5 @@
 //! A superstep: what all its workers share, and how it begins.
-ghost use Rattle.std.specs.Prelude.{◌≡◌, ℕ, ◌+◌, ◌-◌, ◌<◌, ◌≤◌, [], ◌++◌, ◌∷◌, Some, length, replicate, IfOk, OnOk};
+ghost use Rattle.std.specs.Prelude.{◌≡◌, ℕ, ◌+◌, ◌-◌, ◌<◌, [], ◌++◌, ◌∷◌, Some, length, replicate, IfOk, OnOk};
 ghost use Rattle.root_claims.specs.Seats.{IsSeatAt};
 ghost use Rattle.gll_superstep.specs.Workers.{AreNew, AreSeatsOf, IsFirstSeat, SuperstepView};
 
@@ -51,9 +51,9 @@ impl<B: Build> Superstep<B> {
     }
 }
 
-/// The tasks of a superstep over this table with this pool, or with a new one, one for each worker, in one of the workspaces, or in a new one where
-/// there are fewer. Their seats are split from this one, with which nobody has claimed a root from the next one on. The only error
-/// is that memory ran out.
+/// The tasks of a superstep over this table with this pool, or with a new one, one for each worker, in one of the workspaces, or in
+/// a new one where there are fewer. Their seats are split from this one, with which nobody has claimed a root from the next one on.
+/// The only error is that memory ran out.
 pub fn begin_superstep<B: Build>(
     context: &BuildContext<'_, B>,
     table: Table<B>,

@@ -12,7 +12,7 @@ use std::marker::PhantomData;
 use std::thread::Threads;
 use walk_laws::Graph;
 
-/// What all workers of a build know: the graph, a ranking of its nodes, how the table is cut in shards, how many workers there
+/// What all workers of a build know: the graph, a ranking of its nodes, how the table is divided in shards, how many workers there
 /// are, the claims of the roots, how many entries each puts at least in a superstep, and how far the build goes.
 #[derive(Drop)]
 pub struct BuildContext<'a, B: Build> {
@@ -25,7 +25,7 @@ pub struct BuildContext<'a, B: Build> {
     pub workers: u32,
     pub claims: &'a Claims,
     pub cut: u32,
-    /// The position, from 0, at which the build is over, or past which: that of the next root then.
+    /// The build is over once the next root has this position, from 0, or a later one.
     pub goal: u32,
     /// How long a worker looks for the next stage before it sleeps, in rounds.
     pub rounds: u32,

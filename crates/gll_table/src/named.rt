@@ -3,8 +3,8 @@
 use std::marker::Brand;
 
 /// A build, for contracts alone: the edges of its graph, its nodes by falling rank, by which power of two its table is cut in
-/// shards, how many workers it has, by which claims they draw roots, and how far it goes. What threads hand to one another says by it whose it is, since of what
-/// comes out of a lock nothing else is known than what its type says.
+/// shards, how many workers it has, by which claims they draw roots, and how far it goes. What threads hand to one another says by
+/// it whose it is, since of what comes out of a lock nothing else is known than what its type says.
 pub trait Build {
     ghost use Rattle.std.specs.Prelude.{ℕ, List};
     ghost use Rattle.walk_laws.specs.declared.graph.Edge.{Edge};

@@ -104,7 +104,7 @@ pub fn hubs_below<B: Build>(
 }
 
 /// Adds what a worker put at the nodes with positions below the next root's, of hubs that rank above the node. It is listed in
-/// `more`, in the place of what there was, where the worker's own list doesn't go as far. The only error is that memory ran out.
+/// `more`, instead of what there was, where the worker's own list doesn't go as far. The only error is that memory ran out.
 fn add_hubs<B: Build>(
     context: &BuildContext<'_, B>,
     next: u32,

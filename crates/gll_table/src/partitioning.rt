@@ -10,8 +10,8 @@ use label_clean::{HubEntry, RunList};
 use rank_table::Ranking;
 use std::alloc::{AllocError, Global};
 
-/// Cuts entries in a part for each of so many shards, in the place of what the parts had: an entry has the place in its shard
-/// for its node there. Each part has its runs then. The only error is that memory ran out.
+/// Cuts entries in a part for each of so many shards, instead of what the parts had: an entry has the place in its shard for its node
+/// there. Each part has its runs then. The only error is that memory ran out.
 pub fn partition(
     alloc: Global,
     plan: Shards,
@@ -80,7 +80,7 @@ fn list_all_runs(lists: &mut [RunList]) -> Result<(), AllocError>
     Ok(())
 }
 
-/// Lists the entries at nodes with a position below another one, from 0, whose hub ranks above the node, in the place of what there
+/// Lists the entries at nodes with a position below another one, from 0, whose hub ranks above the node, instead of what there
 /// was. No hub of an entry ranks below its node, so only those whose hub is the node itself are left out. The only error is that
 /// memory ran out.
 pub fn list_hubs(

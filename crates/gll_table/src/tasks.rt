@@ -2,8 +2,9 @@
 ghost use Rattle.std.specs.Prelude.{◌≡◌, All, IfNone, IfSome, None};
 ghost use Rattle.gll_table.specs.Tasks.{IsTakenFrom};
 
-/// Takes a task out for the worker of this number, from 0, of so many: its own share of them first. It answers None only where no
-/// task is left.
+/// Takes a task out of its place, for the worker `me`, a number from 0, of so many workers. The places are dealt to them in order, to
+/// each about as many: it looks from where its own begin to the last, and then from the first. It answers None only where no task is
+/// left.
 pub fn take_from<T: Drop>(tasks: &mut Vec<Option<T>>, me: u32, workers: u32) -> Option<T>
     ensures taken { IfSome result (λ task. IsTakenFrom tasks.old.items task tasks.new.items) }
     ensures none { IfNone result (All (λ place. place ≡ None) tasks.old.items) }

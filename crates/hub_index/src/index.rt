@@ -89,6 +89,20 @@ impl Index {
         Ok(Index::with_reach(ranking, rows, false))
     }
 
+    /// Its ranking and its rows. It takes no memory.
+    pub fn into_parts(self) -> (Ranking, RowList)
+        ensures order { result.0 ≡ self.order }
+        ensures rows { result.1 ≡ self.rows }
+        ensures well_formed { IsWellFormed self.order self.rows }
+    {
+        let Index {
+            ranking,
+            rows,
+            is_short: _,
+        } = self;
+        (ranking, rows)
+    }
+
     /// Whether all distances are known to be below 2^62.
     pub fn is_short(&self) -> bool
         ensures { IsTrue result → (v : ℕ) → 1 ≤ v → v ≤ length self.now.order → All (λ e. e.dist < 2 ^ 62) (label_row self.now.rows v) }

@@ -130,6 +130,17 @@ impl RowList {
         Ok(())
     }
 
+    /// Puts the entry at a place of the row of the node `v`, a number from 1, instead of the one that stood there; places count
+    /// from 0. It takes no memory.
+    pub fn set(&mut self, v: u32, place: usize, entry: Entry)
+        requires node { 1 ≤ v }
+        requires within { v ≤ length self.old }
+        requires place { place < length (label_row self.old v) }
+        ensures { self.new ≡ slice_set self.old (v - 1) (slice_set (label_row self.old v) place entry) }
+    {
+        self.rows[v as usize - 1][place] = entry;
+    }
+
     /// Makes these entries the row of the node `v`, a number from 1. It takes no memory.
     pub(crate) fn put_row(&mut self, v: u32, row: Vec<Entry>)
         requires node { 1 ≤ v }

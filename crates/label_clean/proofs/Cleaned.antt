@@ -110,13 +110,13 @@ module _ (at : List ℕ) (ranking : IsRanking at) where
   }
 
   -- rows with the same entries lose the same
-  module _ (near raw : List (List Entry)) (same : (v : ℕ) → 1 ≤ v → v ≤ length at → (e : Entry) → Contains (label_row near v) e ↔ Contains (label_row raw v) e) where
-    pub IsSurvivingRow-same : (v : ℕ) (row : List Entry) → 1 ≤ v → v ≤ length at → IsSurvivingRow at near v row → IsSurvivingRow at raw v row
+  module _ (tested raw : List (List Entry)) (same : (v : ℕ) → 1 ≤ v → v ≤ length at → (e : Entry) → Contains (label_row tested v) e ↔ Contains (label_row raw v) e) where
+    pub IsSurvivingRow-same : (v : ℕ) (row : List Entry) → 1 ≤ v → v ≤ length at → IsSurvivingRow at tested v row → IsSurvivingRow at raw v row
     IsSurvivingRow-same v row from_one up_to_n is = record {
       rising = is.rising;
       each = λ e. (
-        λ here. let known = (is.each e).0 here in ((same v from_one up_to_n e).0 known.0, λ needless. known.1 (IsNeedless-more raw near (λ x low high f. (same x low high f).1) v from_one up_to_n e needless)),
-        λ kept. (is.each e).1 ((same v from_one up_to_n e).1 kept.0, λ needless. kept.1 (IsNeedless-more near raw (λ x low high f. (same x low high f).0) v from_one up_to_n e needless)),
+        λ here. let known = (is.each e).0 here in ((same v from_one up_to_n e).0 known.0, λ needless. known.1 (IsNeedless-more raw tested (λ x low high f. (same x low high f).1) v from_one up_to_n e needless)),
+        λ kept. (is.each e).1 ((same v from_one up_to_n e).1 kept.0, λ needless. kept.1 (IsNeedless-more tested raw (λ x low high f. (same x low high f).0) v from_one up_to_n e needless)),
       );
     }
 

@@ -48,15 +48,15 @@ module _ (table : List (Option ℕ)) (first second : List Entry) (p d : ℕ) (he
       )
 
 -- an entry is needless where an entry of its hub's row covers it by way of the table of its node's row
-module _ (at : List ℕ) (near : List (List Entry)) (v : ℕ) (e : Entry) (table : List (Option ℕ)) (held : HoldsLeast table (label_row near v)) (hub : ℕ) (hub_is : slice_get at e.pos ≡ Some hub) where
-  pub IsNeedless-from_cover : HasCover table e.pos e.dist (label_row near hub) → IsNeedless at near v e
+module _ (at : List ℕ) (tested : List (List Entry)) (v : ℕ) (e : Entry) (table : List (Option ℕ)) (held : HoldsLeast table (label_row tested v)) (hub : ℕ) (hub_is : slice_get at e.pos ≡ Some hub) where
+  pub IsNeedless-from_cover : HasCover table e.pos e.dist (label_row tested hub) → IsNeedless at tested v e
   IsNeedless-from_cover (other, there, cover) = record {
     hub = hub;
     hub_is = hub_is;
-    covered = IsCovered-from_cover table (label_row near hub) (label_row near v) e.pos e.dist held other there cover;
+    covered = IsCovered-from_cover table (label_row tested hub) (label_row tested v) e.pos e.dist held other there cover;
   }
 
-  pub HasCover-from_needless : e.pos ≤ length table → IsNeedless at near v e → HasCover table e.pos e.dist (label_row near hub)
+  pub HasCover-from_needless : e.pos ≤ length table → IsNeedless at tested v e → HasCover table e.pos e.dist (label_row tested hub)
   HasCover-from_needless within n =
-      subst (λ h. HasCover table e.pos e.dist (label_row near h)) (same_Some n.hub hub (sym n.hub_is ∙ hub_is))
-      (HasCover-from_covered table (label_row near n.hub) (label_row near v) e.pos e.dist held within n.covered)
+      subst (λ h. HasCover table e.pos e.dist (label_row tested h)) (same_Some n.hub hub (sym n.hub_is ∙ hub_is))
+      (HasCover-from_covered table (label_row tested n.hub) (label_row tested v) e.pos e.dist held within n.covered)

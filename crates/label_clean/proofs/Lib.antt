@@ -1,6 +1,6 @@
 pub mod Covering
 pub mod RowFacts
-pub mod NearRows
+pub mod TestedRows
 pub mod Cleaned
 pub mod KeptEntries
 pub mod RowItems

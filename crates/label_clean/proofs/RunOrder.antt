@@ -75,12 +75,12 @@ module _ {X : Type 0} (key : X → ℕ) (f : X → List Entry) where
 
 module _ (lists : List RunList) (turns : List Turn) (are : AreTurnsOf lists turns) where
   in_lists : (turn : Turn) → Contains turns turn → (e : NodeEntry) → Contains (part_of lists turn) e → Contains (all_entries lists) e
-  in_lists turn there e h = subst (λ es. Contains es e) are.whole (Contains-joined (part_of lists) are.cut turn e (Contains-permutation turns are.cut turn (IsPermutation-sym are.cut turns are.moved) there) h)
+  in_lists turn there e h = subst (λ es. Contains es e) are.whole (Contains-joined (part_of lists) are.pieces turn e (Contains-permutation turns are.pieces turn (IsPermutation-sym are.pieces turns are.moved) there) h)
 
   in_turn : (e : NodeEntry) → Contains (all_entries lists) e → Contains (flat_map (part_of lists) turns) e
   in_turn e h =
-      let one = joined_of (part_of lists) are.cut e (subst (λ es. Contains es e) (sym are.whole) h) in
-      Contains-joined (part_of lists) turns one.0 e (Contains-permutation are.cut turns one.0 are.moved one.1) one.2
+      let one = joined_of (part_of lists) are.pieces e (subst (λ es. Contains es e) (sym are.whole) h) in
+      Contains-joined (part_of lists) turns one.0 e (Contains-permutation are.pieces turns one.0 are.moved one.1) one.2
 
   -- what holds of all entries holds of those of a run
   pub all_in_turn : (P : NodeEntry → Type 0) → All P (all_entries lists) → (turn : Turn) → Contains turns turn → All P (part_of lists turn)
@@ -113,8 +113,8 @@ module _ (lists : List RunList) (turns : List Turn) (are : AreTurnsOf lists turn
     times_same q =
         let count : Turn → ℕ = λ turn. sum_by (one_if q) (entries_of_node (part_of lists turn) k) in
         let f : Turn → List Entry = λ turn. entries_of_node (part_of lists turn) k in
-        ap (sum_by (one_if q)) (row_of_joined turns) ∙ times-joined q f turns ∙ sum_by-IsPermutation count are.cut turns are.moved
-        ∙ sym (ap (λ es. sum_by (one_if q) (entries_of_node es k)) (sym are.whole) ∙ ap (sum_by (one_if q)) (row_of_joined are.cut) ∙ times-joined q f are.cut)
+        ap (sum_by (one_if q)) (row_of_joined turns) ∙ times-joined q f turns ∙ sum_by-IsPermutation count are.pieces turns are.moved
+        ∙ sym (ap (λ es. sum_by (one_if q) (entries_of_node es k)) (sym are.whole) ∙ ap (sum_by (one_if q)) (row_of_joined are.pieces) ∙ times-joined q f are.pieces)
 
     -- run by run the entries of a row come by rising position
     pub IsSortedRow-turns : HasEachOnce (entries_of_node (all_entries lists) k) → IsSortedRow (entries_of_node (all_entries lists) k) (entries_of_node (flat_map (part_of lists) turns) k)

@@ -13,14 +13,14 @@ pub record IsKept (P : Entry → Type 0) (row kept : List Entry) : Type 0 where
 
 -- the row has exactly the entries of v that are not needless, each once, in any order
 abbrev pub HasSurvivors : List ℕ → List (List Entry) → ℕ → List Entry → Type 0
-HasSurvivors at near v row = IsKept (IsNeedless at near v) (label_row near v) row
+HasSurvivors at tested v row = IsKept (IsNeedless at tested v) (label_row tested v) row
 
 -- what is kept of the row of v: all of it, where that is none, or else these entries
 abbrev pub IsKeptRow : List ℕ → List (List Entry) → ℕ → Option (Vec Entry Global) → Type 0
-IsKeptRow at near v None = All (λ e. ¬ IsNeedless at near v e) (label_row near v)
-IsKeptRow at near v (Some kept) = HasSurvivors at near v kept.items
+IsKeptRow at tested v None = All (λ e. ¬ IsNeedless at tested v e) (label_row tested v)
+IsKeptRow at tested v (Some kept) = HasSurvivors at tested v kept.items
 
 -- what is kept of the rows of the nodes after `from` up to `to`
-pub record AreKeptRows (at : List ℕ) (near : List (List Entry)) (from to : ℕ) (kept : List (Option (Vec Entry Global))) : Type 0 where
+pub record AreKeptRows (at : List ℕ) (tested : List (List Entry)) (from to : ℕ) (kept : List (Option (Vec Entry Global))) : Type 0 where
   pub size : from + length kept ≡ to
-  pub each : (k : ℕ) → k < length kept → IsKeptRow at near (from + k + 1) (get_or kept k None)
+  pub each : (k : ℕ) → k < length kept → IsKeptRow at tested (from + k + 1) (get_or kept k None)

@@ -33,8 +33,8 @@ pub record IsTurnOf (lists : List RunList) (turn : Turn) : Type 0 where
 
 -- the turns come by position, and are the pieces in which the lists were cut
 pub record AreTurnsOf (lists : List RunList) (turns : List Turn) : Type 0 where
-  pub cut : List Turn
-  pub whole : flat_map (part_of lists) cut ≡ all_entries lists
-  pub moved : IsPermutation cut turns
+  pub pieces : List Turn
+  pub whole : flat_map (part_of lists) pieces ≡ all_entries lists
+  pub moved : IsPermutation pieces turns
   pub each : All (IsTurnOf lists) turns
   pub rising : IsNonDecreasingBy (λ turn. turn.run.pos) turns

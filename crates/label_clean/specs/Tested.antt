@@ -13,13 +13,13 @@ pub record HasEntriesOf (entries row : List Entry) : Type 0 where
   pub each : (e : Entry) → Contains row e ↔ Contains entries e
 
 -- how many of n nodes, the highest-ranked ones, are hubs of so many others that their rows are put by distance
-abbrev pub near_count : ℕ → ℕ
-near_count n = n / 8
+abbrev pub count_by_distance : ℕ → ℕ
+count_by_distance n = n / 8
 
 -- a row for each node, with at most one entry of each hub; the rows of the highest-ranked nodes are by rising distance
-pub record AreNearRows (at : List ℕ) (rows : List (List Entry)) : Type 0 where
+pub record AreTestedRows (at : List ℕ) (rows : List (List Entry)) : Type 0 where
   pub size : length rows ≡ length at
-  pub nearing : (v : ℕ) → 1 ≤ v → v ≤ length at → position_of at v < near_count (length at) → IsNonDecreasingBy (λ e. e.dist) (label_row rows v)
+  pub rising : (v : ℕ) → 1 ≤ v → v ≤ length at → position_of at v < count_by_distance (length at) → IsNonDecreasingBy (λ e. e.dist) (label_row rows v)
   pub raw : (v : ℕ) → 1 ≤ v → v ≤ length at → IsRawRow (length at) (label_row rows v)
 
 -- each distance of the table is one of the row, and no greater than any that the row has at its position

@@ -3,7 +3,7 @@ ghost use Rattle.walk_laws.specs.declared.graph.Edge.{Edge as AnEdge};
 ghost use Rattle.walk_laws.specs.Labelling.{label_row};
 ghost use Rattle.label_clean.specs.RawRows.{IsRawRow, both_rows};
 ghost use Rattle.label_clean.specs.Kept.{AreKeptRows, HasSurvivors};
-ghost use Rattle.label_clean.specs.Tested.{AreNearRows};
+ghost use Rattle.label_clean.specs.Tested.{AreTestedRows};
 ghost use Rattle.label_clean.specs.Below.{HoldsBelow, IsChlBelow};
 
 use crate::rows::together;
@@ -60,19 +60,19 @@ pub fn clean_in_place<R: Threads + Sync>(
     ensures { IfOk result (λ rows. (edges : List AnEdge) (c : ℕ) → HoldsBelow edges ranking.now c [] raw → IsChlBelow edges ranking.now c rows) }
 {
     let n = ranking.n();
-    let near = by_distance(rt, ranking, raw);
-    let kept = test_rows(rt, alloc, ranking, &near, cuts_for(rt, n), 0, n)?;
-    Ok(by_position(rt, replaced(ranking, near, kept)))
+    let tested = by_distance(rt, ranking, raw);
+    let kept = test_rows(rt, alloc, ranking, &tested, halvings_for(rt, n), 0, n)?;
+    Ok(by_position(rt, replaced(ranking, tested, kept)))
 }
 
-/// The near rows, each replaced by what is kept of it where it loses an entry.
-fn replaced(ranking: &Ranking, near: RowList, kept: Vec<Option<Vec<Entry>>>) -> RowList
-    requires near { AreNearRows ranking.now near }
-    requires kept { AreKeptRows ranking.now near 0 (length ranking.now) kept.items }
+/// The tested rows, each replaced by what is kept of it where it loses an entry.
+fn replaced(ranking: &Ranking, tested: RowList, kept: Vec<Option<Vec<Entry>>>) -> RowList
+    requires tested { AreTestedRows ranking.now tested }
+    requires kept { AreKeptRows ranking.now tested 0 (length ranking.now) kept.items }
     ensures size { length result ≡ length ranking.now }
-    ensures rows { (v : ℕ) → 1 ≤ v → v ≤ length ranking.now → HasSurvivors ranking.now near v (label_row result v) }
+    ensures rows { (v : ℕ) → 1 ≤ v → v ≤ length ranking.now → HasSurvivors ranking.now tested v (label_row result v) }
 {
-    let mut rows = near.into_rows();
+    let mut rows = tested.into_rows();
     let mut kept = kept;
     while let Some(row) = kept.pop() {
         match row {
@@ -86,8 +86,8 @@ fn replaced(ranking: &Ranking, near: RowList, kept: Vec<Option<Vec<Entry>>>) -> 
 /// The fewest nodes that are worth a thread.
 const NODES_A_THREAD: u32 = 64;
 
-/// How many times nodes are cut in two, so that there is a piece of them for each of up to 64 processors and none is small.
-fn cuts_for<R: Threads>(rt: &R, nodes: u32) -> u32
+/// How many times nodes are halved, so that there is a piece of them for each of up to 64 processors and none is small.
+fn halvings_for<R: Threads>(rt: &R, nodes: u32) -> u32
     ensures { result ≤ 6 }
 {
     let most = (nodes / NODES_A_THREAD) as usize;

@@ -5,15 +5,21 @@ ghost use Rattle.label_clean.specs.Tested.{HasCover, IsCovering, Meets};
 use hub_index::RootTable;
 use walk_laws::Entry;
 
-/// Whether an entry of the row covers one at the position `pos`, from 0, with the distance `dist`. Along a near row, whose
+/// Whether an entry of the row covers one at the position `pos`, from 0, with the distance `dist`. Along a row by distance, whose
 /// distances rise, it goes no further than to the first entry that is farther than `dist` by itself.
-pub fn is_covered(row: &[Entry], is_near: bool, table: &RootTable, pos: u32, dist: u128) -> bool
-    requires nearing { IsTrue is_near → IsNonDecreasingBy (λ e. e.dist) row.now }
+pub fn is_covered(
+    row: &[Entry],
+    is_by_distance: bool,
+    table: &RootTable,
+    pos: u32,
+    dist: u128,
+) -> bool
+    requires rising { IsTrue is_by_distance → IsNonDecreasingBy (λ e. e.dist) row.now }
     requires position { pos ≤ length table.now }
     ensures { IsTrue result ↔ HasCover table.now pos dist row.now }
 {
     for entry in row {
-        if is_near && entry.dist.get() > dist {
+        if is_by_distance && entry.dist.get() > dist {
             return false;
         }
         if table.covers(*entry, pos, dist) {

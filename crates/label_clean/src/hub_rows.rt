@@ -49,7 +49,7 @@ impl HubRows {
     }
 
     /// Gathers the rows of the hubs at the positions from `first` up to but not including `next`, from 0, of the entries that all
-    /// lists have of them, in the place of the rows before. Entries of other hubs are left out. Each row comes by rising position;
+    /// lists have of them, instead of the rows before. Entries of other hubs are left out. Each row comes by rising position;
     /// where a position stands in it twice, nothing is said of its order. It costs the entries, which are sorted row by row, and
     /// the positions, and takes memory only where there are more rows, or longer ones, than before. The only error is that memory
     /// ran out, and then the rows are of no use.
@@ -87,7 +87,7 @@ impl HubRows {
 }
 
 /// Gathers so many rows, of the entries that all lists have of the hubs at so many positions from `first` on, each by rising
-/// position, in the place of the first rows. There are never fewer rows than before. The only error is that memory ran out.
+/// position, instead of the first rows. There are never fewer rows than before. The only error is that memory ran out.
 fn gather_rows(
     rows: &mut Vec<Vec<Entry>>,
     count: usize,

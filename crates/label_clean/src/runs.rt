@@ -38,7 +38,7 @@ impl RunList {
         }
     }
 
-    /// Lists the runs of its entries, in the place of what `runs` had. The only error is that memory ran out.
+    /// Lists the runs of its entries, instead of what `runs` had. The only error is that memory ran out.
     pub fn list_runs(&mut self) -> Result<(), AllocError>
         ensures entries { self.new.entries ≡ self.old.entries }
         ensures runs { OnOk result (HasItsRuns self.new) }
@@ -55,7 +55,7 @@ impl RunList {
     }
 }
 
-/// Cuts entries in runs, in the place of what `runs` had. The only error is that memory ran out.
+/// Cuts entries in runs, instead of what `runs` had. The only error is that memory ran out.
 fn cut_in_runs(entries: &[NodeEntry], runs: &mut Vec<Run>) -> Result<(), AllocError>
     ensures { OnOk result (AreRunsOf entries.now runs.new.items) }
 {

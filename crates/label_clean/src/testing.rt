@@ -6,10 +6,10 @@ ghost use Rattle.std.specs.Thread.{IsSync};
 ghost use Rattle.label_clean.specs.RawRows.{IsRawRow};
 ghost use Rattle.label_clean.specs.Needless.{IsNeedless};
 ghost use Rattle.label_clean.specs.Kept.{IsKept, IsKeptRow, AreKeptRows};
-ghost use Rattle.label_clean.specs.Tested.{AreNearRows, HoldsLeast};
+ghost use Rattle.label_clean.specs.Tested.{AreTestedRows, HoldsLeast};
 
 use crate::cover::is_covered;
-use crate::sorting::near_count;
+use crate::sorting::count_by_distance;
 use hub_index::{RootTable, RowList};
 use rank_table::Ranking;
 use std::alloc::{AllocError, Global};
@@ -17,36 +17,42 @@ use std::thread::{Threads, join};
 use walk_laws::Entry;
 
 /// Whether an entry of a node's row is needless, where the table has the distances of the node's row.
-fn is_needless(ranking: &Ranking, near: &RowList, table: &RootTable, entry: Entry) -> bool
-    requires near { AreNearRows ranking.now near.now }
+fn is_needless(ranking: &Ranking, tested: &RowList, table: &RootTable, entry: Entry) -> bool
+    requires tested { AreTestedRows ranking.now tested.now }
     requires size { length table.now ≡ length ranking.now }
     requires position { entry.pos < length ranking.now }
-    ensures { (v : ℕ) → HoldsLeast table.now (label_row near.now v) → IsTrue result ↔ IsNeedless ranking.now near.now v entry }
+    ensures { (v : ℕ) → HoldsLeast table.now (label_row tested.now v) → IsTrue result ↔ IsNeedless ranking.now tested.now v entry }
 {
     let hub = ranking.at(entry.pos);
-    let is_near = entry.pos < near_count(ranking.n());
-    is_covered(near.row(hub), is_near, table, entry.pos, entry.dist.get())
+    let is_by_distance = entry.pos < count_by_distance(ranking.n());
+    is_covered(
+        tested.row(hub),
+        is_by_distance,
+        table,
+        entry.pos,
+        entry.dist.get(),
+    )
 }
 
-/// Puts the entries of a node's row that are not needless in `kept`, in the place of what there was, where the table has the
+/// Puts the entries of a node's row that are not needless in `kept`, instead of what there was, where the table has the
 /// distances of the row. It answers whether these are all of them. The only error is that memory ran out.
 fn keep(
     ranking: &Ranking,
-    near: &RowList,
+    tested: &RowList,
     table: &RootTable,
     row: &[Entry],
     kept: &mut Vec<Entry>,
 ) -> Result<bool, AllocError>
-    requires near { AreNearRows ranking.now near.now }
+    requires tested { AreTestedRows ranking.now tested.now }
     requires size { length table.now ≡ length ranking.now }
     requires row { IsRawRow (length ranking.now) row.now }
-    ensures all { IfOk result (λ all. IsTrue all → (v : ℕ) → HoldsLeast table.now (label_row near.now v) → All (λ e. ¬ IsNeedless ranking.now near.now v e) row.now) }
-    ensures kept { OnOk result ((v : ℕ) → HoldsLeast table.now (label_row near.now v) → IsKept (IsNeedless ranking.now near.now v) row.now kept.new.items) }
+    ensures all { IfOk result (λ all. IsTrue all → (v : ℕ) → HoldsLeast table.now (label_row tested.now v) → All (λ e. ¬ IsNeedless ranking.now tested.now v e) row.now) }
+    ensures kept { OnOk result ((v : ℕ) → HoldsLeast table.now (label_row tested.now v) → IsKept (IsNeedless ranking.now tested.now v) row.now kept.new.items) }
 {
     kept.clear();
     let mut all = true;
     for entry in row {
-        if is_needless(ranking, near, table, *entry) {
+        if is_needless(ranking, tested, table, *entry) {
             all = false;
             continue;
         }
@@ -55,26 +61,26 @@ fn keep(
     Ok(all)
 }
 
-/// The near entries of the node `v`, a number from 1, that are not needless, or None where all of them stay: a row that
+/// The tested entries of the node `v`, a number from 1, that are not needless, or None where all of them stay: a row that
 /// stays as it is costs no memory. The table and the room may hold anything before. The only error is that memory ran out.
 fn kept_row(
     alloc: Global,
     ranking: &Ranking,
-    near: &RowList,
+    tested: &RowList,
     table: &mut RootTable,
     room: &mut Vec<Entry>,
     v: u32,
 ) -> Result<Option<Vec<Entry>>, AllocError>
-    requires near { AreNearRows ranking.now near.now }
+    requires tested { AreTestedRows ranking.now tested.now }
     requires size { length table.old ≡ length ranking.now }
     requires node { 1 ≤ v }
     requires node_within { v ≤ length ranking.now }
     ensures size { length table.new ≡ length table.old }
-    ensures kept { IfOk result (λ kept. IsKeptRow ranking.now near.now v kept) }
+    ensures kept { IfOk result (λ kept. IsKeptRow ranking.now tested.now v kept) }
 {
-    let row = near.row(v);
+    let row = tested.row(v);
     table.load(row);
-    if keep(ranking, near, table, row, room)? {
+    if keep(ranking, tested, table, row, room)? {
         return Ok(None);
     }
     let row = Vec::from_slice(alloc, room)?;
@@ -86,20 +92,20 @@ fn kept_row(
 fn test_in_turn(
     alloc: Global,
     ranking: &Ranking,
-    near: &RowList,
+    tested: &RowList,
     from: u32,
     to: u32,
 ) -> Result<Vec<Option<Vec<Entry>>>, AllocError>
-    requires near { AreNearRows ranking.now near.now }
+    requires tested { AreTestedRows ranking.now tested.now }
     requires rising { from ≤ to }
     requires within { to ≤ length ranking.now }
-    ensures { IfOk result (λ kept. AreKeptRows ranking.now near.now from to kept.items) }
+    ensures { IfOk result (λ kept. AreKeptRows ranking.now tested.now from to kept.items) }
 {
     let mut table = RootTable::new(alloc, ranking.n())?;
     let mut room = Vec::new(alloc);
     let mut kept = Vec::with_capacity(alloc, (to - from) as usize)?;
     for place in from..to {
-        let row = kept_row(alloc, ranking, near, &mut table, &mut room, place + 1)?;
+        let row = kept_row(alloc, ranking, tested, &mut table, &mut room, place + 1)?;
         kept.push(row)?;
     }
     Ok(kept)
@@ -127,39 +133,39 @@ fn halfway(rows: &RowList, from: u32, to: u32) -> u32
 }
 
 /// What is kept of the rows of the nodes after `from` up to `to`, tested in pieces of about equal numbers of entries, side
-/// by side: so many times they are cut in two, at most six. Each piece has a table of its own. The only error is that memory
+/// by side: so many times they are halved, at most six. Each piece has a table of its own. The only error is that memory
 /// ran out.
 #[cycle(halves)]
 pub fn test_rows<R: Threads + Sync>(
     rt: &R,
     alloc: Global,
     ranking: &Ranking,
-    near: &RowList,
-    cuts: u32,
+    tested: &RowList,
+    halvings: u32,
     from: u32,
     to: u32,
 ) -> Result<Vec<Option<Vec<Entry>>>, AllocError>
-    requires near { AreNearRows ranking.now near.now }
-    requires cuts { cuts ≤ 6 }
+    requires tested { AreTestedRows ranking.now tested.now }
+    requires halvings { halvings ≤ 6 }
     requires rising { from ≤ to }
     requires within { to ≤ length ranking.now }
-    ensures { IfOk result (λ kept. AreKeptRows ranking.now near.now from to kept.items) }
+    ensures { IfOk result (λ kept. AreKeptRows ranking.now tested.now from to kept.items) }
 {
-    if cuts == 0 {
-        return test_in_turn(alloc, ranking, near, from, to);
+    if halvings == 0 {
+        return test_in_turn(alloc, ranking, tested, from, to);
     }
-    let mid = halfway(near, from, to);
-    let below = cuts - 1;
+    let mid = halfway(tested, from, to);
+    let below = halvings - 1;
     let (first, second) = join(
         rt,
         || -> Result<Vec<Option<Vec<Entry>>>, AllocError>
-            requires { IsSync R.row × AreNearRows ranking.now near.now × (below ≤ 6) × (from ≤ mid) × (mid ≤ length ranking.now) }
-            ensures { IfOk result (λ kept. AreKeptRows ranking.entry.now near.entry.now from mid kept.items) }
-        { test_rows(rt, alloc, ranking, near, below, from, mid) },
+            requires { IsSync R.row × AreTestedRows ranking.now tested.now × (below ≤ 6) × (from ≤ mid) × (mid ≤ length ranking.now) }
+            ensures { IfOk result (λ kept. AreKeptRows ranking.entry.now tested.entry.now from mid kept.items) }
+        { test_rows(rt, alloc, ranking, tested, below, from, mid) },
         || -> Result<Vec<Option<Vec<Entry>>>, AllocError>
-            requires { IsSync R.row × AreNearRows ranking.now near.now × (below ≤ 6) × (mid ≤ to) × (to ≤ length ranking.now) }
-            ensures { IfOk result (λ kept. AreKeptRows ranking.entry.now near.entry.now mid to kept.items) }
-        { test_rows(rt, alloc, ranking, near, below, mid, to) },
+            requires { IsSync R.row × AreTestedRows ranking.now tested.now × (below ≤ 6) × (mid ≤ to) × (to ≤ length ranking.now) }
+            ensures { IfOk result (λ kept. AreKeptRows ranking.entry.now tested.entry.now mid to kept.items) }
+        { test_rows(rt, alloc, ranking, tested, below, mid, to) },
     );
     let mut kept = first?;
     let mut rest = second?;

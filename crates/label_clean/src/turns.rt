@@ -13,7 +13,7 @@ pub struct Turn {
     pub run: Run,
 }
 
-/// The runs of all lists, by position, which never falls, in the place of what `turns` had. The only error is that memory ran
+/// The runs of all lists, by position, which never falls, instead of what `turns` had. The only error is that memory ran
 /// out.
 pub fn list_turns(lists: &[RunList], turns: &mut Vec<Turn>) -> Result<(), AllocError>
     requires { All HasItsRuns lists.now }

@@ -4,6 +4,7 @@ pub mod CoveredRoots
 pub mod GrownRows
 pub mod OfferedNodes
 pub mod RelaxedArcs
+pub mod StartedTrees
 pub mod TreeCounts
 pub mod TreeRounds
 pub mod GrownPuts

@@ -102,10 +102,10 @@ module _ {C : Type 0} where
             omega (arith, same, weight, new.0.long, room)
       ]
 
-  -- at first only the root is reached, at distance 0
-  pub IsBounded-start : (heaviest n : ℕ) (nodes : List (Reach C)) → length nodes ≡ n + 1 → ((x d : ℕ) → HasDistance (reach_at nodes x) d → d ≡ 0) → IsBounded heaviest ((n + 1) * heaviest) nodes
+  -- at first what is reached leaves room for as many edges as there are nodes
+  pub IsBounded-start : (heaviest n total : ℕ) (nodes : List (Reach C)) → length nodes ≡ n + 1 → ((x d : ℕ) → HasDistance (reach_at nodes x) d → d + (n + 1) * heaviest ≤ total) → IsBounded heaviest total nodes
   unfolding IsBounded
-  IsBounded-start heaviest n nodes size start x d there =
+  IsBounded-start heaviest n total nodes size start x d there =
       let few : unsettled nodes * heaviest ≤ (n + 1) * heaviest = mul-le-mul_right heaviest (omega (arith, unsettled-le nodes, size)) in
       omega (arith, few, start x d there)
 

@@ -19,26 +19,19 @@ use Rattle.walk_laws.proofs.Walks.{HasWalk-none_to}
 use Rattle.frontier.specs.declared.reach.Found.{Found}
 use Rattle.frontier.specs.declared.reach.Reach.{Reach}
 use Rattle.frontier.specs.declared.reach.Reach.TheVariants.{Unreached, Queued}
-use Rattle.frontier.specs.Reaches.{reach_at, settled, with_offer}
+use Rattle.frontier.specs.Reaches.{reach_at, settled}
 use Rattle.hub_index.specs.RootDistances.{IsCover}
 use Rattle.hub_index.specs.Views.{IsFound, StandsIn}
 use Rattle.hub_index.proofs.FoundRows.{StandsIn-still}
 use Rattle.pruned_tree.specs.declared.bare.Bare.{Bare}
 use Rattle.pruned_tree.specs.Grown.{Gains, HoldsHigher}
 use Rattle.pruned_tree.specs.Loaded.{IsRootTable}
-use Rattle.pruned_tree.specs.Relaxed.{HasDistance, IsSettledAt, IsRelaxed}
+use Rattle.pruned_tree.specs.Relaxed.{HasDistance, IsRelaxed}
 use Rattle.pruned_tree.proofs.CompleteTrees.{IsComplete, next_is_least, IsComplete-over, IsComplete-put}
 use Rattle.pruned_tree.proofs.CoveredRoots.{no_cover, cover_found}
 use Rattle.pruned_tree.proofs.GrownRows.{IsGrowth, not_gained, queued_gains_none, IsGrowth-settled, IsGrowth-same, IsGrowth-put, IsGrowth-relaxed, put_gains}
-use Rattle.pruned_tree.proofs.OfferedNodes.{has_distance, nothing_reached, offer_settled, offer_came, offer_lowered, queued_distance, settle_here}
-
--- what counts of two offers at one distance
-abbrev pub first_come : Bare → Bare → Bare
-first_come a b = a
-
--- the frontier as it is at first: the root alone is queued
-pub started : (k root : ℕ) (cleared now : List (Reach Bare)) → cleared ≡ replicate k Unreached → now ≡ with_offer first_come cleared root (record { dist = 0; carried = record {} }) → now ≡ with_offer first_come (replicate k Unreached) root (record { dist = 0; carried = record {} })
-started k root cleared now none offered = offered ∙ ap (λ ns. with_offer first_come ns root (record { dist = 0; carried = record {} })) none
+use Rattle.pruned_tree.proofs.OfferedNodes.{queued_distance, settle_here}
+use Rattle.pruned_tree.proofs.StartedTrees.{started_at, only_start, none_settled, start_reached}
 
 -- the position of the node at a place is that place
 pub root_position : (at : List ℕ) (h p : ℕ) → IsRanking at → slice_get at p ≡ Some h → position_of at h ≡ p
@@ -76,37 +69,23 @@ module _ (n : ℕ) (edges : List Edge) (at : List ℕ) (h p : ℕ) (graph : IsGr
   ends x y w joined = let edge = IsEdge-joined n edges x y w graph.edge joined in (edge.from_one, edge.to_one)
 
   -- at first the root alone is queued, at distance 0
-  module _ (nodes : List (Reach Bare)) (now : nodes ≡ with_offer first_come (replicate (n + 1) Unreached) h (record { dist = 0; carried = record {} })) (inside : h < length (replicate {A = Reach Bare} (n + 1) Unreached)) where
-    pub only_root : (x d : ℕ) → HasDistance (reach_at nodes x) d → (x ≡ h) × (d ≡ 0)
-    only_root x d there = elim (offer_came first_come (replicate {A = Reach Bare} (n + 1) Unreached) h (record { dist = 0; carried = record {} }) inside x d (subst (λ ns. HasDistance (reach_at ns x) d) now there)) [
-      | inl old ↦ absurd (nothing_reached Bare (n + 1) x d old)
-      | inr new ↦ (new.0, sym new.1)
-    ]
-
-    none_settled : (x d : ℕ) → IsSettledAt (reach_at nodes x) d → ⊥
-    none_settled x d done =
-        let was = (offer_settled first_come (replicate {A = Reach Bare} (n + 1) Unreached) h (record { dist = 0; carried = record {} }) inside x d).0 (subst (λ ns. IsSettledAt (reach_at ns x) d) now done) in
-        nothing_reached Bare (n + 1) x d (has_distance (reach_at (replicate {A = Reach Bare} (n + 1) Unreached) x) d was)
-
+  module _ (nodes : List (Reach Bare)) (now : nodes ≡ started_at (n + 1) h 0) (inside : h < length (replicate {A = Reach Bare} (n + 1) Unreached)) where
     pub IsGrowth-start : IsGrowth (Joined edges) at h p before nodes before
     IsGrowth-start = record {
       one = λ x from_one. inl refl;
-      from_one = λ x d there. let is = only_root x d there in omega (arith, is.0, (root_node at h p ranking root).0);
+      from_one = λ x d there. let is = only_start (n + 1) h 0 nodes now inside x d there in omega (arith, is.0, (root_node at h p ranking root).0);
       walk = λ x d there.
-          let is = only_root x d there in
+          let is = only_start (n + 1) h 0 nodes now inside x d there in
           subst (HasWalk (Joined edges) h x) (sym is.1) (HasWalk-none_to (Joined edges) h x (sym is.0));
-      ranked = λ x d there. let is = only_root x d there in let place = ap (position_of at) is.0 ∙ root_position at h p ranking root in omega (arith, place);
-      way = λ x d there far. absurd (omega (arith, (only_root x d there).1, far));
+      ranked = λ x d there. let is = only_start (n + 1) h 0 nodes now inside x d there in let place = ap (position_of at) is.0 ∙ root_position at h p ranking root in omega (arith, place);
+      way = λ x d there far. absurd (omega (arith, (only_start (n + 1) h 0 nodes now inside x d there).1, far));
     }
 
     pub IsComplete-start : IsComplete (Joined edges) at h p before rows nodes before
     IsComplete-start = record {
-      root =
-          let low = offer_lowered first_come (replicate {A = Reach Bare} (n + 1) Unreached) h (record { dist = 0; carried = record {} }) inside in
-          let there : HasDistance (reach_at nodes h) low.0 = subst (λ ns. HasDistance (reach_at ns h) low.0) (sym now) low.1 in
-          subst (HasDistance (reach_at nodes h)) ((only_root h low.0 there).1) there;
-      relaxed = λ y d done. absurd (none_settled y d done);
-      canonical = λ x d c done. absurd (none_settled x d done);
+      root = start_reached (n + 1) h 0 nodes now inside;
+      relaxed = λ y d done. absurd (none_settled (n + 1) h 0 nodes now inside y d done);
+      canonical = λ x d c done. absurd (none_settled (n + 1) h 0 nodes now inside x d done);
       exact = λ x d from_one gained. absurd (not_gained (Joined edges) at h p before before x d refl gained);
     }
 

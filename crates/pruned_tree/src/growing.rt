@@ -94,9 +94,9 @@ fn grow_from<R: RowView>(
     Ok(count)
 }
 
-/// Offers the walks along the arcs of a node that is `dist` from the root at the position `p` to the nodes at their ends
-/// that don't rank above the root. The only error is that memory ran out.
-fn relax_row(
+/// Offers the walks along the arcs of a node that is `dist` from the root at the position `p`, which counts from 0, to the
+/// nodes at their ends that don't rank above the root. The only error is that memory ran out.
+pub fn relax_row(
     frontier: &mut Frontier<Bare>,
     row: ArcRow<'_>,
     ranking: &Ranking,

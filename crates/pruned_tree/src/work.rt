@@ -10,9 +10,12 @@ use std::marker::Model;
 /// the number of nodes.
 #[derive(Debug, Drop)]
 pub struct Work {
-    pub(crate) n: u32,
-    pub(crate) frontier: Frontier<Bare>,
-    pub(crate) table: RootTable,
+    /// How many nodes there are.
+    pub n: u32,
+    /// The nodes that a tree has reached, whatever the last one left there.
+    pub frontier: Frontier<Bare>,
+    /// The distances of the hubs of a root, whatever the last one left there.
+    pub table: RootTable,
 }
 
 impl Model for Work {

@@ -7,15 +7,15 @@ ghost use Rattle.chl_answers.specs.Commands.{IsFileOf, build_stage};
 ghost use Rattle.chl_words.specs.Asking.{AreWithinLimits};
 ghost use Rattle.chl_words.specs.declared.asked.Version.TheVariants.{One, Two};
 
-use crate::labelling::{labelling, stop_at};
+use crate::labelling::{labelling, unbuilt};
 use chl_inputs::{Stop, read_graph, read_order};
+use chl_outputs::traced_file;
 use chl_words::{By, Construction, Name, Version};
 use desk_io::{Desk, Gate};
-use entry_vias::{TracedIndex, vias_of};
 use gll_build::build_gll_split;
 use hub_index::BuildFault;
 use hybrid_build::build_hybrid_split;
-use index_file::{Pieces, encode_by, encode_via_by};
+use index_file::{Pieces, encode_by};
 use rank_table::Ranking;
 use std::alloc::Global;
 use std::sync::Wait;
@@ -39,7 +39,7 @@ pub fn build_output<R: Threads + Wait + Sync, D: Desk, G: Gate + Sync>(
     let graph = read_graph(alloc, graph.text(), desk)?;
     let ranking = read_order(alloc, order.text(), graph.n(), desk)?;
     let made = file_bytes(rt, alloc, &graph, &ranking, version, construction, gate);
-    let bytes = made.map_err(stop_at)?;
+    let bytes = made.map_err(unbuilt)?;
     Ok(bytes)
 }
 
@@ -81,9 +81,7 @@ fn traced_bytes<R: Threads + Wait + Sync, G: Gate + Sync>(
     ensures fault { IfErr result (TellsFault (Joined graph.now.edges) ranking.now) }
 {
     let index = labelling(rt, alloc, graph, ranking, construction, gate)?;
-    let vias = vias_of(rt, alloc, graph, &index, construction.workers)?;
-    let traced = TracedIndex::new(index, vias);
-    Ok(encode_via_by(rt, alloc, &traced, construction.workers)?)
+    Ok(traced_file(rt, alloc, graph, index, construction.workers)?)
 }
 
 /// The bytes of the file of version 1. An index by supersteps, whatever they begin with, is written out of the rows that the build

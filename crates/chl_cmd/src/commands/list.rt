@@ -1,7 +1,7 @@
 ghost use Rattle.chl_inputs.specs.Stages.{Conforms};
 ghost use Rattle.chl_answers.specs.Commands.{list_stage};
 
-use crate::labelling::{labelling, stop_at};
+use crate::labelling::{labelling, unbuilt};
 use chl_inputs::{Stop, read_graph, read_order};
 use chl_lines::row_lines;
 use chl_outputs::text_output;
@@ -30,6 +30,6 @@ pub fn list_output<R: Threads + Wait + Sync, D: Desk>(
     };
     let graph = read_graph(alloc, graph.text(), desk)?;
     let ranking = read_order(alloc, order.text(), graph.n(), desk)?;
-    let index = labelling(rt, alloc, &graph, &ranking, alone, &FreeGate).map_err(stop_at)?;
+    let index = labelling(rt, alloc, &graph, &ranking, alone, &FreeGate).map_err(unbuilt)?;
     text_output(alloc, row_lines(alloc, &index))
 }

@@ -2,7 +2,7 @@ ghost use Rattle.chl_inputs.specs.Stages.{Conforms};
 ghost use Rattle.chl_answers.specs.Commands.{solve_stage};
 ghost use Rattle.chl_words.specs.Asking.{AreWithinLimits};
 
-use crate::labelling::{labelling, stop_at};
+use crate::labelling::{labelling, unbuilt};
 use chl_inputs::{Stop, read_graph, read_order, read_pairs};
 use chl_outputs::{replies_text, text_output};
 use chl_words::{Construction, Name};
@@ -30,6 +30,6 @@ pub fn solve_output<R: Threads + Wait + Sync, D: Desk, G: Gate + Sync>(
     let graph = read_graph(alloc, graph.text(), desk)?;
     let ranking = read_order(alloc, order.text(), graph.n(), desk)?;
     let pairs = read_pairs(alloc, pairs.text(), graph.n(), desk)?;
-    let index = labelling(rt, alloc, &graph, &ranking, construction, gate).map_err(stop_at)?;
+    let index = labelling(rt, alloc, &graph, &ranking, construction, gate).map_err(unbuilt)?;
     text_output(alloc, replies_text(rt, alloc, &index, &pairs))
 }

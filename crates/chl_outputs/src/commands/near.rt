@@ -3,7 +3,7 @@ ghost use Rattle.near_points.specs.declared.hit.Hit.{Hit as AnyHit};
 ghost use Rattle.order_text.specs.OrderText.{AreWithin};
 ghost use Rattle.chl_inputs.specs.Stages.{Conforms};
 ghost use Rattle.chl_lines.specs.PrintedHits.{near_lines as lines_of_hits};
-ghost use Rattle.chl_answers.specs.Commands.{AreNearest, near_stage};
+ghost use Rattle.chl_answers.specs.Commands.{AreNearest, hits_stage, near_stage};
 
 use super::text::text_output;
 use chl_inputs::{Stop, read_index, read_points, read_sources};
@@ -31,9 +31,31 @@ pub fn near_output<R: Threads + Sync, D: Desk>(
     ensures { Conforms D.Desk (near_stage index.now points.now from.now k) result desk.old desk.new }
 {
     let stored = read_index(alloc, index.text(), desk)?;
-    let index = stored.index();
-    let points = read_points(alloc, points.text(), index.n(), desk)?;
-    let sources = read_sources(alloc, from.text(), index.n(), desk)?;
+    hits_output(
+        rt,
+        alloc,
+        stored.index(),
+        points.text(),
+        from.text(),
+        k,
+        desk,
+    )
+}
+
+/// The same of an index.
+fn hits_output<R: Threads + Sync, D: Desk>(
+    rt: &R,
+    alloc: Global,
+    index: &Index,
+    points: &str,
+    from: &str,
+    k: u32,
+    desk: &mut D,
+) -> Result<Pieces, Stop>
+    ensures { Conforms D.Desk (hits_stage index.now points.now from.now k) result desk.old desk.new }
+{
+    let points = read_points(alloc, points, index.n(), desk)?;
+    let sources = read_sources(alloc, from, index.n(), desk)?;
     text_output(
         alloc,
         hits_text(rt, alloc, index, points.list(), sources.list(), k),

@@ -31,6 +31,9 @@ returns-in-Audit g c = rw c.in-Audit.is c.audit_output.ensures
 pub returns-in-Upgrade : goal.returns-in-Upgrade
 returns-in-Upgrade g c = rw c.in-Upgrade.is c.upgrade_output.ensures
 
+pub returns-in-Open : goal.returns-in-Open
+returns-in-Open g c = rw c.in-Open.is c.open_output.ensures
+
 pub returns-in-Degree : goal.returns-in-Degree
 returns-in-Degree g c = rw c.in-Degree.is c.degree_output.ensures
 

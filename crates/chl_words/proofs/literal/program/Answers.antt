@@ -31,6 +31,7 @@ returns c =
     let seven = c.with_command-program-7.ensures _ literal.near six c.near.ensures in
     let eight = c.with_command-program-8.ensures _ literal.audit seven c.files-5.ensures in
     let nine = c.with_command-program-9.ensures _ literal.upgrade eight c.files-6.ensures in
-    let ten = c.with_command-program-10.ensures _ literal.degree nine c.files-7.ensures in
-    let eleven = c.with_command-program-11.ensures _ literal.rank ten c.files-8.ensures in
-    c.with_command.ensures _ literal.grid eleven c.grid.ensures
+    let ten = c.with_command-program-10.ensures _ literal.opening nine c.opening.ensures in
+    let eleven = c.with_command-program-11.ensures _ literal.degree ten c.files-7.ensures in
+    let twelve = c.with_command-program-12.ensures _ literal.rank eleven c.files-8.ensures in
+    c.with_command.ensures _ literal.grid twelve c.grid.ensures

@@ -1,5 +1,3 @@
-use Rattle.std.proofs.Common.{◌≡◌, ◌<◌, arith}
-use Rattle.gll_superstep.proofs.FirstSeats.{goes_on}
 use Rattle.gll_superstep.proofs.JoinedOutputs.{is_at}
 use Rattle.gll_superstep.proofs.superstep.superstep_over.Goals as goal
 

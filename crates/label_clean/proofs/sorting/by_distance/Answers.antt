@@ -5,8 +5,8 @@ use Rattle.walk_laws.specs.declared.entry.Entry.{Entry}
 use Rattle.walk_laws.specs.Labelling.{label_row}
 use Rattle.walk_laws.specs.Ranking.{position_of}
 use Rattle.label_clean.specs.RawRows.{HasEachOnce}
-use Rattle.label_clean.specs.Tested.{HasEntriesOf, near_count}
-use Rattle.label_clean.proofs.NearRows.{dist_of}
+use Rattle.label_clean.specs.Tested.{HasEntriesOf, count_by_distance}
+use Rattle.label_clean.proofs.TestedRows.{dist_of}
 use Rattle.label_clean.proofs.RowItems.{items_of, row_at, each_changed, take_filled}
 use Rattle.label_clean.proofs.sorting.by_distance.Given as given
 use Rattle.label_clean.proofs.sorting.by_distance.Goals as goal
@@ -24,7 +24,7 @@ par_for_each_mut-requires-after_bounds g c κs within = λ i p lt is.
 
 -- what each row is like afterwards
 abbrev Sorted : List ℕ → ℕ → List Entry → List Entry → Type 0
-Sorted at v before after = HasEntriesOf before after × (position_of at v < near_count (length at) → IsNonDecreasingBy dist_of after)
+Sorted at v before after = HasEntriesOf before after × (position_of at v < count_by_distance (length at) → IsNonDecreasingBy dist_of after)
 
 each : (g : given.Over) (c : After-from_rows g) → (v : ℕ) → 1 ≤ v → v ≤ length c.args.rows → Sorted c.args.ranking.now v (label_row c.args.rows v) (label_row c.from_rows.result v)
 each g c v from_one up_to_n =
@@ -43,5 +43,5 @@ each g c v from_one up_to_n =
 pub returns-clause-rows : goal.returns-clause-rows
 returns-clause-rows g c = λ v from_one up_to_n. (each g (goal.at.returns-clause-rows g c).After-from_rows v from_one up_to_n).0
 
-pub returns-clause-nearing : goal.returns-clause-nearing
-returns-clause-nearing g c = λ v from_one up_to_n. (each g (goal.at.returns-clause-nearing g c).After-from_rows v from_one up_to_n).1
+pub returns-clause-rising : goal.returns-clause-rising
+returns-clause-rising g c = λ v from_one up_to_n. (each g (goal.at.returns-clause-rising g c).After-from_rows v from_one up_to_n).1

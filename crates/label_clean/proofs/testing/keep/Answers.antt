@@ -8,14 +8,14 @@ use Rattle.label_clean.proofs.testing.keep.Goals as goal
 
 pub loop-entry-init : goal.loop-entry-init
 loop-entry-init c = λ v held.
-    let P = IsNeedless c.args.ranking.now c.args.near.now v in (
+    let P = IsNeedless c.args.ranking.now c.args.tested.now v in (
       subst (IsKept P []) (sym c.clear.ensures.items) (IsKept-none P),
       λ t k d lt. absurd (omega (arith, lt)),
     )
 
 pub loop-entry-preserved-then-is_needless : goal.loop-entry-preserved-then-is_needless
 loop-entry-preserved-then-is_needless c = λ v held.
-    let P = IsNeedless c.args.ranking.now c.args.near.now v in (
+    let P = IsNeedless c.args.ranking.now c.args.tested.now v in (
       IsKept-without P c.args.row.now c.loop-entry.kept.items c.loop-entry.entry-index c.entry-item.result c.entry-item.is c.loop-entry-test.true (c.loop-entry.invariant v held).0
           ((c.is_needless.ensures v held).0 c.if-is_needless.true),
       λ t. let none : IsTrue false = t in absurd cc,
@@ -23,7 +23,7 @@ loop-entry-preserved-then-is_needless c = λ v held.
 
 pub loop-entry-preserved : goal.loop-entry-preserved
 loop-entry-preserved c = λ v held.
-    let P = IsNeedless c.args.ranking.now c.args.near.now v in
+    let P = IsNeedless c.args.ranking.now c.args.tested.now v in
     let i = c.loop-entry.entry-index in
     let x = c.entry-item.result in
     let good : P x → ⊥ =
@@ -33,4 +33,4 @@ loop-entry-preserved c = λ v held.
     )
 
 pub returns-clause-all : goal.returns-clause-all
-returns-clause-all c = λ t v held. All-whole (λ e. IsNeedless c.args.ranking.now c.args.near.now v e → ⊥) c.args.row.now c.loop-entry.entry-index c.loop-entry-test.false ((c.loop-entry.invariant v held).1 t)
+returns-clause-all c = λ t v held. All-whole (λ e. IsNeedless c.args.ranking.now c.args.tested.now v e → ⊥) c.args.row.now c.loop-entry.entry-index c.loop-entry-test.false ((c.loop-entry.invariant v held).1 t)

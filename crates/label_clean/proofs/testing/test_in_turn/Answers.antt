@@ -7,6 +7,6 @@ pub loop-place-preserved : goal.loop-place-preserved
 loop-place-preserved c = record {
   table = c.kept_row.ensures.size ∙ c.loop-place.invariant.table;
   kept =
-      subst (AreKeptRows c.args.ranking.now c.args.near.now c.args.from (c.loop-place.place + 1)) (sym c.in_ok-push.ensures.items)
-      (AreKeptRows-push c.args.ranking.now c.args.near.now c.args.from c.loop-place.place c.loop-place.kept.items c.in_ok-row.row c.loop-place.invariant.kept c.in_ok-row.ensures.kept);
+      subst (AreKeptRows c.args.ranking.now c.args.tested.now c.args.from (c.loop-place.place + 1)) (sym c.in_ok-push.ensures.items)
+      (AreKeptRows-push c.args.ranking.now c.args.tested.now c.args.from c.loop-place.place c.loop-place.kept.items c.in_ok-row.row c.loop-place.invariant.kept c.in_ok-row.ensures.kept);
 }

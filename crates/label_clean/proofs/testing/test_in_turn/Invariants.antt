@@ -6,5 +6,5 @@ use Rattle.label_clean.proofs.testing.test_in_turn.Given as goal
 abbrev pub invariant-loop-place : goal.invariant-loop-place
 invariant-loop-place l = record {
   table : length l.table ≡ length l.ranking;
-  kept : AreKeptRows l.ranking l.near l.from l.place l.kept.items;
+  kept : AreKeptRows l.ranking l.tested l.from l.place l.kept.items;
 }

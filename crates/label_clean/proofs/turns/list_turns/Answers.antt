@@ -28,7 +28,7 @@ returns c =
     let was = c.loop-place.turns.items in
     let now = c.sort_unstable_by_key.new.self.items in
     record {
-      cut = was;
+      pieces = was;
       whole = c.loop-place.invariant.whole ∙ ap all_entries (take_all c.loop-place.place lists (omega (arith, c.loop-place-test.false)));
       moved = c.sort_unstable_by_key.ensures.permutation;
       each = All-permutation (IsTurnOf lists) was now c.sort_unstable_by_key.ensures.permutation c.loop-place.invariant.each;

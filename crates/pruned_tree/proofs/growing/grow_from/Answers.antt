@@ -10,7 +10,7 @@ use Rattle.walk_laws.specs.Joined.{Joined}
 use Rattle.walk_laws.specs.Labelling.{EntryFits}
 use Rattle.frontier.specs.declared.reach.Reach.{Reach}
 use Rattle.frontier.specs.declared.reach.Reach.TheVariants.{Unreached}
-use Rattle.frontier.specs.Reaches.{settled, with_offer}
+use Rattle.frontier.specs.Reaches.{settled}
 use Rattle.hub_index.specs.declared.row_view.Offer.TheVariants.{Put}
 use Rattle.hub_index.specs.RootDistances.{IsCover}
 use Rattle.hub_index.specs.Views.{IsFound}
@@ -22,15 +22,16 @@ use Rattle.pruned_tree.proofs.CompleteTrees.{IsComplete, all_gained}
 use Rattle.pruned_tree.proofs.GrownRows.{IsGrowth, IsPruned-from_growth}
 use Rattle.pruned_tree.proofs.OfferedNodes.{node_inside, queued_distance}
 use Rattle.walk_laws.proofs.JoinedEdges.{arcs_of_row, fits_96}
+use Rattle.pruned_tree.proofs.StartedTrees.{started_at, started, only_start}
 use Rattle.pruned_tree.proofs.TreeCounts.{unsettled, unsettled-le, unsettled-settled, unsettled-same, IsBounded, IsBounded-start, IsBounded-settled, IsBounded-relaxed, room_of_next, entries-put, entries-kept}
-use Rattle.pruned_tree.proofs.TreeRounds.{first_come, started, same_at_all, weights_positive, only_root, IsGrowth-start, IsComplete-start, offer_fits, StillStand-found, fits_by, root_position, none_yet, IsGrowth-round_over, IsComplete-round_over, IsGrowth-round_put, IsGrowth-round, IsComplete-round}
+use Rattle.pruned_tree.proofs.TreeRounds.{same_at_all, weights_positive, IsGrowth-start, IsComplete-start, offer_fits, StillStand-found, fits_by, root_position, none_yet, IsGrowth-round_over, IsComplete-round_over, IsGrowth-round_put, IsGrowth-round, IsComplete-round}
 use Rattle.pruned_tree.proofs.growing.grow_from.Given as given
 use Rattle.pruned_tree.proofs.growing.grow_from.Goals as goal
 use Rattle.pruned_tree.proofs.growing.grow_from.Goals.{In_ok-offer, In-Some, In-Put}
 
 -- the frontier as it is at first: the root alone is queued
-first_nodes : (g : given.Over) (c : In_ok-offer g) → c.offer.new.self ≡ with_offer first_come (replicate (c.args.graph.now.n + 1) Unreached) c.at.result (record { dist = 0; carried = record {} })
-first_nodes g c = started (c.args.graph.now.n + 1) c.at.result c.clear.new.self c.offer.new.self (c.clear.ensures ∙ ap (λ k. replicate {A = Reach Bare} k Unreached) c.requires.nodes) c.in_ok-offer.ensures.ok
+first_nodes : (g : given.Over) (c : In_ok-offer g) → c.offer.new.self ≡ started_at (c.args.graph.now.n + 1) c.at.result 0
+first_nodes g c = started (c.args.graph.now.n + 1) c.at.result 0 c.clear.new.self c.offer.new.self (c.clear.ensures ∙ ap (λ k. replicate {A = Reach Bare} k Unreached) c.requires.nodes) c.in_ok-offer.ensures.ok
 
 root_inside : (g : given.Over) (c : In_ok-offer g) → c.at.result < length (replicate {A = Reach Bare} (c.args.graph.now.n + 1) Unreached)
 root_inside g c = omega (arith, length-replicate {A = Reach Bare} (c.args.graph.now.n + 1) Unreached, c.at.ensures.within, c.requires.ranked)
@@ -42,16 +43,17 @@ pub loop-v-init : goal.loop-v-init
 loop-v-init g c =
     let size = first_size g c in
     let same : (h : ℕ) → slice_get c.args.ranking.now c.args.p ≡ Some h → c.at.result ≡ h = λ h root. let both : Some c.at.result ≡ Some h = sym c.at.ensures.value ∙ root in cc in
-    let now : (h : ℕ) → c.at.result ≡ h → c.offer.new.self ≡ with_offer first_come (replicate (c.args.graph.now.n + 1) Unreached) h (record { dist = 0; carried = record {} }) =
-    λ h is. first_nodes g c ∙ ap (λ x. with_offer first_come (replicate {A = Reach Bare} (c.args.graph.now.n + 1) Unreached) x (record { dist = 0; carried = record {} })) is in
+    let now : (h : ℕ) → c.at.result ≡ h → c.offer.new.self ≡ started_at (c.args.graph.now.n + 1) h 0 =
+    λ h is. first_nodes g c ∙ ap (λ x. started_at (c.args.graph.now.n + 1) x 0) is in
     let inside : (h : ℕ) → c.at.result ≡ h → h < length (replicate {A = Reach Bare} (c.args.graph.now.n + 1) Unreached) = λ h is. subst (λ x. x < length (replicate {A = Reach Bare} (c.args.graph.now.n + 1) Unreached)) is (root_inside g c) in
     record {
       edges = c.requires.edges;
       order = c.requires.order;
       kept = refl;
       size = size;
-      bounded = IsBounded-start (greatest_weight c.args.graph.now.edges) c.args.graph.now.n c.offer.new.self size (λ x d there.
-          (only_root c.args.graph.now.n c.args.graph.now.edges c.args.ranking.now c.at.result c.args.p c.requires.graph c.requires.ranked c.requires.ranking c.at.ensures.value (g.R.RowView.puts c.args.view.now) (g.R.RowView.seen c.args.view.now) c.offer.new.self (first_nodes g c) (root_inside g c) x d there).1);
+      bounded = IsBounded-start (greatest_weight c.args.graph.now.edges) c.args.graph.now.n _ c.offer.new.self size (λ x d there.
+          let is = (only_start (c.args.graph.now.n + 1) c.at.result 0 c.offer.new.self (first_nodes g c) (root_inside g c) x d there).1 in
+          omega (arith, is));
       growth = λ h root. IsGrowth-start c.args.graph.now.n c.args.graph.now.edges c.args.ranking.now h c.args.p c.requires.graph c.requires.ranked c.requires.ranking root (g.R.RowView.puts c.args.view.now) (g.R.RowView.seen c.args.view.now) c.offer.new.self (now h (same h root)) (inside h (same h root));
       complete = λ h root. IsComplete-start c.args.graph.now.n c.args.graph.now.edges c.args.ranking.now h c.args.p c.requires.graph c.requires.ranked c.requires.ranking root (g.R.RowView.puts c.args.view.now) (g.R.RowView.seen c.args.view.now) c.offer.new.self (now h (same h root)) (inside h (same h root));
       seen = λ x e from_one there. there;

@@ -2,8 +2,8 @@ use Rattle.walk_laws.specs.Joined.{Joined}
 use Rattle.walk_laws.specs.Overflow.{Overflows}
 use Rattle.chl_answers.specs.Commands.{IsFileOf}
 use Rattle.chl_inputs.proofs.StagesInTurn.{goes_reads, goes_reads_stop}
-use Rattle.chl_cmd.proofs.Built.{goes_fitting, goes_unbuilt, of_built}
-use Rattle.chl_cmd.proofs.FileAnswers.{goes_filed}
+use Rattle.chl_outputs.proofs.Built.{goes_fitting, goes_unbuilt, of_built}
+use Rattle.chl_outputs.proofs.FileAnswers.{goes_filed}
 use Rattle.chl_outputs.proofs.TextAnswers.{handed_on}
 use Rattle.chl_cmd.proofs.commands.build.build_output.Goals as goal
 

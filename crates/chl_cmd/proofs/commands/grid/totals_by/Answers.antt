@@ -2,7 +2,7 @@ use Rattle.std.proofs.Common.{ap₂}
 use Rattle.hub_index.specs.HubIndex.{HubIndex}
 use Rattle.walk_laws.specs.Joined.{Joined}
 use Rattle.walk_laws.specs.Labelling.{IsChl}
-use Rattle.chl_cmd.proofs.Built.{of_built}
+use Rattle.chl_outputs.proofs.Built.{of_built}
 use Rattle.chl_cmd.proofs.commands.grid.totals_by.Goals as goal
 
 pub labelling-requires-clause-size : goal.labelling-requires-clause-size

@@ -7,7 +7,7 @@ use Rattle.walk_laws.specs.Overflow.{Overflows}
 use Rattle.chl_inputs.proofs.StagesInTurn.{goes_reads, goes_reads_stop}
 use Rattle.chl_lines.specs.PrintedRows.{lines_from}
 use Rattle.chl_outputs.proofs.TextAnswers.{goes_text, handed_on}
-use Rattle.chl_cmd.proofs.Built.{goes_fitting, goes_unbuilt, of_built}
+use Rattle.chl_outputs.proofs.Built.{goes_fitting, goes_unbuilt, of_built}
 use Rattle.chl_cmd.proofs.commands.list.list_output.Goals as goal
 
 pub returns-in_err-graph : goal.returns-in_err-graph

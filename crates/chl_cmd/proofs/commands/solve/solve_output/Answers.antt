@@ -9,7 +9,7 @@ use Rattle.chl_answers.specs.Commands.{AreAnswers}
 use Rattle.chl_answers.proofs.Decisions.{answers_of_rows}
 use Rattle.chl_inputs.proofs.StagesInTurn.{goes_reads, goes_reads_stop}
 use Rattle.chl_outputs.proofs.TextAnswers.{goes_text, handed_on}
-use Rattle.chl_cmd.proofs.Built.{goes_fitting, goes_unbuilt, of_built}
+use Rattle.chl_outputs.proofs.Built.{goes_fitting, goes_unbuilt, of_built}
 use Rattle.chl_cmd.proofs.commands.solve.solve_output.Goals as goal
 
 pub returns-in_err-graph : goal.returns-in_err-graph

@@ -6,5 +6,5 @@ pub returns : goal.returns
 returns c = λ values is.
     let low : c.args.self.now.n < 2 ^ 64 = omega arith in
     pair_taken c.args.self.now.n c.args._counts.now values c.args.numbers.now low is c.requires.numbers
-    (rw c.from-n.ensures at (sym c.is_outside_of.ensures ∙ c.if-is_outside_of.false))
-    (rw c.from-n.ensures at (sym c.is_outside_of-else-is_outside_of.ensures ∙ c.if-is_outside_of-2.false))
+    (sym c.is_outside_of.ensures ∙ c.if-is_outside_of.false)
+    (sym c.is_outside_of-else-is_outside_of.ensures ∙ c.if-is_outside_of-2.false)

@@ -1,0 +1,4 @@
+pub mod KeptEntries
+pub mod YesterdaysRows
+pub mod OpenedRows
+pub mod LongerGraphs

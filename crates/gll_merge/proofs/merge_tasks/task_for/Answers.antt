@@ -1,4 +1,0 @@
-use Rattle.gll_merge.proofs.merge_tasks.task_for.Goals as goal
-
-pub invariant_of-result : goal.invariant_of-result
-invariant_of-result g c = (c.requires.within, c.requires.shard)

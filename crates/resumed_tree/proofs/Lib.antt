@@ -1,0 +1,7 @@
+pub mod Stands
+pub mod TakenEntries
+pub mod Starts
+pub mod KeptRows
+pub mod Searches
+pub mod SpreadEntries
+pub mod WholeTrees
