@@ -6,7 +6,6 @@ ghost use Rattle.hub_index.specs.Faults.{TellsFault};
 ghost use Rattle.label_clean.specs.Below.{IsChlBelow};
 ghost use Rattle.gll_superstep.specs.Workers.{IsFirstSeat};
 
-use crate::scheduler::LastTable;
 use crate::workers::run_workers;
 use desk_io::Gate;
 use gll_table::{Build, BuildContext, Table};
@@ -203,7 +202,7 @@ fn steps<B: Build + Send + Sync, R: Threads + Wait + Sync, G: Gate + Sync>(
     );
     let table = Table::of_rows(&context, &global, first)?;
     drop(global);
-    let LastTable { table } = run_workers(rt, &context, table, seat, gate)?;
+    let table = run_workers(rt, &context, table, seat, gate)?.into_table();
     let next = table.first();
     Ok((table.into_rows(job.alloc)?, next))
 }

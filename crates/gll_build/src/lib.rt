@@ -9,6 +9,7 @@
 #![tactic(auto)]
 
 mod build;
+mod next_stage;
 mod scheduler;
 mod workers;
 

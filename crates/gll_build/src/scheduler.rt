@@ -1,16 +1,17 @@
 //! What is to be done in a build, and what is done.
-ghost use Rattle.std.specs.Prelude.{◌≡◌, ◌<◌, ◌≤◌, ◌++◌, ◌∷◌, [], IfErr, IfOk, Ok, false, length, true};
+ghost use Rattle.std.specs.Prelude.{◌≡◌, ◌<◌, ◌≤◌, ◌++◌, ◌∷◌, [], All, IfErr, IfNone, IfOk, IfSome, None, Ok, length};
 ghost use Rattle.gll_merge.specs.Merging.{OneShard, are_filled, with_shard};
 ghost use Rattle.gll_superstep.specs.Workers.{IsFirstSeat};
+ghost use Rattle.gll_table.specs.Tasks.{IsTakenFrom};
 
-use gll_merge::{MergeTask, Merged, Merging, begin_merging, merged_table};
-use gll_superstep::{
-    EndedSuperstep, GrowTask, GrowTasks, Grown, Outputs, PoolSlot, begin_superstep, end_superstep,
-};
+use crate::next_stage::{after_merging, growing_or_over, merging};
+use gll_merge::{MergeTask, Merged, Merging};
+use gll_superstep::{GrowTask, GrowTasks, Grown, Outputs, PoolSlot};
 use gll_table::{Build, BuildContext, Table, Workspaces};
 use root_claims::ClaimSeat;
 use std::alloc::AllocError;
 use std::hint::spin_loop;
+use std::marker::Model;
 use std::mem::replace;
 use std::sync::atomic::{AtomicBool, AtomicU64, Ordering};
 use std::sync::{Mutex, Wait};
@@ -20,32 +21,84 @@ use std::thread::yield_now;
 #[derive(Drop)]
 pub struct LastTable<B: Build> {
     pub table: Table<B>,
-    ghost far_enough: { B.goal ≤ table.first },
+}
+
+impl<B: Build> Model for LastTable<B> {
+    ghost use Rattle.std.specs.Prelude.{◌≤◌};
+    ghost use Rattle.gll_table.specs.Tables.{ShardedTable};
+
+    ghost Value = { ShardedTable };
+
+    ghost view = { λ l. l.table };
+
+    ghost invariant = { λ l. B.goal ≤ l.table.first };
+}
+
+impl<B: Build> LastTable<B> {
+    /// The table.
+    pub fn into_table(self) -> Table<B>
+        ensures same { result ≡ self }
+        ensures far_enough { B.goal ≤ result.first }
+    {
+        let LastTable { table } = self;
+        table
+    }
 }
 
 /// Trees grow: the tasks that nobody has taken, and what workers have handed in. That of one worker at least is to come.
 #[derive(Drop)]
 pub struct Growing<B: Build> {
-    tasks: GrowTasks<B>,
-    outputs: Outputs<B>,
-    ghost to_come: { length outputs < B.workers },
+    pub tasks: GrowTasks<B>,
+    pub outputs: Outputs<B>,
+}
+
+impl<B: Build> Model for Growing<B> {
+    ghost use Rattle.std.specs.Prelude.{◌<◌, length};
+    ghost use Rattle.gll_build.specs.Views.{GrowingView};
+
+    ghost Value = { GrowingView };
+
+    ghost view = { λ g. record { tasks = g.tasks; outputs = g.outputs } };
+
+    ghost invariant = { λ g. length g.outputs < B.workers };
 }
 
 /// What all workers have handed in at the end of a superstep.
 #[derive(Drop)]
 pub struct AllGrown<B: Build> {
-    outputs: Outputs<B>,
-    ghost all: { length outputs ≡ B.workers },
+    pub outputs: Outputs<B>,
+}
+
+impl<B: Build> Model for AllGrown<B> {
+    ghost use Rattle.std.specs.Prelude.{◌≡◌, List, Result, length};
+    ghost use Rattle.std.specs.declared.alloc.AllocError.{AllocError};
+    ghost use Rattle.gll_table.specs.Outputs.{Output};
+
+    ghost Value = { List (Result Output AllocError) };
+
+    ghost view = { λ a. a.outputs };
+
+    ghost invariant = { λ a. length a.outputs ≡ B.workers };
 }
 
 impl<B: Build> Growing<B> {
+    /// Takes a task out for the worker of this number, from 0, of so many. It answers None only where no task is left.
+    fn take(&mut self, me: u32, workers: u32) -> Option<GrowTask<B>>
+        ensures taken { IfSome result (λ task. IsTakenFrom self.old.tasks task self.new.tasks) }
+        ensures none { IfNone result (All (λ place. place ≡ None) self.old.tasks) }
+        ensures as_they_were { IfNone result (self.new.tasks ≡ self.old.tasks) }
+        ensures outputs { self.new.outputs ≡ self.old.outputs }
+    {
+        self.tasks.take(me, workers)
+    }
+
     /// Adds what a worker hands in: if it is the last, nothing but all of it is left. The only error is that memory ran out.
     fn with(
         self,
         context: &BuildContext<'_, B>,
         one: Result<Grown<B>, AllocError>,
     ) -> Result<Result<AllGrown<B>, Growing<B>>, AllocError>
-        ensures all { IfOk result (λ added. IfOk added (λ all. all.outputs ≡ self.outputs ++ one ∷ [])) }
+        ensures all { IfOk result (λ added. IfOk added (λ all. all ≡ self.outputs ++ one ∷ [])) }
         ensures some { IfOk result (λ added. IfErr added (λ growing. growing.outputs ≡ self.outputs ++ one ∷ [])) }
         ensures tasks { IfOk result (λ added. IfErr added (λ growing. growing.tasks ≡ self.tasks)) }
     {
@@ -61,30 +114,64 @@ impl<B: Build> Growing<B> {
 /// What was put is merged in the shards, of which one at least is to come; and the seat for the next superstep.
 #[derive(Drop)]
 pub struct MergingShards<B: Build> {
-    merging: Merging<B>,
-    seat: ClaimSeat,
-    ghost to_come: { are_filled merging.places ≡ false },
-    ghost seat_is: { IsFirstSeat B.claims merging.next seat },
+    pub merging: Merging<B>,
+    pub seat: ClaimSeat,
+}
+
+impl<B: Build> Model for MergingShards<B> {
+    ghost use Rattle.std.specs.Prelude.{◌≡◌, false};
+    ghost use Rattle.gll_merge.specs.Merging.{MergingView, are_filled};
+    ghost use Rattle.gll_superstep.specs.Workers.{IsFirstSeat};
+
+    ghost Value = { MergingView };
+
+    ghost view = { λ s. s.merging };
+
+    ghost invariant = { λ s. (are_filled s.merging.places ≡ false) × IsFirstSeat B.claims s.merging.next s.seat };
 }
 
 /// All shards are merged.
 #[derive(Drop)]
 pub struct AllMerged<B: Build> {
-    merging: Merging<B>,
-    seat: ClaimSeat,
-    ghost all: { are_filled merging.places ≡ true },
-    ghost seat_is: { IsFirstSeat B.claims merging.next seat },
+    pub merging: Merging<B>,
+    pub seat: ClaimSeat,
+}
+
+impl<B: Build> Model for AllMerged<B> {
+    ghost use Rattle.std.specs.Prelude.{◌≡◌, true};
+    ghost use Rattle.gll_merge.specs.Merging.{MergingView, are_filled};
+    ghost use Rattle.gll_superstep.specs.Workers.{IsFirstSeat};
+
+    ghost Value = { MergingView };
+
+    ghost view = { λ s. s.merging };
+
+    ghost invariant = { λ s. (are_filled s.merging.places ≡ true) × IsFirstSeat B.claims s.merging.next s.seat };
 }
 
 impl<B: Build> MergingShards<B> {
+    /// Takes a task out for the worker of this number, from 0, of so many. It answers None only where no task is left.
+    fn take(&mut self, me: u32, workers: u32) -> Option<MergeTask<B>>
+        ensures taken { IfSome result (λ task. IsTakenFrom self.old.tasks task self.new.tasks) }
+        ensures none { IfNone result (All (λ place. place ≡ None) self.old.tasks) }
+        ensures as_they_were { IfNone result (self.new.tasks ≡ self.old.tasks) }
+        ensures places { self.new.places ≡ self.old.places }
+        ensures next { self.new.next ≡ self.old.next }
+        ensures workspaces { self.new.workspaces ≡ self.old.workspaces }
+    {
+        self.merging.take(me, workers)
+    }
+
     /// Adds a shard that is merged: if it is the last, nothing but all of them is left. The only error is that memory ran out, for the
     /// shard or here.
     fn with(self, one: Merged<B>) -> Result<Result<AllMerged<B>, MergingShards<B>>, AllocError>
-        ensures all { IfOk result (λ added. IfOk added (λ all. (shard : OneShard) × (one.shard ≡ Ok shard) × (all.merging.places ≡ with_shard self.merging.next self.merging.places shard))) }
-        ensures some { IfOk result (λ added. IfErr added (λ still. (shard : OneShard) × (one.shard ≡ Ok shard) × (still.merging.places ≡ with_shard self.merging.next self.merging.places shard))) }
-        ensures tasks { IfOk result (λ added. IfErr added (λ still. still.merging.tasks ≡ self.merging.tasks)) }
-        ensures workspaces { IfOk result (λ added. IfErr added (λ still. still.merging.workspaces ≡ self.merging.workspaces)) }
-        ensures all_workspaces { IfOk result (λ added. IfOk added (λ all. all.merging.workspaces ≡ self.merging.workspaces)) }
+        ensures all { IfOk result (λ added. IfOk added (λ all. (shard : OneShard) × (one.shard ≡ Ok shard) × (all.places ≡ with_shard self.next self.places shard))) }
+        ensures some { IfOk result (λ added. IfErr added (λ still. (shard : OneShard) × (one.shard ≡ Ok shard) × (still.places ≡ with_shard self.next self.places shard))) }
+        ensures next { IfOk result (λ added. IfErr added (λ still. still.next ≡ self.next)) }
+        ensures next_of_all { IfOk result (λ added. IfOk added (λ all. all.next ≡ self.next)) }
+        ensures tasks { IfOk result (λ added. IfErr added (λ still. still.tasks ≡ self.tasks)) }
+        ensures workspaces { IfOk result (λ added. IfErr added (λ still. still.workspaces ≡ self.workspaces)) }
+        ensures all_workspaces { IfOk result (λ added. IfOk added (λ all. all.workspaces ≡ self.workspaces)) }
     {
         let MergingShards { mut merging, seat } = self;
         merging.add(one)?;
@@ -108,19 +195,95 @@ pub enum Stage<B: Build> {
 }
 
 impl<B: Build> Stage<B> {
+    ghost use Rattle.std.specs.Prelude.{◌≡◌, Err, IfErr, IfOk};
+    ghost use Rattle.gll_build.specs.Stages.{AddsGrown, AddsMerged, Answers, Ends};
+    ghost use Rattle.gll_build.specs.declared.scheduler.Stage.TheVariants.{Over};
+
     /// A task for the worker of this number, from 0, of so many.
-    fn task(&mut self, me: u32, workers: u32) -> Task<B> {
+    fn task(&mut self, me: u32, workers: u32) -> Task<B>
+        ensures { Answers self.old result self.new }
+    {
         match self {
-            Stage::Growing(growing) => match growing.tasks.take(me, workers) {
+            Stage::Growing(growing) => match growing.take(me, workers) {
                 Some(task) => Task::Grow(task),
                 None => Task::Wait,
             },
-            Stage::Merging(shards) => match shards.merging.take(me, workers) {
+            Stage::Merging(shards) => match shards.take(me, workers) {
                 Some(task) => Task::Merge(task),
                 None => Task::Wait,
             },
             Stage::Advancing => Task::Wait,
             Stage::Over(_) => Task::End,
+        }
+    }
+
+    /// Adds what a worker has put, and takes the stage out where no other is to come, or where memory ran out.
+    fn add_grown(
+        &mut self,
+        context: &BuildContext<'_, B>,
+        one: Result<Grown<B>, AllocError>,
+    ) -> Option<Result<AllGrown<B>, AllocError>>
+        ensures { AddsGrown self.old one result self.new }
+    {
+        match replace(self, Stage::Advancing) {
+            Stage::Growing(growing) => match growing.with(context, one) {
+                Ok(Ok(all)) => Some(Ok(all)),
+                Ok(Err(growing)) => {
+                    *self = Stage::Growing(growing);
+                    None
+                }
+                Err(fault) => Some(Err(fault)),
+            },
+            other => {
+                *self = other;
+                Grown::let_go(one);
+                None
+            }
+        }
+    }
+
+    /// Adds a shard that is merged, and takes the stage out where no other is to come, or where memory ran out.
+    fn add_merged(&mut self, one: Merged<B>) -> Option<Result<AllMerged<B>, AllocError>>
+        ensures { AddsMerged self.old one result self.new }
+    {
+        match replace(self, Stage::Advancing) {
+            Stage::Merging(shards) => match shards.with(one) {
+                Ok(Ok(all)) => Some(Ok(all)),
+                Ok(Err(shards)) => {
+                    *self = Stage::Merging(shards);
+                    None
+                }
+                Err(fault) => Some(Err(fault)),
+            },
+            other => {
+                *self = other;
+                one.let_go();
+                None
+            }
+        }
+    }
+
+    /// Takes what the build has come to, if it is over.
+    fn take_table(&mut self) -> Option<Result<LastTable<B>, AllocError>>
+        ensures { Ends self.old result self.new }
+    {
+        match replace(self, Stage::Advancing) {
+            Stage::Over(table) => Some(table),
+            other => {
+                *self = other;
+                None
+            }
+        }
+    }
+
+    /// The stage that was made, or the end where memory ran out.
+    fn or_over(next: Result<Stage<B>, AllocError>) -> Stage<B>
+        ensures made { IfOk next (λ stage. result ≡ stage) }
+        ensures over { IfErr next (λ fault. result ≡ Over (Err fault)) }
+    {
+        match next {
+            Ok(stage) => stage,
+            Err(fault) => Stage::Over(Err(fault)),
         }
     }
 }
@@ -194,26 +357,12 @@ impl<B: Build> Scheduler<B> {
         one: Result<Grown<B>, AllocError>,
     ) -> Option<Result<AllGrown<B>, AllocError>> {
         let mut stage = self.stage.lock(rt);
-        match replace(&mut *stage, Stage::Advancing) {
-            Stage::Growing(growing) => match growing.with(context, one) {
-                Ok(Ok(all)) => Some(Ok(all)),
-                Ok(Err(growing)) => {
-                    *stage = Stage::Growing(growing);
-                    None
-                }
-                Err(fault) => Some(Err(fault)),
-            },
-            other => {
-                *stage = other;
-                Grown::let_go(one);
-                None
-            }
-        }
+        stage.add_grown(context, one)
     }
 
     /// Hands in a shard that is merged.
     pub fn hand_in_merged<R: Wait>(&self, rt: &R, context: &BuildContext<'_, B>, one: Merged<B>) {
-        if let Some(all) = self.add_merged(rt, context, one) {
+        if let Some(all) = self.add_merged(rt, one) {
             let next_pool = self.take_next_pool(rt);
             self.advance(rt, after_merging(context, all, next_pool));
         }
@@ -223,25 +372,10 @@ impl<B: Build> Scheduler<B> {
     fn add_merged<R: Wait>(
         &self,
         rt: &R,
-        context: &BuildContext<'_, B>,
         one: Merged<B>,
     ) -> Option<Result<AllMerged<B>, AllocError>> {
         let mut stage = self.stage.lock(rt);
-        match replace(&mut *stage, Stage::Advancing) {
-            Stage::Merging(shards) => match shards.with(one) {
-                Ok(Ok(all)) => Some(Ok(all)),
-                Ok(Err(shards)) => {
-                    *stage = Stage::Merging(shards);
-                    None
-                }
-                Err(fault) => Some(Err(fault)),
-            },
-            other => {
-                *stage = other;
-                one.let_go();
-                None
-            }
-        }
+        stage.add_merged(one)
     }
 
     /// Makes the pool of the next superstep, unless somebody has or is about to: for a worker that has nothing else to do. Where
@@ -269,10 +403,7 @@ impl<B: Build> Scheduler<B> {
 
     /// Advances to the next stage, or to the end where memory ran out, and wakes who sleeps.
     fn advance<R: Wait>(&self, rt: &R, next: Result<Stage<B>, AllocError>) {
-        let next = match next {
-            Ok(stage) => stage,
-            Err(fault) => Stage::Over(Err(fault)),
-        };
+        let next = Stage::or_over(next);
         let mut stage = self.stage.lock(rt);
         *stage = next;
         drop(stage);
@@ -310,62 +441,9 @@ impl<B: Build> Scheduler<B> {
     /// Takes the table that the build has come to, if it is over.
     fn take_table<R: Wait>(&self, rt: &R) -> Option<Result<LastTable<B>, AllocError>> {
         let mut stage = self.stage.lock(rt);
-        match replace(&mut *stage, Stage::Advancing) {
-            Stage::Over(table) => Some(table),
-            other => {
-                *stage = other;
-                None
-            }
-        }
+        stage.take_table()
     }
 }
 
 /// How often a worker looks for the next stage in a round.
 const LOOKS: u32 = 64;
-
-/// The stage in which trees grow over this table, with the seat of all workers, or the end where the table goes far enough. The only
-/// error is that memory ran out.
-fn growing_or_over<B: Build>(
-    context: &BuildContext<'_, B>,
-    table: Table<B>,
-    seat: ClaimSeat,
-    workspaces: Workspaces<B>,
-    next_pool: PoolSlot<B>,
-) -> Result<Stage<B>, AllocError>
-    requires { IsFirstSeat B.claims table.first seat }
-{
-    if table.first() >= context.goal {
-        return Ok(Stage::Over(Ok(LastTable { table })));
-    }
-    let tasks = begin_superstep(context, table, seat, workspaces, next_pool)?;
-    let outputs = Outputs::new(context)?;
-    Ok(Stage::Growing(Growing { tasks, outputs }))
-}
-
-/// The stage in which all that workers have put is merged in the table of their superstep. The only error is that memory ran out.
-fn merging<B: Build, R: Wait>(
-    rt: &R,
-    context: &BuildContext<'_, B>,
-    all: Result<AllGrown<B>, AllocError>,
-) -> Result<Stage<B>, AllocError> {
-    let AllGrown { outputs } = all?;
-    let EndedSuperstep {
-        table,
-        outputs,
-        next,
-        seat,
-    } = end_superstep(rt, context, outputs)?;
-    let merging = begin_merging(context, table, outputs, next)?;
-    Ok(Stage::Merging(MergingShards { merging, seat }))
-}
-
-/// The stage after the shards are merged: trees grow over their table, or the end. The only error is that memory ran out.
-fn after_merging<B: Build>(
-    context: &BuildContext<'_, B>,
-    all: Result<AllMerged<B>, AllocError>,
-    next_pool: PoolSlot<B>,
-) -> Result<Stage<B>, AllocError> {
-    let AllMerged { merging, seat } = all?;
-    let (table, workspaces) = merged_table(context, merging)?;
-    growing_or_over(context, table, seat, workspaces, next_pool)
-}
