@@ -1,2 +1,3 @@
+pub mod RangeEntries
 pub mod Sunk
 pub mod Laws

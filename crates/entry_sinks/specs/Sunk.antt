@@ -1,7 +1,6 @@
 -- Entries as workers put them, in any order, and the rows that are gathered of them.
 use Rattle.std.specs.Prelude.{◌≡◌, ◌↔◌, ◌≢◌, ℕ, ◌+◌, ◌-◌, ◌*◌, ◌/◌, ◌≤◌, List, [], ◌∷◌, ◌++◌, AllPairs, Contains, map, length, slice_index_or}
-use Rattle.std.specs.Prelude.{Option, Some, None, Vec}
-use Rattle.std.specs.declared.alloc.Global.{Global}
+use Rattle.std.specs.Prelude.{Option, Some, None}
 use Rattle.walk_laws.specs.declared.graph.Edge.{Edge}
 use Rattle.walk_laws.specs.declared.entry.Entry.{Entry}
 use Rattle.walk_laws.specs.Joined.{Joined}
@@ -34,10 +33,6 @@ sunk_at sink v = entries_of_node (range_at sink (range_of sink.n v)) v
 abbrev pub all_sunk : List Sunk → ℕ → List Entry
 all_sunk [] v = []
 all_sunk (sink ∷ sinks) v = sunk_at sink v ++ all_sunk sinks v
-
--- the entries of each vector
-abbrev pub lists_of : List (Vec NodeEntry Global) → List (List NodeEntry)
-lists_of vectors = map (λ vector. vector.items) vectors
 
 -- what each of several workers put at the nodes of a range
 abbrev pub ranges_at : List Sunk → ℕ → List (List NodeEntry)

@@ -1,8 +1,8 @@
 ghost use Rattle.std.specs.Prelude.{◌≡◌, ℕ, ◌+◌, ◌/◌, ◌≤◌, [], ◌++◌, length, IfOk, OnErr, OnOk};
 ghost use Rattle.hub_index.specs.NodeEntries.{entry_if};
-ghost use Rattle.entry_sinks.specs.Sunk.{sunk_at, lists_of, range_width as width_of};
+ghost use Rattle.entry_sinks.specs.Sunk.{sunk_at, range_width as width_of};
 
-use hub_index::NodeEntry;
+use crate::range_entries::RangeEntries;
 use std::alloc::{AllocError, Global};
 use std::marker::Model;
 use walk_laws::Entry;
@@ -12,16 +12,16 @@ use walk_laws::Entry;
 #[derive(Debug, Drop)]
 pub struct EntrySink {
     n: u32,
-    ranges: Vec<Vec<NodeEntry>>,
+    ranges: Vec<RangeEntries>,
 }
 
 impl Model for EntrySink {
-    ghost use Rattle.std.specs.Prelude.{◌≡◌, map, length, ◌+◌, ◌/◌};
+    ghost use Rattle.std.specs.Prelude.{◌≡◌, length, ◌+◌, ◌/◌};
     ghost use Rattle.entry_sinks.specs.Sunk.{Sunk, range_width};
 
     ghost Value = { Sunk };
 
-    ghost view = { λ s. record { n = s.n; ranges = map (λ range. range.items) s.ranges.items } };
+    ghost view = { λ s. record { n = s.n; ranges = s.ranges.items } };
 
     ghost invariant = { λ s. length s.ranges.items ≡ s.n / range_width s.n + 1 };
 }
@@ -42,7 +42,7 @@ impl EntrySink {
         let count = n / range_width(n) + 1;
         let mut ranges = Vec::with_capacity(alloc, count as usize)?;
         for _ in 0..count {
-            ranges.push(Vec::new(alloc))?;
+            ranges.push(RangeEntries::new(alloc))?;
         }
         Ok(EntrySink { n, ranges })
     }
@@ -57,14 +57,14 @@ impl EntrySink {
         ensures err { OnErr result (self.new ≡ self.old) }
     {
         let range = (node - 1) / range_width(self.n);
-        self.ranges[range as usize].push(NodeEntry::of(node, entry))?;
+        self.ranges[range as usize].push(node, entry)?;
         Ok(())
     }
 
     /// The entries of the nodes in each range, in the order of the ranges. It takes no memory.
-    pub fn into_ranges(self) -> Vec<Vec<NodeEntry>>
+    pub fn into_ranges(self) -> Vec<RangeEntries>
         ensures size { length result.items ≡ self.n / width_of self.n + 1 }
-        ensures ranges { lists_of result.items ≡ self.ranges }
+        ensures ranges { result.items ≡ self.ranges }
     {
         self.ranges
     }

@@ -9,6 +9,8 @@
 mod entry_sink;
 mod gathering;
 pub mod laws;
+mod range_entries;
 
 pub use entry_sink::EntrySink;
 pub use gathering::gather;
+pub use range_entries::{AnyNodeEntry, CompactNodeEntry, RangeEntries};

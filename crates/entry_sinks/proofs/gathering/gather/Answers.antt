@@ -7,7 +7,7 @@ use Rattle.walk_laws.specs.declared.entry.Entry.{Entry}
 use Rattle.walk_laws.specs.Labelling.{label_row}
 use Rattle.entry_sinks.specs.declared.gathering.Part.{Part}
 use Rattle.hub_index.specs.NodeEntries.{IsGatheredRow}
-use Rattle.entry_sinks.specs.Sunk.{lists_of, ranges_at, all_sunk, IsRangeOf, rows_in, AreJoined}
+use Rattle.entry_sinks.specs.Sunk.{ranges_at, all_sunk, IsRangeOf, rows_in, AreJoined}
 use Rattle.entry_sinks.proofs.Parts.{Made, parts_few, rows_of_parts}
 use Rattle.entry_sinks.proofs.gathering.gather.Goals as goal
 use Rattle.entry_sinks.proofs.gathering.gather.Goals.{After-for_each_mut}
@@ -28,9 +28,9 @@ made g c i d lt =
     let sinks = c.args.sinks.items in
     let n = c.args.n in
     let changed = (c.for_each_mut.ensures i d (omega arith)).1 in
-    let entries : lists_of changed.argument.now.entries.items ≡ ranges_at sinks i =
-    ap (λ (p : Part). lists_of p.entries.items) changed.argument_is
-    ∙ ap (λ (ps : List Part). lists_of (get_or ps i d).entries.items) c.deref_mut.ensures.value
+    let entries : changed.argument.now.entries.items ≡ ranges_at sinks i =
+    ap (λ (p : Part). p.entries.items) changed.argument_is
+    ∙ ap (λ (ps : List Part). (get_or ps i d).entries.items) c.deref_mut.ensures.value
     ∙ c.in_ok-parts.ensures.entries i d (omega arith) in
     subst (λ (p : Part). Made sinks n i p.rows) changed.left (changed.call.0, subst (λ lists. IfSome changed.after_call.now.rows (IsRangeOf lists n i)) entries changed.call.1)
 

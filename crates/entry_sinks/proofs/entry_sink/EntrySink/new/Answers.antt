@@ -1,12 +1,9 @@
-use Rattle.std.proofs.Common.{◌≡◌, ℕ, ◌/◌, zero, suc, List, [], ◌∷◌, ◌++◌, Global, Vec, length, get_or, replicate, refl, ap, ◌∙◌, arith}
-use Rattle.std.proofs.lemmas.List.{length-map, length-replicate, map_push, replicate-append-replicate}
+use Rattle.std.proofs.Common.{◌≡◌, ℕ, ◌/◌, zero, suc, List, [], ◌∷◌, ◌++◌, length, get_or, replicate, refl, ap, ◌∙◌, arith}
+use Rattle.std.proofs.lemmas.List.{length-replicate, replicate-append-replicate}
 use Rattle.hub_index.specs.declared.node_entry.NodeEntry.{NodeEntry}
 use Rattle.hub_index.specs.NodeEntries.{entries_of_node}
-use Rattle.entry_sinks.specs.Sunk.{lists_of, range_of}
+use Rattle.entry_sinks.specs.Sunk.{range_of}
 use Rattle.entry_sinks.proofs.entry_sink.EntrySink.new.Goals as goal
-
-abbrev items_of : Vec NodeEntry Global → List NodeEntry
-items_of range = range.items
 
 abbrev nothing : List NodeEntry
 nothing = []
@@ -19,14 +16,13 @@ none_there (suc count) (suc r) = none_there count r
 
 pub loop-preserved : goal.loop-preserved
 loop-preserved c =
-    ap lists_of c.in_ok-push.ensures.items
-    ∙ map_push items_of c.loop.ranges.items c.new.result
-    ∙ ap (λ lists. lists ++ items_of c.new.result ∷ []) c.loop.invariant
-    ∙ ap (λ list. replicate c.loop.counter nothing ++ list ∷ []) c.new.ensures.items
+    c.in_ok-push.ensures.items
+    ∙ ap (λ lists. lists ++ c.new.result ∷ []) c.loop.invariant
+    ∙ ap (λ list. replicate c.loop.counter nothing ++ list ∷ []) c.new.ensures
     ∙ replicate-append-replicate c.loop.counter 1 nothing
 
 pub invariant_of-result : goal.invariant_of-result
-invariant_of-result c = omega (arith, length-map c.loop.ranges.items items_of, ap length c.loop.invariant, length-replicate c.loop.counter nothing, ap (λ width. c.args.n / width) c.range_width.ensures.value)
+invariant_of-result c = omega (arith, ap length c.loop.invariant, length-replicate c.loop.counter nothing, ap (λ width. c.args.n / width) c.range_width.ensures.value)
 
 pub returns-clause-empty : goal.returns-clause-empty
 returns-clause-empty c v =
