@@ -1,9 +1,9 @@
--- What a tree that is gone on with keeps: canonical entries, and arcs that are open.
-use Rattle.std.proofs.Common.{◌≡◌, ◌⊎◌, ℕ, ◌+◌, ◌^◌, ◌<◌, ◌≤◌, List, ◌∷◌, Contains, length, refl, sym, ap, subst, ◌∙◌, inl, inr, arith}
-use Rattle.std.specs.Prelude.{Some, slice_get, Result, Ok, Err, IsOk, OnOk}
+-- What a tree that is gone on with keeps: canonical entries, and arcs that are open but for the starts that are left.
+use Rattle.std.proofs.Common.{◌≡◌, ◌⊎◌, ℕ, ◌+◌, ◌^◌, ◌<◌, ◌≤◌, List, ◌++◌, All, Contains, length, refl, sym, ap, subst, ◌∙◌, inl, inr, arith}
+use Rattle.std.specs.Prelude.{Some, slice_get, Result, IsOk}
 use Rattle.std.specs.declared.alloc.AllocError.{AllocError}
 use Rattle.std.proofs.lemmas.Bool.{cases_eq}
-use Rattle.std.proofs.lemmas.List.Elements.{All-contains}
+use Rattle.std.proofs.lemmas.List.Elements.{All-contains, Contains-append_cases}
 use Rattle.walk_laws.specs.declared.graph.Edge.{Edge}
 use Rattle.walk_laws.specs.declared.entry.Entry.{Entry}
 use Rattle.walk_laws.specs.Canonical.{IsCanonical}
@@ -12,15 +12,19 @@ use Rattle.walk_laws.specs.Joined.{Joined}
 use Rattle.walk_laws.specs.Labelling.{EntryFits, label_row}
 use Rattle.walk_laws.specs.Ranking.{IsRanking}
 use Rattle.walk_laws.specs.Walk.{HasWalk}
-use Rattle.walk_laws.proofs.JoinedEdges.{IsEdge-joined}
-use Rattle.walk_laws.proofs.Members.{Contains-cons_cases}
+use Rattle.walk_laws.proofs.CanonicalHubs.{IsCanonical-itself}
+use Rattle.walk_laws.proofs.JoinedEdges.{IsEdge-joined, Joined-positive, weights_of_edges}
 use Rattle.walk_laws.proofs.Search.{Found-decided}
 use Rattle.walk_laws.proofs.ShortWalks.{IsLeast-short}
 use Rattle.hub_index.specs.Views.{IsNode}
 use Rattle.pruned_tree.proofs.GrownPuts.{when_ok}
 use Rattle.pruned_tree.proofs.TreeRounds.{root_node}
+use Rattle.resumed_tree.specs.declared.resuming.Start.{Start}
 use Rattle.resumed_tree.specs.Resumed.{AreWalks, Has, IsResumed}
-use Rattle.edge_open.specs.OpenArcs.{WentOn, IsOpenBut, StayOpen}
+use Rattle.edge_open.specs.OpenArcs.{WentOn, GoesOn, AreOpenBut}
+
+abbrev start : ℕ → ℕ → ℕ → Start
+start p v d = record { hub = p; node = v; dist = d }
 
 abbrev entry : ℕ → ℕ → Entry
 entry p d = record { pos = p; dist = d }
@@ -44,11 +48,6 @@ has_entry row p d = elim (Found-decided (λ e. e ≡ entry p d) row (λ e _. is_
   | inr none ↦ inr (λ there. none (entry p d) there refl)
 ]
 
--- what holds where a result is a value
-pub on_ok : {T E : Type 0} (r : Result T E) (P : Type 0) → (IsOk r → P) → OnOk r P
-on_ok (Ok x) P holds = holds refl
-on_ok (Err e) P holds = tt
-
 -- one position has one node
 pub one_node : (at : List ℕ) (p h q : ℕ) → slice_get at p ≡ Some h → slice_get at p ≡ Some q → h ≡ q
 one_node at p h q first second = cc
@@ -66,23 +65,13 @@ hub_near n edges at graph ranking size h v p d root hub =
     let node = root_node at h p ranking root in
     omega (arith, graph.fits, IsLeast-short n edges graph.edge h v d node.0 (omega (arith, node.1, size)) hub.least)
 
--- an arc that is open but for an entry is open, once that went on along it
-pub IsOpenBut-rest : (J : ℕ → ℕ → ℕ → Type 0) (at : List ℕ) (rows : List (List Entry)) (e : Entry) (left : List Entry) (x y w : ℕ) → ((h : ℕ) → slice_get at e.pos ≡ Some h → IsCanonical J at h y (e.dist + w) → Has rows y e.pos (e.dist + w)) → IsOpenBut (e ∷ left) J at rows x y w → IsOpenBut left J at rows x y w
-IsOpenBut-rest J at rows e left x y w went was_open p d there = elim (was_open p d there) [
-  | inr on ↦ inr on
-  | inl waits ↦ elim (Contains-cons_cases e (entry p d) left waits) [
-    | inr later ↦ inl later
-    | inl is ↦ inr (subst (λ (f : Entry). WentOn J at rows x y w f.pos f.dist) is (λ h root _ next. went h root next))
-  ]
-]
-
 module _ (n : ℕ) (edges : List Edge) (at : List ℕ) (graph : IsGraph n edges) (size : length at ≡ n) where
   pub arc_to_node : (x y w : ℕ) → Joined edges x y w → IsNode (length at) x × IsNode (length at) y
   arc_to_node x y w arc =
       let edge = IsEdge-joined n edges x y w graph.edge arc in
       (record { from_one = edge.from_one; up_to_n = omega (arith, edge.up_to_n, size) }, record { from_one = edge.to_one; up_to_n = omega (arith, edge.to_n, size) })
 
-  module _ (p start far : ℕ) (before after : List (List Entry)) (result : Result (Unit {0}) AllocError) (ok : IsOk result) (resumed : IsResumed edges at p start far before after result) where
+  module _ (ranking : IsRanking at) (p : ℕ) (group others : List Start) (before after : List (List Entry)) (result : Result (Unit {0}) AllocError) (ok : IsOk result) (resumed : IsResumed edges at p group before after result) where
     -- a canonical entry of the tree's root may become no shorter, and none is lost
     own_stays : (h v d : ℕ) → IsNode (length at) v → slice_get at p ≡ Some h → IsCanonical (Joined edges) at h v d → Has before v p d → Has after v p d
     own_stays h v d node root hub there =
@@ -96,42 +85,40 @@ module _ (n : ℕ) (edges : List Edge) (at : List ℕ) (graph : IsGraph n edges)
       | inl is ↦ subst (λ r. Has after v r d) (sym is) (own_stays h v d node (subst (λ r. slice_get at r ≡ Some h) is root) hub (subst (λ r. Has before v r d) is there))
     ]
 
-    -- what was there and went on still has
-    still_went : (left : List Entry) (x y w q d : ℕ) → IsNode (length at) y → Contains left (entry q d) ⊎ WentOn (Joined edges) at before x y w q d → Contains left (entry q d) ⊎ WentOn (Joined edges) at after x y w q d
-    still_went left x y w q d node was = elim was [
-      | inl waits ↦ inl waits
-      | inr on ↦ inr (λ h root hub next. canonical_stays h y q (d + w) node root next (on h root hub next))
-    ]
-
     -- what came goes on at once
     came_and_went : (x y w q d : ℕ) → Joined edges x y w → q ≡ p → Has after x q d → (Has before x q d → ⊥) → WentOn (Joined edges) at after x y w q d
     came_and_went x y w q d arc is there none =
         subst (λ r. Has after x r d → (Has before x r d → ⊥) → WentOn (Joined edges) at after x y w r d) (sym is)
         (λ here not_before h root hub next. when_ok result _ ok resumed.closed h x d y w root hub (here, not_before) arc next) there none
 
-    pub StayOpen-resumed : StayOpen (Joined edges) at before after
-    StayOpen-resumed = record {
+    -- what was to go on by one of the tree's starts went on
+    start_went : (x y w q d : ℕ) → Contains group (start q y (d + w)) → q ≡ p → WentOn (Joined edges) at after x y w q d
+    start_went x y w q d there is h root hub next =
+        subst (λ r. Has after y r (d + w)) (sym is) (when_ok result _ ok resumed.reached h (start q y (d + w)) (subst (λ r. slice_get at r ≡ Some h) is root) there next)
+
+    -- what was to go on, or went on, still does
+    still_goes : All (λ (s : Start). s.hub ≡ p) group → (x y w q d : ℕ) → IsNode (length at) y → GoesOn (group ++ others) (Joined edges) at before x y w q d → GoesOn others (Joined edges) at after x y w q d
+    still_goes hubs x y w q d node was = elim was [
+      | inl waits ↦ elim (Contains-append_cases group others (start q y (d + w)) waits) [
+        | inl here ↦ inr (start_went x y w q d here (All-contains (λ (s : Start). s.hub ≡ p) group (start q y (d + w)) hubs here))
+        | inr later ↦ inl later
+      ]
+      | inr on ↦ inr (λ h root hub next. canonical_stays h y q (d + w) node root next (on h root hub next))
+    ]
+
+    pub AreOpenBut-resumed : All (λ (s : Start). s.hub ≡ p) group → AreOpenBut (group ++ others) (Joined edges) (Joined edges) at before → AreOpenBut others (Joined edges) (Joined edges) at after
+    AreOpenBut-resumed hubs were = record {
       walks = resumed.walks;
-      canonical = canonical_stays;
-      arcs = λ left x y w arc was_open q d there.
+      own = λ h q root.
+          let node = root_node at h q ranking root in
+          canonical_stays h h q 0 (record { from_one = node.0; up_to_n = node.1 }) root (IsCanonical-itself (Joined edges) at (Joined-positive edges (weights_of_edges n edges graph.edge)) h) (were.own h q root);
+      arcs = λ x y w arc q d there.
           let nodes = arc_to_node x y w arc in
           elim (cases_eq q p) [
-            | inr other ↦ still_went left x y w q d nodes.1 (was_open q d ((resumed.others x q d nodes.0.from_one other).0 there))
+            | inr other ↦ still_goes hubs x y w q d nodes.1 (were.arcs x y w arc q d ((resumed.others x q d nodes.0.from_one other).0 there))
             | inl is ↦ elim (has_entry (label_row before x) q d) [
-              | inl was ↦ still_went left x y w q d nodes.1 (was_open q d was)
+              | inl was ↦ still_goes hubs x y w q d nodes.1 (were.arcs x y w arc q d was)
               | inr none ↦ inr (came_and_went x y w q d arc is there none)
             ]
           ];
     }
-
--- rows that nothing is done to
-pub StayOpen-none : (J : ℕ → ℕ → ℕ → Type 0) (at : List ℕ) (rows : List (List Entry)) → AreWalks J at rows → StayOpen J at rows rows
-StayOpen-none J at rows walks = record { walks = walks; canonical = λ h v p d node root hub there. there; arcs = λ left x y w arc was_open. was_open }
-
--- and one thing after another
-pub StayOpen-after : (J : ℕ → ℕ → ℕ → Type 0) (at : List ℕ) (first second third : List (List Entry)) → StayOpen J at first second → StayOpen J at second third → StayOpen J at first third
-StayOpen-after J at first second third one other = record {
-  walks = other.walks;
-  canonical = λ h v p d node root hub there. other.canonical h v p d node root hub (one.canonical h v p d node root hub there);
-  arcs = λ left x y w arc was_open. other.arcs left x y w arc (one.arcs left x y w arc was_open);
-}

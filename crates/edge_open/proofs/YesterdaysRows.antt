@@ -15,10 +15,9 @@ use Rattle.walk_laws.proofs.LeastWalks.{IsLeast-same, IsLeast-unique}
 use Rattle.walk_laws.proofs.OnWalks.{IsOn-from_parts, OnParts-from_on}
 use Rattle.walk_laws.proofs.Walks.{HasWalk-after, HasWalk-more}
 use Rattle.hub_index.specs.Views.{IsNode}
-use Rattle.label_clean.proofs.KeptRows.{once_from_rising}
 use Rattle.pruned_tree.proofs.TreeRounds.{root_node, root_position}
 use Rattle.resumed_tree.specs.Resumed.{AreWalks, Has}
-use Rattle.edge_open.specs.OpenArcs.{WentOn, AreOpen}
+use Rattle.edge_open.specs.OpenArcs.{WentOn}
 use Rattle.edge_open.proofs.KeptEntries.{one_node}
 
 module _ (K J : ℕ → ℕ → ℕ → Type 0) (more : (x y w : ℕ) → K x y w → J x y w) (at : List ℕ) where
@@ -46,27 +45,24 @@ module _ (K J : ℕ → ℕ → ℕ → Type 0) (more : (x y w : ℕ) → K x y 
       walk = (hub.0, hub.1, HasWalk-more K J more hub.0 v e.dist hub.2.least.walk);
     }
 
-    AreWalks-chl : AreWalks J at rows
+    pub AreWalks-chl : AreWalks J at rows
     AreWalks-chl = record {
       size = chl.size;
       fit = λ v from_one up_to_n.
           let row = chl.row v from_one up_to_n in
           All-weaker (Contains (label_row rows v)) (EntryFits J at v) (λ e here. fits v e ((row.each e).0 here)) (label_row rows v) (All-contains_itself (label_row rows v));
-      once = λ v from_one up_to_n. once_from_rising (label_row rows v) (chl.row v from_one up_to_n).rising;
+      rising = λ v from_one up_to_n. (chl.row v from_one up_to_n).rising;
     }
 
-    own : (h p : ℕ) → slice_get at p ≡ Some h → Has rows h p 0
-    own h p root =
+    pub own_there : (h p : ℕ) → slice_get at p ≡ Some h → Has rows h p 0
+    own_there h p root =
         let node = root_node at h p ranking root in
         ((chl.row h node.0 node.1).each (record { pos = p; dist = 0 })).1 (h, root, IsCanonical-itself K at positive h)
 
     -- each entry went on along each arc of the shorter graph
-    went_on : (x y w : ℕ) → K x y w → (p d : ℕ) → Has rows x p d → WentOn J at rows x y w p d
+    pub went_on : (x y w : ℕ) → K x y w → (p d : ℕ) → Has rows x p d → WentOn J at rows x y w p d
     went_on x y w arc p d there h root _ next =
         let ends = nodes x y w arc in
         let hub = ((chl.row x ends.0.from_one ends.0.up_to_n).each (record { pos = p; dist = d })).0 there in
         let walk = subst (λ z. HasWalk K z x d) (one_node at p hub.0 h hub.1 root) hub.2.least.walk in
         ((chl.row y ends.1.from_one ends.1.up_to_n).each (record { pos = p; dist = d + w })).1 (h, root, IsCanonical-before h y (d + w) (HasWalk-after K h x y w d walk arc) next)
-
-    pub AreOpen-chl : AreOpen J K at rows
-    AreOpen-chl = record { walks = AreWalks-chl; own = own; arcs = λ x y w arc p d there. inr (went_on x y w arc p d there) }

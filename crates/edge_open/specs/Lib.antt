@@ -1,2 +1,3 @@
-pub mod Opened
+pub mod Hubs
 pub mod OpenArcs
+pub mod Opened

@@ -19,8 +19,8 @@ use walk_laws::{Edge, Graph};
 /// The index of the graph with these edges appended to its list, from the index of the graph: each row and byte is as a build
 /// makes it of the longer graph under the index's ranking.
 ///
-/// It takes the edges one by one. Over each, in both directions, the hubs of the one end go on to the other: the tree of each
-/// is resumed there, where it ranks no lower, and ends where it makes nothing nearer. It costs what these trees touch, beside the
+/// Over each edge, in both directions, the hubs of the one end go on to the other, where they rank no lower: the tree of a hub
+/// is resumed once, at all these nodes, and ends where it makes nothing nearer. It costs what these trees touch, beside the
 /// longer graph and one cleaning of all rows at the end, on all cores. An edge that is no shorter than a walk between its ends
 /// changes nothing, nor does one from a node to itself. The errors are that a hub is too far for an index, in the longer
 /// graph, and that memory ran out.

@@ -1,6 +1,6 @@
 -- What a tree that is gone on with has left of the rows at each moment, by the rows alone.
-use Rattle.std.proofs.Common.{◌≡◌, ◌≢◌, ◌↔◌, inl, inr, ℕ, ◌<◌, ◌≤◌, eqb, Option, List, All, Contains, length, map, sym, subst, ◌∙◌, arith}
-use Rattle.std.specs.List.{IsDistinct}
+use Rattle.std.proofs.Common.{◌≡◌, ◌≢◌, ◌↔◌, inl, inr, ℕ, ◌<◌, ◌≤◌, Option, List, All, Contains, length, map, sym, subst, ◌∙◌, arith}
+use Rattle.std.specs.List.Sorted.{IsStrictlyIncreasing}
 use Rattle.std.proofs.lemmas.Bool.{cases_eq}
 use Rattle.std.proofs.lemmas.List.Elements.{All-contains, All-contains_itself, All-weaker}
 use Rattle.walk_laws.specs.declared.entry.Entry.{Entry}
@@ -11,9 +11,9 @@ use Rattle.pruned_tree.proofs.ApartPuts.{IsShorter-uncovered}
 use Rattle.resumed_tree.specs.Resumed.{AreWalks, Has, CameToHave}
 use Rattle.resumed_tree.specs.Taken.{IsTaken, IsUncovered}
 
--- at most one entry of each hub
-abbrev pub HasEachOnce : List Entry → Type 0
-HasEachOnce row = IsDistinct eqb (map (λ e. e.pos) row)
+-- by rising position
+abbrev RisesStrictly : List Entry → Type 0
+RisesStrictly row = IsStrictlyIncreasing (map (λ e. e.pos) row)
 
 -- the rows are lengths of walks; entries of other hubs than the one at p are those of before, none of its own is lost or grows, and one that came is shorter than each way by a hub above
 pub record AreKept (J : ℕ → ℕ → ℕ → Type 0) (at : List ℕ) (h p : ℕ) (before now : List (List Entry)) : Type 0 where
@@ -59,9 +59,9 @@ module _ (J : ℕ → ℕ → ℕ → Type 0) (at : List ℕ) (h p : ℕ) (befor
             subst (λ y. All (EntryFits J at y) (label_row next y)) (sym here) (old_or_new (EntryFits J at v) fit fits)
         | inr other ↦ subst (All (EntryFits J at x)) (sym (same x x_from_one other)) (kept.walks.fit x x_from_one up)
       ];
-      once = λ x x_from_one up. elim (cases_eq x v) [
-        | inl here ↦ subst (λ y. HasEachOnce (label_row next y)) (sym here) taken.once
-        | inr other ↦ subst HasEachOnce (sym (same x x_from_one other)) (kept.walks.once x x_from_one up)
+      rising = λ x x_from_one up. elim (cases_eq x v) [
+        | inl here ↦ subst (λ y. RisesStrictly (label_row next y)) (sym here) taken.rising
+        | inr other ↦ subst RisesStrictly (sym (same x x_from_one other)) (kept.walks.rising x x_from_one up)
       ];
     }
 

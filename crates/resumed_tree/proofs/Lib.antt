@@ -1,6 +1,8 @@
 pub mod Stands
+pub mod MovedRows
 pub mod TakenEntries
 pub mod Starts
+pub mod OfferedStarts
 pub mod KeptRows
 pub mod Searches
 pub mod SpreadEntries

@@ -1,5 +1,5 @@
 -- Canonical entries spread: a settled node of which the root is a hub at that distance has its entry, and what came to have one offers its neighbours theirs.
-use Rattle.std.proofs.Common.{◌≡◌, ◌≢◌, ◌⊎◌, inl, inr, ℕ, ◌+◌, ◌<◌, ◌≤◌, Option, List, All, Contains, length, replicate, sym, ap, subst, ◌∙◌, arith}
+use Rattle.std.proofs.Common.{◌≡◌, ◌≢◌, ◌⊎◌, inl, inr, ℕ, ◌+◌, ◌≤◌, Option, List, All, Contains, length, sym, ap, subst, ◌∙◌, arith}
 use Rattle.std.specs.Prelude.{Some, slice_get}
 use Rattle.std.proofs.lemmas.Bool.{cases_eq, cases_lt}
 use Rattle.std.proofs.lemmas.List.Elements.{All-contains}
@@ -13,14 +13,15 @@ use Rattle.walk_laws.specs.Walk.{HasWalk}
 use Rattle.walk_laws.proofs.CanonicalHubs.{IsCanonical-ranked}
 use Rattle.frontier.specs.declared.reach.Found.{Found}
 use Rattle.frontier.specs.declared.reach.Reach.{Reach}
-use Rattle.frontier.specs.declared.reach.Reach.TheVariants.{Unreached, Queued}
+use Rattle.frontier.specs.declared.reach.Reach.TheVariants.{Queued}
 use Rattle.frontier.specs.Reaches.{reach_at, settled}
 use Rattle.hub_index.specs.RootDistances.{HoldsRow}
 use Rattle.pruned_tree.specs.declared.bare.Bare.{Bare}
 use Rattle.pruned_tree.specs.Relaxed.{HasDistance, IsSettledAt, IsRelaxed}
 use Rattle.pruned_tree.proofs.CoveredRoots.{no_cover}
 use Rattle.pruned_tree.proofs.OfferedNodes.{has_distance, queued_or_settled, not_settled, settle_here, settle_is, settle_new, settle_keeps}
-use Rattle.pruned_tree.proofs.StartedTrees.{started_at, none_settled}
+use Rattle.resumed_tree.specs.declared.resuming.Start.{Start}
+use Rattle.resumed_tree.specs.Offered.{HasStarts}
 use Rattle.resumed_tree.specs.Resumed.{Has, CameToHave}
 use Rattle.resumed_tree.specs.Taken.{HasNoLonger, HasCover, IsTaken}
 use Rattle.resumed_tree.proofs.Searches.{IsSearch, settled_near}
@@ -31,16 +32,16 @@ pub record HasSpread (J : ℕ → ℕ → ℕ → Type 0) (at : List ℕ) (h p :
   pub has : (x d : ℕ) → IsSettledAt (reach_at nodes x) d → IsCanonical J at h x d → Has now x p d
   pub onward : (x d : ℕ) → IsSettledAt (reach_at nodes x) d → CameToHave before now x p d → (y w : ℕ) → J x y w → p ≤ position_of at y → (e : ℕ) × HasDistance (reach_at nodes y) e × (e ≤ d + w)
 
-module _ (J : ℕ → ℕ → ℕ → Type 0) (at : List ℕ) (h p start far : ℕ) (before : List (List Entry)) where
+module _ (J : ℕ → ℕ → ℕ → Type 0) (at : List ℕ) (h p : ℕ) (starts : List Start) (before : List (List Entry)) where
   -- at first no node is settled
-  pub HasSpread-start : (k : ℕ) (nodes : List (Reach Bare)) → nodes ≡ started_at k start far → start < length (replicate {A = Reach Bare} k Unreached) → HasSpread J at h p before before nodes
-  HasSpread-start k nodes now inside = record {
+  pub HasSpread-start : (k : ℕ) (nodes : List (Reach Bare)) → HasStarts k starts nodes → HasSpread J at h p before before nodes
+  HasSpread-start k nodes has = record {
     came = λ x d from_one there. inl there;
-    has = λ x d done. absurd (none_settled k start far nodes now inside x d done);
-    onward = λ x d done. absurd (none_settled k start far nodes now inside x d done);
+    has = λ x d done. absurd (has.waits x d done);
+    onward = λ x d done. absurd (has.waits x d done);
   }
 
-  module _ (now : List (List Entry)) (nodes : List (Reach Bare)) (search : IsSearch J at h p start far nodes) (spread : HasSpread J at h p before now nodes) where
+  module _ (now : List (List Entry)) (nodes : List (Reach Bare)) (search : IsSearch J at h p starts nodes) (spread : HasSpread J at h p before now nodes) where
     -- the nearest queued node is settled
     module _ (v : ℕ) (f : Found Bare) (from_one : 1 ≤ v) (queued : reach_at nodes v ≡ Queued f) (nearest : (x : ℕ) (g : Found Bare) → reach_at nodes x ≡ Queued g → f.dist ≤ g.dist) where
       -- its row needs no entry: none has come there, and a canonical one stands there
@@ -86,7 +87,7 @@ module _ (J : ℕ → ℕ → ℕ → Type 0) (at : List ℕ) (h p start far : �
             let lowest = relaxed.lowered there.0 (record { to = y; w = w }) there.1 read low in
             elim lowest.2 [
               | inl near ↦ (lowest.0, lowest.1, near)
-              | inr done ↦ (lowest.0, lowest.1, omega (arith, settled_near J at h p start far nodes search v f queued nearest y lowest.0 ((relaxed.settled y lowest.0).0 done)))
+              | inr done ↦ (lowest.0, lowest.1, omega (arith, settled_near J at h p starts nodes search v f queued nearest y lowest.0 ((relaxed.settled y lowest.0).0 done)))
             ]
 
         pub HasSpread-taken : HasSpread J at h p before next after
@@ -130,8 +131,8 @@ module _ (J : ℕ → ℕ → ℕ → Type 0) (at : List ℕ) (h p start far : �
           let is : e ≡ d = omega (arith, hub.least.none_shorter e (search.walk x e there), near) in
           spread.has x d (settled_all x d (subst (HasDistance (reach_at nodes x)) is there)) hub
 
-      pub start_has : IsCanonical J at h start far → Has now start p far
-      start_has hub = has_canonical start far search.begun.0 hub search.begun.1 search.begun.2
+      pub start_has : (s : Start) → Contains starts s → IsCanonical J at h s.node s.dist → Has now s.node p s.dist
+      start_has s there hub = let begun = search.begun s there in has_canonical s.node s.dist begun.0 hub begun.1 begun.2
 
       pub neighbours_have : position_of at h ≡ p → (v d u w : ℕ) → 1 ≤ v → CameToHave before now v p d → J v u w → IsCanonical J at h u (d + w) → Has now u p (d + w)
       neighbours_have position v d u w from_one came arc hub = elim (spread.came v d from_one came.0) [

@@ -1,2 +1,3 @@
+pub mod Offered
 pub mod Resumed
 pub mod Taken

@@ -1,10 +1,11 @@
-ghost use Rattle.std.specs.Prelude.{◌≡◌, ℕ, ◌+◌, ◌^◌, ◌<◌, ◌≤◌, length, slice_get, Some};
+ghost use Rattle.std.specs.Prelude.{◌≡◌, ℕ, ◌+◌, ◌<◌, All, length, slice_get, Some, OnOk};
 ghost use Rattle.walk_laws.specs.Graph.{IsGraph};
 ghost use Rattle.walk_laws.specs.Joined.{Joined};
-ghost use Rattle.walk_laws.specs.Labelling.{EntryFits, label_row};
+ghost use Rattle.walk_laws.specs.Labelling.{label_row};
 ghost use Rattle.walk_laws.specs.Ranking.{IsRanking};
 ghost use Rattle.hub_index.specs.RootDistances.{HoldsRow};
-ghost use Rattle.resumed_tree.specs.Resumed.{AreWalks, IsResumed};
+ghost use Rattle.resumed_tree.specs.Offered.{HasStarts};
+ghost use Rattle.resumed_tree.specs.Resumed.{AreWalks, IsStart, IsResumed};
 
 use crate::taking::take;
 use frontier::Frontier;
@@ -14,19 +15,23 @@ use rank_table::Ranking;
 use std::alloc::{AllocError, Global};
 use walk_laws::{Dist, Graph};
 
-/// Where a tree goes on: a node, which is a number from 1, and how long a walk leads there from the root.
+/// Where the tree of a hub goes on.
 #[derive(Clone, Copy, Debug, PartialEq, Eq)]
 pub struct Start {
+    /// The position of the hub, from 0.
+    pub hub: u32,
+    /// The node where its tree goes on, a number from 1.
     pub node: u32,
+    /// How long a walk leads there from the hub.
     pub dist: u128,
 }
 
-/// Goes on with the tree of the root at the position `p`, which counts from 0, at the start.
+/// Goes on with the tree of the root at the position `p`, which counts from 0, at all these starts, as one tree.
 ///
 /// It takes nodes by rising distance from the root, but none that ranks above it. A node that has an entry of the root that is
 /// no longer, or that a hub above the root covers, is left; any other takes the entry, in place of a longer one, and its arcs
 /// are gone along. So the rows stay lengths of walks, entries of other hubs are what they were, and none is lost or grows;
-/// where the start's entry is canonical it is there, and from each node that took its canonical entry the neighbours have
+/// where the entry of a start is canonical it is there, and from each node that took its canonical entry the neighbours have
 /// theirs. It costs what it touches. The only error is that memory ran out; the entries put by then stay.
 ///
 /// In the path 1 - 2 - 3 of weights 1, of which a smaller number ranks higher, an edge between 1 and 3 of weight 1 comes. The
@@ -41,7 +46,7 @@ pub fn resume(
     graph: &Graph,
     ranking: &Ranking,
     p: u32,
-    start: Start,
+    starts: &[Start],
     rows: &mut RowList,
     work: &mut Work,
 ) -> Result<(), AllocError>
@@ -49,10 +54,9 @@ pub fn resume(
     requires ranked { length ranking.now ≡ graph.now.n }
     requires position { p < length ranking.now }
     requires walks { AreWalks (Joined graph.now.edges) ranking.now rows.old }
-    requires fits { EntryFits (Joined graph.now.edges) ranking.now start.node (record { pos = p; dist = start.dist }) }
-    requires near { start.dist < 2 ^ 94 }
+    requires starts { All (IsStart (Joined graph.now.edges) ranking.now p) starts.now }
     ensures same { work.new ≡ work.old }
-    ensures resumed { IsResumed graph.now.edges ranking.now p start.node start.dist rows.old rows.new result }
+    ensures resumed { IsResumed graph.now.edges ranking.now p starts.now rows.old rows.new result }
 {
     let nodes = graph.n();
     prove!(nodes == work.n);
@@ -64,7 +68,7 @@ pub fn resume(
         graph,
         ranking,
         p,
-        start,
+        starts,
         rows,
         &work.table,
     )
@@ -77,7 +81,7 @@ fn resume_from(
     graph: &Graph,
     ranking: &Ranking,
     p: u32,
-    start: Start,
+    starts: &[Start],
     rows: &mut RowList,
     table: &RootTable,
 ) -> Result<(), AllocError>
@@ -88,14 +92,12 @@ fn resume_from(
     requires ranking { IsRanking ranking.now }
     requires position { p < length ranking.now }
     requires walks { AreWalks (Joined graph.now.edges) ranking.now rows.old }
-    requires fits { EntryFits (Joined graph.now.edges) ranking.now start.node (record { pos = p; dist = start.dist }) }
-    requires near { start.dist < 2 ^ 94 }
+    requires starts { All (IsStart (Joined graph.now.edges) ranking.now p) starts.now }
     requires root { (h : ℕ) → slice_get ranking.now p ≡ Some h → HoldsRow table.now (label_row rows.old h) }
     ensures same { length frontier.new ≡ length frontier.old }
-    ensures resumed { IsResumed graph.now.edges ranking.now p start.node start.dist rows.old rows.new result }
+    ensures resumed { IsResumed graph.now.edges ranking.now p starts.now rows.old rows.new result }
 {
-    frontier.clear();
-    frontier.offer(start.node, start.dist, Bare {})?;
+    offer_starts(frontier, starts)?;
     while let Some((v, found)) = frontier.take() {
         let entry = Entry {
             pos: p,
@@ -106,6 +108,19 @@ fn resume_from(
             continue;
         }
         relax_row(frontier, graph.arc_row(v), ranking, p, found.dist)?;
+    }
+    Ok(())
+}
+
+/// Clears a frontier and offers it the starts. The only error is that memory ran out.
+fn offer_starts(frontier: &mut Frontier<Bare>, starts: &[Start]) -> Result<(), AllocError>
+    requires { All (λ s. s.node < length frontier.old) starts.now }
+    ensures same { length frontier.new ≡ length frontier.old }
+    ensures offered { OnOk result (HasStarts (length frontier.old) starts.now frontier.new) }
+{
+    frontier.clear();
+    for start in starts {
+        frontier.offer(start.node, start.dist, Bare {})?;
     }
     Ok(())
 }

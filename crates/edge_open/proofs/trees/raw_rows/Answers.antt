@@ -1,70 +1,66 @@
-use Rattle.std.proofs.Common.{◌≡◌, ℕ, ◌+◌, List, [], ◌∷◌, ◌++◌, Contains, drop, get_or, length, take, sym, ap, subst, ◌∙◌}
-use Rattle.std.proofs.lemmas.List.{append-nil, append_assoc, take_all, take_more, take-append-drop}
-use Rattle.std.proofs.lemmas.List.Elements.{Contains-append_right, Contains-get_or}
+use Rattle.std.proofs.Common.{◌≡◌, ℕ, ◌≤◌, ◌++◌, List, All, Contains, length, sym, ap, subst, ◌∙◌, inl, inr}
+use Rattle.std.proofs.lemmas.List.Elements.{All-contains_itself, All-weaker, Contains-append_right}
 use Rattle.walk_laws.specs.declared.graph.Edge.{Edge}
 use Rattle.walk_laws.specs.Graph.{WeightedGraph}
 use Rattle.walk_laws.specs.Joined.{Joined}
 use Rattle.walk_laws.proofs.JoinedEdges.{Joined-positive, weights_of_edges}
-use Rattle.edge_open.specs.OpenArcs.{AreOpen}
+use Rattle.hub_index.specs.Views.{IsNode}
+use Rattle.resumed_tree.specs.declared.resuming.Start.{Start}
+use Rattle.resumed_tree.specs.Resumed.{AreWalks}
+use Rattle.edge_open.specs.OpenArcs.{AreOpenBut, IsHubStart}
 use Rattle.edge_open.proofs.KeptEntries.{arc_to_node}
-use Rattle.edge_open.proofs.OpenedRows.{AreOpen-more, HoldsBelow-open, joined_before}
-use Rattle.edge_open.proofs.YesterdaysRows.{AreOpen-chl}
+use Rattle.edge_open.proofs.OpenedRows.{HoldsBelow-open, joined_before, joined_parts}
+use Rattle.edge_open.proofs.YesterdaysRows.{AreWalks-chl, own_there, went_on}
 use Rattle.edge_open.proofs.trees.raw_rows.Goals as goal
+use Rattle.edge_open.proofs.trees.raw_rows.Goals.{In_ok-work}
 
--- where a loop reads past the end
-abbrev nothing : Edge
-nothing = record { u = 0; v = 0; w = 0 }
+-- the edges of the longer graph
+edges_are : (c : In_ok-work) → c.args.longer.now.edges ≡ c.args.graph.now.edges ++ c.args.edges.now
+edges_are c = ap (λ (g : WeightedGraph). g.edges) c.requires.longer
 
--- some edges of the list stand before the others, after those of the graph
-split : (longer old edges : List Edge) (k : ℕ) → longer ≡ old ++ edges → (old ++ take k edges) ++ drop k edges ≡ longer
-split longer old edges k is = append_assoc old (take k edges) (drop k edges) ∙ ap (λ es. old ++ es) (take-append-drop k edges) ∙ sym is
+-- an edge of the graph is one of the longer graph
+more : (c : In_ok-work) → (x y w : ℕ) → Joined c.args.graph.now.edges x y w → Joined c.args.longer.now.edges x y w
+more c x y w join = subst (λ (es : List Edge). Joined es x y w) (sym (edges_are c)) (joined_before c.args.graph.now.edges c.args.edges.now x y w join)
 
-pub loop-edge-init : goal.loop-edge-init
-loop-edge-init c =
-    let old = c.args.graph.now.edges in
-    let longer = c.args.longer.now in
+size : (c : In_ok-work) → length c.args.ranking.now ≡ c.args.longer.now.n
+size c = c.requires.nodes ∙ sym (ap (λ (g : WeightedGraph). g.n) c.requires.longer)
+
+positive : (c : In_ok-work) → (x y w : ℕ) → Joined c.args.graph.now.edges x y w → 1 ≤ w
+positive c x y w join = Joined-positive c.args.longer.now.edges (weights_of_edges c.args.longer.now.n c.args.longer.now.edges c.n.ensures.graph.edge) x y w (more c x y w join)
+
+nodes : (c : In_ok-work) → (x y w : ℕ) → Joined c.args.graph.now.edges x y w → IsNode (length c.args.ranking.now) x × IsNode (length c.args.ranking.now) y
+nodes c x y w join = arc_to_node c.args.longer.now.n c.args.longer.now.edges c.args.ranking.now c.n.ensures.graph (size c) x y w (more c x y w join)
+
+walks : (c : In_ok-work) → AreWalks (Joined c.args.longer.now.edges) c.args.ranking.now c.args.rows
+walks c = AreWalks-chl (Joined c.args.graph.now.edges) (Joined c.args.longer.now.edges) (more c) c.args.ranking.now (positive c) c.n-ranked.ensures.ranking (nodes c) c.args.rows c.requires.labelling
+
+pub hub_starts-requires-clause-edges : goal.hub_starts-requires-clause-edges
+hub_starts-requires-clause-edges c =
+    All-weaker (Contains c.args.edges.now) (Contains c.args.longer.now.edges)
+    (λ e there. subst (λ (es : List Edge). Contains es e) (sym (edges_are (goal.at.hub_starts-requires-clause-edges c).In_ok-work)) (Contains-append_right c.args.graph.now.edges c.args.edges.now e there)) c.args.edges.now (All-contains_itself c.args.edges.now)
+
+pub hub_starts-requires-clause-walks : goal.hub_starts-requires-clause-walks
+hub_starts-requires-clause-walks c = walks (goal.at.hub_starts-requires-clause-walks c).In_ok-work
+
+pub resume_hubs-requires-clause-starts : goal.resume_hubs-requires-clause-starts
+resume_hubs-requires-clause-starts c = subst (All (IsHubStart (Joined c.args.longer.now.edges) c.args.ranking.now)) (sym c.as_slice.ensures.value) c.in_ok-starts.ensures.starts
+
+pub resume_hubs-requires-clause-open : goal.resume_hubs-requires-clause-open
+resume_hubs-requires-clause-open c =
+    let up = (goal.at.resume_hubs-requires-clause-open c).In_ok-work in
+    let K = Joined c.args.graph.now.edges in
+    let J = Joined c.args.longer.now.edges in
     let at = c.args.ranking.now in
-    let is = ap (λ (g : WeightedGraph). g.edges) c.requires.longer in
-    let more = λ (x y w : ℕ) (join : Joined old x y w). subst (λ (es : List Edge). Joined es x y w) (sym is) (joined_before old c.args.edges.now x y w join) in
-    let positive = Joined-positive longer.edges (weights_of_edges longer.n longer.edges c.n.ensures.graph.edge) in
-    let size : length at ≡ longer.n = c.requires.nodes ∙ sym (ap (λ (g : WeightedGraph). g.n) c.requires.longer) in
-    record {
-      work = c.in_ok-work.ensures ∙ c.n.ensures.value;
-      are = subst (λ (es : List Edge). AreOpen (Joined longer.edges) (Joined es) at c.args.rows) (sym (append-nil old)) (
-          AreOpen-chl (Joined old) (Joined longer.edges) more at (λ x y w join. positive x y w (more x y w join)) c.n-ranked.ensures.ranking
-          (λ x y w join. arc_to_node longer.n longer.edges at c.n.ensures.graph size x y w (more x y w join)) c.args.rows c.requires.labelling
-          );
-    }
-
-pub open_edge-requires-clause-edge : goal.open_edge-requires-clause-edge
-open_edge-requires-clause-edge c =
-    let edges = c.args.edges.now in
-    let e = get_or edges c.loop-edge.edge-index nothing in
-    subst (λ (es : List Edge). Contains es e) (sym (ap (λ (g : WeightedGraph). g.edges) c.requires.longer)) (Contains-append_right c.args.graph.now.edges edges e (Contains-get_or edges c.loop-edge.edge-index nothing c.loop-edge-test.true))
-
-pub loop-edge-preserved : goal.loop-edge-preserved
-loop-edge-preserved c =
-    let old = c.args.graph.now.edges in
-    let longer = c.args.longer.now in
-    let at = c.args.ranking.now in
-    let edges = c.args.edges.now in
-    let k = c.loop-edge.edge-index in
-    let e = get_or edges k nothing in
-    let known = old ++ take k edges in
-    let more = λ (x y w : ℕ) (join : Joined known x y w). subst (λ (es : List Edge). Joined es x y w) (split longer.edges old edges k (ap (λ (g : WeightedGraph). g.edges) c.requires.longer)) (joined_before known (drop k edges) x y w join) in
-    let next : known ++ e ∷ [] ≡ old ++ take (k + 1) edges = append_assoc old (take k edges) (e ∷ []) ∙ ap (λ es. old ++ es) (sym (take_more edges k nothing c.loop-edge-test.true)) in
-    let positive = Joined-positive longer.edges (weights_of_edges longer.n longer.edges c.n.ensures.graph.edge) in
-    let went = c.in_ok-open_edge.ensures in
-    record {
-      work = went.work ∙ c.loop-edge.invariant.work;
-      are = subst (λ (es : List Edge). AreOpen (Joined longer.edges) (Joined es) at c.open_edge.new.rows) next (
-          AreOpen-more (Joined longer.edges) at c.loop-edge.rows c.open_edge.new.rows c.n-ranked.ensures.ranking positive known e more c.loop-edge.invariant.are went.kept went.there went.back
-          );
-    }
+    let rows = c.args.rows in
+    let ranking = c.n-ranked.ensures.ranking in
+    subst (λ (some : List Start). AreOpenBut some J J at rows) (sym c.as_slice.ensures.value) (record {
+      walks = walks up;
+      own = own_there K J (more up) at (positive up) ranking (nodes up) rows c.requires.labelling;
+      arcs = λ x y w join. elim (joined_parts c.args.graph.now.edges c.args.edges.now x y w (subst (λ (es : List Edge). Joined es x y w) (edges_are up) join)) [
+        | inl old ↦ λ p d there. inr (went_on K J (more up) at (positive up) ranking (nodes up) rows c.requires.labelling x y w old p d there)
+        | inr new ↦ c.in_ok-starts.ensures.open x y w new
+      ];
+    })
 
 pub returns-clause-held : goal.returns-clause-held
-returns-clause-held c =
-    let old = c.args.graph.now.edges in
-    let longer = c.args.longer.now in
-    let whole : old ++ take c.loop-edge.edge-index c.args.edges.now ≡ longer.edges = ap (λ es. old ++ es) (take_all c.loop-edge.edge-index c.args.edges.now c.loop-edge-test.false) ∙ sym (ap (λ (g : WeightedGraph). g.edges) c.requires.longer) in
-    HoldsBelow-open longer.n longer.edges c.args.ranking.now c.loop-edge.rows c.n.ensures.graph c.n-ranked.ensures.ranking (subst (λ (es : List Edge). AreOpen (Joined longer.edges) (Joined es) c.args.ranking.now c.loop-edge.rows) whole c.loop-edge.invariant.are)
+returns-clause-held c = HoldsBelow-open c.args.longer.now.n c.args.longer.now.edges c.args.ranking.now c.resume_hubs.new.rows c.n.ensures.graph c.n-ranked.ensures.ranking c.in_ok-resume_hubs.ensures

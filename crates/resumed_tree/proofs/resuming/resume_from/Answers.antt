@@ -1,7 +1,7 @@
-use Rattle.std.proofs.Common.{◌≡◌, ◌≢◌, ℕ, ◌+◌, ◌*◌, ◌^◌, ◌<◌, ◌≤◌, List, length, replicate, sym, ap, subst, ◌∙◌, arith}
+use Rattle.std.proofs.Common.{◌≡◌, ◌≢◌, ℕ, ◌+◌, ◌*◌, ◌^◌, ◌<◌, ◌≤◌, All, List, length, sym, ap, subst, ◌∙◌, arith}
 use Rattle.std.specs.Prelude.{Some, slice_get}
 use Rattle.std.proofs.Math.ListN.{length-set}
-use Rattle.std.proofs.lemmas.List.{length-replicate}
+use Rattle.std.proofs.lemmas.List.Elements.{All-contains, All-weaker}
 use Rattle.std.proofs.lemmas.Option.{slice_get-get_or, slice_get_within, get_or_from_slice_get}
 use Rattle.std.proofs.lemmas.Result.{IfOk-from_err}
 use Rattle.walk_laws.specs.declared.entry.Entry.{Entry}
@@ -11,62 +11,51 @@ use Rattle.walk_laws.specs.Canonical.{IsCanonical}
 use Rattle.walk_laws.specs.Graph.{greatest_weight}
 use Rattle.walk_laws.specs.Joined.{Joined}
 use Rattle.walk_laws.specs.Labelling.{EntryFits, label_row}
-use Rattle.walk_laws.specs.Walk.{HasWalk}
 use Rattle.walk_laws.proofs.JoinedEdges.{IsEdge-joined, Joined-sym, arcs_of_row}
-use Rattle.frontier.specs.declared.reach.Reach.{Reach}
-use Rattle.frontier.specs.declared.reach.Reach.TheVariants.{Unreached}
 use Rattle.frontier.specs.Reaches.{settled}
-use Rattle.pruned_tree.specs.declared.bare.Bare.{Bare}
 use Rattle.pruned_tree.specs.Relaxed.{IsRelaxed}
 use Rattle.pruned_tree.proofs.OfferedNodes.{node_inside, queued_distance}
-use Rattle.pruned_tree.proofs.StartedTrees.{started_at, started, only_start}
 use Rattle.pruned_tree.proofs.TreeCounts.{unsettled, unsettled-settled, unsettled-same, IsBounded, IsBounded-start, IsBounded-settled, IsBounded-relaxed, room_of_next}
 use Rattle.pruned_tree.proofs.TreeRounds.{root_node, root_position}
-use Rattle.resumed_tree.specs.Resumed.{Has}
+use Rattle.resumed_tree.specs.declared.resuming.Start.{Start}
+use Rattle.resumed_tree.specs.Resumed.{Has, IsStart}
 use Rattle.resumed_tree.specs.Taken.{IsTaken, IsUncovered}
 use Rattle.resumed_tree.proofs.KeptRows.{AreKept, AreKept-start, AreKept-taken}
 use Rattle.resumed_tree.proofs.Searches.{IsSearch, IsSearch-start, IsSearch-settled, IsSearch-relaxed}
 use Rattle.resumed_tree.proofs.SpreadEntries.{HasSpread, HasSpread-start, HasSpread-left, HasSpread-taken, start_has, neighbours_have, stands_already}
-use Rattle.resumed_tree.proofs.Starts.{start_node, fits_onward}
+use Rattle.resumed_tree.proofs.Starts.{IsStart-node, fits_onward}
 use Rattle.resumed_tree.proofs.WholeTrees.{IsResumed-kept}
 use Rattle.resumed_tree.proofs.resuming.resume_from.Goals as goal
-use Rattle.resumed_tree.proofs.resuming.resume_from.Goals.{After-clear, In_ok-offer, In-Some}
+use Rattle.resumed_tree.proofs.resuming.resume_from.Goals.{In_ok-offer_starts, In-Some}
 
--- the start is a node
-start_is_node : (c : After-clear) → (1 ≤ c.args.start.node) × (c.args.start.node ≤ c.args.graph.now.n)
-start_is_node c =
-    let walk = c.requires.fits.walk in
-    let root = root_node c.args.ranking.now walk.0 c.args.p c.requires.ranking walk.1 in
-    start_node c.args.graph.now.n c.args.graph.now.edges walk.0 c.args.start.node c.args.start.dist c.requires.graph (root.0, omega (arith, root.1, c.requires.ranked)) walk.2
+-- the starts are nodes
+starts_are_nodes : (c : In_ok-offer_starts) → All (λ s. 1 ≤ s.node) c.args.starts.now
+starts_are_nodes c =
+    All-weaker (IsStart (Joined c.args.graph.now.edges) c.args.ranking.now c.args.p) (λ (s : Start). 1 ≤ s.node)
+    (λ s may. (IsStart-node c.args.graph.now.n c.args.graph.now.edges c.args.ranking.now c.args.p s c.requires.graph c.requires.ranking c.requires.ranked may).0) c.args.starts.now c.requires.starts
 
-pub offer-requires : goal.offer-requires
-offer-requires c =
-    omega (arith, (start_is_node (goal.at.offer-requires c).After-clear).1, ap length c.clear.ensures, length-replicate {A = Reach Bare} (length c.args.frontier.now) Unreached, c.requires.nodes)
-
--- the frontier as it is at first: the start alone is queued
-first_nodes : (c : In_ok-offer) → c.offer.new.self ≡ started_at (c.args.graph.now.n + 1) c.args.start.node c.args.start.dist
-first_nodes c = started (c.args.graph.now.n + 1) c.args.start.node c.args.start.dist c.clear.new.self c.offer.new.self (c.clear.ensures ∙ ap (λ k. replicate {A = Reach Bare} k Unreached) c.requires.nodes) c.in_ok-offer.ensures.ok
+pub offer_starts-requires : goal.offer_starts-requires
+offer_starts-requires c =
+    All-weaker (IsStart (Joined c.args.graph.now.edges) c.args.ranking.now c.args.p) (λ (s : Start). s.node < length c.args.frontier.now)
+    (λ s may. omega (arith, (IsStart-node c.args.graph.now.n c.args.graph.now.edges c.args.ranking.now c.args.p s c.requires.graph c.requires.ranking c.requires.ranked may).1, c.requires.nodes)) c.args.starts.now c.requires.starts
 
 pub loop-v-init : goal.loop-v-init
 loop-v-init c =
-    let up = (goal.at.loop-v-init c).In_ok-offer in
+    let up = (goal.at.loop-v-init c).In_ok-offer_starts in
     let n = c.args.graph.now.n in
-    let node = start_is_node (goal.at.loop-v-init c).After-clear in
-    let now = first_nodes up in
-    let inside : c.args.start.node < length (replicate {A = Reach Bare} (n + 1) Unreached) = omega (arith, length-replicate {A = Reach Bare} (n + 1) Unreached, node.1) in
-    let size : length c.offer.new.self ≡ n + 1 = ap length now ∙ length-set (replicate {A = Reach Bare} (n + 1) Unreached) c.args.start.node _ ∙ length-replicate {A = Reach Bare} (n + 1) Unreached in
-    let walk : (h : ℕ) → slice_get c.args.ranking.now c.args.p ≡ Some h → HasWalk (Joined c.args.graph.now.edges) h c.args.start.node c.args.start.dist = λ h root.
-    let both : Some c.requires.fits.walk.0 ≡ Some h = sym c.requires.fits.walk.1 ∙ root in
-    let same : c.requires.fits.walk.0 ≡ h = cc in
-    subst (λ x. HasWalk (Joined c.args.graph.now.edges) x c.args.start.node c.args.start.dist) same c.requires.fits.walk.2 in
+    let k = length c.args.frontier.now in
+    let starts = c.args.starts.now in
+    let may = c.requires.starts in
+    let has = c.in_ok-offer_starts.ensures.offered in
+    let size : length c.offer_starts.new.frontier ≡ n + 1 = has.size ∙ c.requires.nodes in
     record {
       size = size;
-      bounded = IsBounded-start (greatest_weight c.args.graph.now.edges) n _ c.offer.new.self size (λ x d there.
-          let is = (only_start (n + 1) c.args.start.node c.args.start.dist c.offer.new.self now inside x d there).1 in
-          omega (arith, is));
-      search = λ h root. IsSearch-start (Joined c.args.graph.now.edges) c.args.ranking.now h c.args.p c.args.start.node c.args.start.dist (n + 1) c.offer.new.self now inside node.0 (walk h root) c.requires.fits.ranked;
+      bounded = IsBounded-start (greatest_weight c.args.graph.now.edges) n _ c.offer_starts.new.frontier size (λ x d there.
+          let s = has.came x d there in
+          omega (arith, s.3, (All-contains (IsStart (Joined c.args.graph.now.edges) c.args.ranking.now c.args.p) starts s.0 may s.1).near));
+      search = λ h root. IsSearch-start (Joined c.args.graph.now.edges) c.args.ranking.now h c.args.p starts k c.offer_starts.new.frontier has root may (starts_are_nodes up);
       kept = λ h root. AreKept-start (Joined c.args.graph.now.edges) c.args.ranking.now h c.args.p c.args.rows.now c.requires.walks;
-      spread = λ h root. HasSpread-start (Joined c.args.graph.now.edges) c.args.ranking.now h c.args.p c.args.start.node c.args.start.dist c.args.rows.now (n + 1) c.offer.new.self now inside;
+      spread = λ h root. HasSpread-start (Joined c.args.graph.now.edges) c.args.ranking.now h c.args.p starts c.args.rows.now k c.offer_starts.new.frontier has;
     }
 
 -- the node that is taken
@@ -89,7 +78,7 @@ next c =
       from_one = from_one;
       up_to_n = up_to_n;
       fits = record { ranked = search.ranked c.in-Some.v c.in-Some.found.dist there; walk = (_, root, search.walk c.in-Some.v c.in-Some.found.dist there) };
-      room = fits_onward c.args.graph.now.n c.args.graph.now.edges c.args.start.dist c.in-Some.found.dist _ c.requires.graph (omega (arith, from_one, up_to_n)) c.requires.near
+      room = fits_onward c.args.graph.now.n c.args.graph.now.edges c.in-Some.found.dist _ c.requires.graph (omega (arith, from_one, up_to_n))
           (room_of_next _ _ c.loop-v.frontier c.in-Some.v c.in-Some.found c.in-Some.ensures.queued inv.bounded);
     }
 
@@ -99,16 +88,22 @@ of-requires c = omega (arith, (next (goal.at.of-requires c).In-Some).room)
 pub take-requires-in-Some-clause-node : goal.take-requires-in-Some-clause-node
 take-requires-in-Some-clause-node c = (next (goal.at.take-requires-in-Some-clause-node c).In-Some).from_one
 
-pub take-requires-in-Some-clause-once : goal.take-requires-in-Some-clause-once
-take-requires-in-Some-clause-once c =
-    let up = (goal.at.take-requires-in-Some-clause-once c).In-Some in
+pub take-requires-in-Some-clause-within : goal.take-requires-in-Some-clause-within
+take-requires-in-Some-clause-within c =
+    let t = next (goal.at.take-requires-in-Some-clause-within c).In-Some in
+    let root = slice_get-get_or c.args.ranking.now c.args.p 0 c.requires.position in
+    omega (arith, t.up_to_n, c.requires.ranked, (c.loop-v.invariant.kept _ root).walks.size)
+
+pub take-requires-in-Some-clause-rising : goal.take-requires-in-Some-clause-rising
+take-requires-in-Some-clause-rising c =
+    let up = (goal.at.take-requires-in-Some-clause-rising c).In-Some in
     let t = next up in
     let root = slice_get-get_or c.args.ranking.now c.args.p 0 c.requires.position in
-    (c.loop-v.invariant.kept _ root).walks.once c.in-Some.v t.from_one (omega (arith, t.up_to_n, c.requires.ranked))
+    (c.loop-v.invariant.kept _ root).walks.rising c.in-Some.v t.from_one (omega (arith, t.up_to_n, c.requires.ranked))
 
 pub returns-in_err-took-clause-resumed : goal.returns-in_err-took-clause-resumed
 returns-in_err-took-clause-resumed c =
-    IsResumed-kept c.args.graph.now.edges c.args.ranking.now c.args.p c.args.start.node c.args.start.dist c.args.rows.now c.take-in-Some.new.rows c.from_residual-in_err-took.result c.requires.position
+    IsResumed-kept c.args.graph.now.edges c.args.ranking.now c.args.p c.args.starts.now c.args.rows.now c.take-in-Some.new.rows c.from_residual-in_err-took.result c.requires.position
     (λ h root. subst (AreKept (Joined c.args.graph.now.edges) c.args.ranking.now h c.args.p c.args.rows.now) (sym c.in_err-took.ensures.err) (c.loop-v.invariant.kept h root))
     (IfOk-from_err c.from_residual-in_err-took.result _ c.from_residual-in_err-took.ensures.0)
     (IfOk-from_err c.from_residual-in_err-took.result _ c.from_residual-in_err-took.ensures.0)
@@ -162,18 +157,18 @@ loop-v-preserved c =
           (room_of_next _ _ c.loop-v.frontier v f c.in-Some.ensures.queued inv.bounded) relaxed
           (IsBounded-settled _ _ c.loop-v.frontier v f c.in-Some.ensures.queued inv.bounded);
       search = λ h root.
-          IsSearch-relaxed (Joined c.args.graph.now.edges) c.args.ranking.now h c.args.p c.args.start.node c.args.start.dist c.loop-v.frontier (inv.search h root) v f c.in-Some.ensures.queued c.in-Some.ensures.nearest (length row) row
+          IsSearch-relaxed (Joined c.args.graph.now.edges) c.args.ranking.now h c.args.p c.args.starts.now c.loop-v.frontier (inv.search h root) v f c.in-Some.ensures.queued c.in-Some.ensures.nearest (length row) row
           (λ k a is. (c.arc_row.ensures a.to a.w).0 (k, slice_get_within row k a is, get_or_from_slice_get row k a a is)) (ends up) c.relax_row.new.frontier relaxed;
       kept = kept_taken up rows c.in_ok-took.ensures.size c.in_ok-took.ensures.others taken uncovered;
       spread = λ h root.
-          HasSpread-taken (Joined c.args.graph.now.edges) c.args.ranking.now h c.args.p c.args.start.node c.args.start.dist c.args.rows.now c.loop-v.rows c.loop-v.frontier (inv.search h root) (inv.spread h root) v f t.from_one c.in-Some.ensures.queued c.in-Some.ensures.nearest
+          HasSpread-taken (Joined c.args.graph.now.edges) c.args.ranking.now h c.args.p c.args.starts.now c.args.rows.now c.loop-v.rows c.loop-v.frontier (inv.search h root) (inv.spread h root) v f t.from_one c.in-Some.ensures.queued c.in-Some.ensures.nearest
           rows c.in_ok-took.ensures.others taken (ends up) row (λ y w arc. (c.arc_row.ensures y w).1 arc) c.relax_row.new.frontier relaxed;
     }
 
 pub returns-in_err-relax_row-clause-resumed : goal.returns-in_err-relax_row-clause-resumed
 returns-in_err-relax_row-clause-resumed c =
     let up = (goal.at.returns-in_err-relax_row-clause-resumed c).In-Some in
-    IsResumed-kept c.args.graph.now.edges c.args.ranking.now c.args.p c.args.start.node c.args.start.dist c.args.rows.now c.take-in-Some.new.rows c.from_residual-in_err-relax_row.result c.requires.position
+    IsResumed-kept c.args.graph.now.edges c.args.ranking.now c.args.p c.args.starts.now c.args.rows.now c.take-in-Some.new.rows c.from_residual-in_err-relax_row.result c.requires.position
     (kept_taken up c.take-in-Some.new.rows c.in_ok-took.ensures.size c.in_ok-took.ensures.others (rw c.of.ensures at (c.in_ok-took.ensures.taken c.if-not-took.false)) (rw c.of.ensures at (c.in_ok-took.ensures.uncovered c.if-not-took.false)))
     (IfOk-from_err c.from_residual-in_err-relax_row.result _ c.from_residual-in_err-relax_row.ensures.0)
     (IfOk-from_err c.from_residual-in_err-relax_row.result _ c.from_residual-in_err-relax_row.ensures.0)
@@ -197,23 +192,23 @@ loop-v-preserved-then-not-took c =
     (label_row c.args.rows.now h) (label_row c.loop-v.rows v) (c.requires.root h root) (c.requires.walks.fit h node.0 node.1) v f.dist ((inv.kept h root).walks.fit v t.from_one (omega (arith, t.up_to_n, c.requires.ranked))) needless hub in
     record {
       size = ap length now ∙ length-set c.loop-v.frontier v _ ∙ inv.size;
-      bounded = subst (IsBounded (greatest_weight c.args.graph.now.edges) (c.args.start.dist + (c.args.graph.now.n + 1) * greatest_weight c.args.graph.now.edges)) (sym now) (IsBounded-settled _ _ c.loop-v.frontier v f c.in-Some.ensures.queued inv.bounded);
+      bounded = subst (IsBounded (greatest_weight c.args.graph.now.edges) (2 ^ 94 + (c.args.graph.now.n + 1) * greatest_weight c.args.graph.now.edges)) (sym now) (IsBounded-settled _ _ c.loop-v.frontier v f c.in-Some.ensures.queued inv.bounded);
       search = λ h root.
-          subst (IsSearch (Joined c.args.graph.now.edges) c.args.ranking.now h c.args.p c.args.start.node c.args.start.dist) (sym now)
-          (IsSearch-settled (Joined c.args.graph.now.edges) c.args.ranking.now h c.args.p c.args.start.node c.args.start.dist c.loop-v.frontier (inv.search h root) v f c.in-Some.ensures.queued c.in-Some.ensures.nearest);
+          subst (IsSearch (Joined c.args.graph.now.edges) c.args.ranking.now h c.args.p c.args.starts.now) (sym now)
+          (IsSearch-settled (Joined c.args.graph.now.edges) c.args.ranking.now h c.args.p c.args.starts.now c.loop-v.frontier (inv.search h root) v f c.in-Some.ensures.queued c.in-Some.ensures.nearest);
       kept = λ h root. subst (AreKept (Joined c.args.graph.now.edges) c.args.ranking.now h c.args.p c.args.rows.now) (sym same) (inv.kept h root);
       spread = λ h root.
           subst (λ rows. HasSpread (Joined c.args.graph.now.edges) c.args.ranking.now h c.args.p c.args.rows.now rows c.take.new.self) (sym same)
           (subst (HasSpread (Joined c.args.graph.now.edges) c.args.ranking.now h c.args.p c.args.rows.now c.loop-v.rows) (sym now)
-          (HasSpread-left (Joined c.args.graph.now.edges) c.args.ranking.now h c.args.p c.args.start.node c.args.start.dist c.args.rows.now c.loop-v.rows c.loop-v.frontier (inv.search h root) (inv.spread h root) v f t.from_one c.in-Some.ensures.queued c.in-Some.ensures.nearest (stands h root)));
+          (HasSpread-left (Joined c.args.graph.now.edges) c.args.ranking.now h c.args.p c.args.starts.now c.args.rows.now c.loop-v.rows c.loop-v.frontier (inv.search h root) (inv.spread h root) v f t.from_one c.in-Some.ensures.queued c.in-Some.ensures.nearest (stands h root)));
     }
 
 pub returns-clause-resumed : goal.returns-clause-resumed
 returns-clause-resumed c =
     let inv = c.loop-v.invariant in
-    IsResumed-kept c.args.graph.now.edges c.args.ranking.now c.args.p c.args.start.node c.args.start.dist c.args.rows.now c.loop-v.rows _ c.requires.position inv.kept
-    (λ h root hub.
-    start_has (Joined c.args.graph.now.edges) c.args.ranking.now h c.args.p c.args.start.node c.args.start.dist c.args.rows.now c.loop-v.rows c.loop-v.frontier (inv.search h root) (inv.spread h root) (λ x f queued. c.in_default.ensures.none x f queued) hub)
+    IsResumed-kept c.args.graph.now.edges c.args.ranking.now c.args.p c.args.starts.now c.args.rows.now c.loop-v.rows _ c.requires.position inv.kept
+    (λ h s root there hub.
+    start_has (Joined c.args.graph.now.edges) c.args.ranking.now h c.args.p c.args.starts.now c.args.rows.now c.loop-v.rows c.loop-v.frontier (inv.search h root) (inv.spread h root) (λ x f queued. c.in_default.ensures.none x f queued) s there hub)
     (λ h v d u w root _ came arc hub.
-    neighbours_have (Joined c.args.graph.now.edges) c.args.ranking.now h c.args.p c.args.start.node c.args.start.dist c.args.rows.now c.loop-v.rows c.loop-v.frontier (inv.search h root) (inv.spread h root) (λ x f queued. c.in_default.ensures.none x f queued)
+    neighbours_have (Joined c.args.graph.now.edges) c.args.ranking.now h c.args.p c.args.starts.now c.args.rows.now c.loop-v.rows c.loop-v.frontier (inv.search h root) (inv.spread h root) (λ x f queued. c.in_default.ensures.none x f queued)
     (root_position c.args.ranking.now h c.args.p c.requires.ranking root) v d u w (IsEdge-joined c.args.graph.now.n c.args.graph.now.edges v u w c.requires.graph.edge arc).from_one came arc hub)
